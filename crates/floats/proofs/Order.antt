@@ -1,0 +1,22 @@
+-- The order of finite values of clear sign, as an order of fractions.
+use mathlib.Core.Path.{refl}
+use mathlib.Core.Logic.{inl, inr}
+use Prim.Native.Nat.{ℕ, _*_, _≤_}
+use native.Mathlib.Nat.{le-of-eq, le-of-lt}
+use mathlib.Core.Bool.{true, false, _&&_}
+use lib.IntN.{ℤ}
+use lib.Dec.{T, ltb, eqb, ltb→lt, eqb→eq}
+use mir.Facts.{or-yes}
+use lib.Ieee.{fin, up, down, le}
+use lib.Ieee.Fits.{down-pos, and-l}
+use lib.Ieee.Order.{le-of-values}
+
+pub le→cross : (m : ℕ) (e : ℤ) (n : ℕ) (d : ℤ) → T (le (fin false m e) (fin false n d)) → m * up e * down d ≤ n * up d * down e
+unfolding le
+le→cross m e n d t =
+    let a = m * up e * down d in
+    let b = n * up d * down e in
+    elim (or-yes (ltb a b) (eqb a b && true) t) [ inl u ↦ le-of-lt (ltb→lt a b u) | inr u ↦ le-of-eq (eqb→eq a b (and-l (eqb a b) true u)) ]
+
+pub cross→le : (m : ℕ) (e : ℤ) (n : ℕ) (d : ℤ) → m * up e * down d ≤ n * up d * down e → T (le (fin false m e) (fin false n d))
+cross→le m e n d h = le-of-values (fin false m e) (fin false n d) (m * up e) (down e) (n * up d) (down d) (down-pos e) (down-pos d) (refl, refl) (refl, refl) h
