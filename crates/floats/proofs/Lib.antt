@@ -13,3 +13,4 @@ pub mod Pattern
 pub mod PatternOrder
 pub mod Threshold
 pub mod Exact
+pub mod Worked

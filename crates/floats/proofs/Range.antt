@@ -3,12 +3,12 @@
 use mathlib.Core.Path.{_≡_, refl, sym, ap, _∙_, subst}
 use mathlib.Core.Logic.{_⊎_, inl, inr}
 use Prim.Native.Nat.{ℕ, _+_, _*_, _/_, _%_, _^_, _≤_, _<_, compare}
-use native.Mathlib.Nat.{le-trans, le-of-eq, lt-of-lt-of-le, lt-irrefl, mul-one, one-mul, mul-comm, mul-assoc, mul-right-comm, mul-mul-mul-comm, mul-le-mul-right, mul-le-mul, le-of-mul-le-mul-right, add-mul, add-le-add, le-add-right, mul-pos, div-div-eq-div-mul}
+use native.Mathlib.Nat.{le-trans, le-of-eq, lt-of-lt-of-le, lt-irrefl, mul-one, one-mul, mul-comm, mul-assoc, mul-right-comm, mul-mul-mul-comm, mul-le-mul-right, mul-le-mul, le-of-mul-le-mul-right, add-mul, add-comm, add-le-add, le-add-right, mul-pos, div-div-eq-div-mul}
 use mathlib.Core.Bool.{Bool, true, false, not, cond, true≢false}
 use lib.Dec.{T, ltb, eqb, leb→le, le→leb, ltb→lt, lit<}
 use mir.Facts.{no-eqb}
 use lib.Pow.{pow-pos}
-use lib.Ieee.{Float, nan, inf, fin, binary32, up, down, odd, units, round, add, mul, div, le}
+use lib.Ieee.{Float, nan, inf, fin, binary32, up, down, odd, units, round, sum, add, mul, div, le}
 use lib.Ieee.Fits.{up-pos, down-pos, round-is, nearest-le, kept-lt}
 use lib.Ieee.Bits.{cond-no}
 use lib.Ieee.Exact.{HasValue}
@@ -149,6 +149,19 @@ add-high (fin false m e) (fin false n g) a b c C h k x =
     let q : B * c ≤ b * E = spread' (n * up g) c b (down g) (down e) k in
     high-round (A + B) E (a + b) c (mul-pos (down-pos e) (down-pos g)) C
     (le-trans (le-of-eq (add-mul A B c)) (le-trans (add-le-add p q) (le-of-eq (sym (add-mul a b E))))) x
+
+-- the order of two summands is free
+pub add-comm-high : (x y : Float) (a c b d : ℕ) → High x a c → High y b d → add binary32 x y ≡ add binary32 y x
+unfolding add sum
+add-comm-high nan y a c b d h k = absurd h
+add-comm-high (inf s) y a c b d h k = absurd h
+add-comm-high (fin true m e) y a c b d h k = absurd h
+add-comm-high (fin false m e) nan a c b d h k = absurd k
+add-comm-high (fin false m e) (inf s) a c b d h k = absurd k
+add-comm-high (fin false m e) (fin true n g) a c b d h k = absurd k
+add-comm-high (fin false m e) (fin false n g) a c b d h k =
+    ap (λ (z : ℕ). round binary32 false z (down e * down g)) (add-comm (m * up e * down g) (n * up g * down e))
+    ∙ ap (λ (z : ℕ). round binary32 false (n * up g * down e + m * up e * down g) z) (mul-comm (down e) (down g))
 
 -- a sum is no less than its first part
 pub add-low : (x y : Float) (a c b d p q : ℕ) → 0 < c → Low x a c → High y b d → Exact a c → High (add binary32 x y) p q → Low (add binary32 x y) a c

@@ -1,0 +1,2 @@
+-- Laws of loops over arrays.
+pub mod Filling

@@ -1,0 +1,2 @@
+-- What contracts over arrays cite.
+pub mod Holds

@@ -1,0 +1,29 @@
+-- `Bm25Weight::score` meets its contract: the score at the cached norm, as the scoring has it.
+use mathlib.Core.Path.{ap, _∙_}
+use Rattle.bm25.specs.Weight.{scoreIn}
+use Rattle.bm25.specs.Scoring.{scored}
+use borrow.Author.Needs.{needs}
+use borrow.Author.Needs.{needs}
+use Rattle.bm25.proofs.Bm25Weight.score.Statement.{statement}
+use Rattle.bm25.proofs.Bm25Weight.score.Tie as tie
+
+mul-score-at : tie.Need-mul-score-at
+mul-score-at c = search needs
+
+element-copy-out-score-at : tie.Need-element-copy-out-score-at
+element-copy-out-score-at c = search needs
+
+score-at-requires : tie.Need-score-at-requires
+score-at-requires c κs = search needs
+
+in-scoring-requires : tie.Need-in-scoring-requires
+in-scoring-requires c κs = search needs
+
+returns : tie.Need-returns
+unfolding scoreIn
+returns c = c .in-scoring .ensures ∙ ap (scored (c .before .before .before .args .scoring)) (c .before .score-at .ensures)
+
+pub score-spec : {M : Type 1} → statement M
+score-spec =
+    tie.close
+    (tie.spec mul-score-at element-copy-out-score-at score-at-requires in-scoring-requires returns)

@@ -1,0 +1,56 @@
+-- `block::all_exact` meets its contract: after each turn the flag is the test over the frequencies passed.
+use mathlib.Core.Path.{_≡_, refl, ap, _∙_}
+use mathlib.Core.Logic.{⊎-elim}
+use Prim.Native.Nat.{_-_, _≤_}
+use Rattle.bm25.specs.Block.{exactUpTo, allExact}
+use Rattle.bm25.proofs.Exact.{stays, fails}
+use borrow.Author.Needs.{needs}
+use native.Mathlib.Omega.{arith}
+use Rattle.bm25.proofs.block.all_exact.Statement.{statement}
+use Rattle.bm25.proofs.block.all_exact.Tie as tie
+
+abbrev Inv-loop : tie.InvT-loop
+Inv-loop term-freqs ok₀ i₀ ok i = (i ≤ 128) × (ok ≡ exactUpTo term-freqs i)
+
+abbrev μ-loop : tie.MeasureT-loop
+μ-loop term-freqs ok₀ i₀ ok i = 128 - i
+
+loop-holds : tie.Need-loop-holds Inv-loop μ-loop
+unfolding exactUpTo
+loop-holds c = (search needs, refl)
+
+mul-if1 : tie.Need-mul-if1 Inv-loop μ-loop
+mul-if1 c = search needs
+
+element-copy-out-if1 : tie.Need-element-copy-out-if1 Inv-loop μ-loop
+element-copy-out-if1 c = search needs
+
+add-i : tie.Need-add-i Inv-loop μ-loop
+add-i c = search needs
+
+loop-less : tie.Need-loop-less Inv-loop μ-loop
+loop-less c = search needs
+
+loop-again : tie.Need-loop-again Inv-loop μ-loop
+loop-again c =
+    let a = c .before .before .before in
+    let freqs = a .before .args .term-freqs .now in
+    (search needs, ⊎-elim (λ w. w .1 ∙ fails freqs (a .loop .i) (w .0 .taken)) (λ w. w .1 ∙ a .loop .inv .1 ∙ stays freqs (a .loop .i) (w .0 .left)) (c .if1 .came))
+
+returns : tie.Need-returns Inv-loop μ-loop
+unfolding allExact
+returns c = let l = c .before .loop in let e : l .i ≡ 128 = omega arith in l .inv .1 ∙ ap (exactUpTo (c .before .before .args .term-freqs .now)) e
+
+pub all-exact-spec : {M : Type 1} → statement M
+all-exact-spec =
+    tie.close
+    (tie.spec
+    Inv-loop
+    μ-loop
+    loop-holds
+    mul-if1
+    element-copy-out-if1
+    add-i
+    loop-less
+    loop-again
+    returns)

@@ -1,0 +1,74 @@
+-- `block::exact_tfs` meets its contract: a whole number up to 2 ^ 24 is cast without loss.
+use borrow.Author.Needs.{needs}
+use native.Mathlib.Omega.{arith}
+use Rattle.bm25.proofs.block.exact_tfs.Statement.{statement}
+use Rattle.bm25.proofs.block.exact_tfs.Tie as tie
+use mathlib.Core.Path.{_≡_, refl, sym, subst}
+use Prim.Native.Nat.{_-_, _≤_}
+use lib.ListN.{getD}
+use lib.Dec.{T, le→leb}
+use Rattle.bm25.specs.Block.{allExact}
+use Rattle.bm25.proofs.Exact.{exact-at}
+use lib.Ieee.{inFloat, nan}
+use Rattle.arrays.proofs.Filling.{Filling, begun, goes-on, ended}
+use Rattle.floats.specs.Whole.{wholeF32}
+use mathlib.Core.Path.{_≡_, refl, sym, subst}
+
+abbrev Inv-loop : tie.InvT-loop
+Inv-loop term-freqs tfs₀ n i₀ tfs i = (n ≡ 128) × ((i ≤ 128) × Filling nan 128 (λ k. wholeF32 (getD term-freqs k 0)) tfs₀ i tfs)
+
+abbrev μ-loop : tie.MeasureT-loop
+μ-loop term-freqs tfs₀ n i₀ tfs i = 128 - i
+
+loop-holds : tie.Need-loop-holds Inv-loop μ-loop
+loop-holds c = (search needs, (search needs, begun nan 128 _ _ (search needs)))
+
+mul-tfs : tie.Need-mul-tfs Inv-loop μ-loop
+mul-tfs c = search needs
+
+element-copy-out-tfs : tie.Need-element-copy-out-tfs Inv-loop μ-loop
+element-copy-out-tfs c = search needs
+
+int-to-float-tfs : tie.Need-int-to-float-tfs Inv-loop μ-loop
+unfolding inFloat allExact
+int-to-float-tfs c =
+    let a = c .before .before .before in
+    let s = a .before .before .before in
+    le→leb _ 16777216 (exact-at (s .args .term-freqs .now) 128 (a .loop .i) (subst T (sym (s .pre)) tt) (omega arith))
+
+mul-tfs-2 : tie.Need-mul-tfs-2 Inv-loop μ-loop
+mul-tfs-2 c = search needs
+
+element-write-tfs : tie.Need-element-write-tfs Inv-loop μ-loop
+element-write-tfs c = search needs
+
+add-i : tie.Need-add-i Inv-loop μ-loop
+add-i c = search needs
+
+loop-less : tie.Need-loop-less Inv-loop μ-loop
+loop-less c = search needs
+
+loop-again : tie.Need-loop-again Inv-loop μ-loop
+loop-again c =
+    let a = c .before .before .before in
+    (a .loop .inv .0, (omega arith, goes-on nan 128 _ _ (a .loop .i) (a .loop .tfs) _ (omega arith) (refl) (a .loop .inv .1 .1)))
+
+returns : tie.Need-returns Inv-loop μ-loop
+returns c = let l = c .before .loop in ended nan 128 _ _ (l .i) _ (omega arith) (l .inv .1 .1)
+
+pub exact-tfs-spec : {M : Type 1} → statement M
+exact-tfs-spec =
+    tie.close
+    (tie.spec
+    Inv-loop
+    μ-loop
+    loop-holds
+    mul-tfs
+    element-copy-out-tfs
+    int-to-float-tfs
+    mul-tfs-2
+    element-write-tfs
+    add-i
+    loop-less
+    loop-again
+    returns)

@@ -1,0 +1,69 @@
+-- `bm25::compute_tf_cache` meets its contract: each turn puts one code's norm.
+use mathlib.Core.Path.{refl, ap, _∙_}
+use Prim.Native.Nat.{ℕ, _-_, _≤_}
+use lib.Ieee.{nan}
+use Rattle.fieldnorm.specs.Code.{fieldnorm}
+use Rattle.bm25.specs.Score.{normOf}
+use Rattle.arrays.proofs.Filling.{Filling, begun, goes-on, ended}
+use borrow.Author.Needs.{needs}
+use native.Mathlib.Omega.{arith}
+use Rattle.bm25.proofs.compute_tf_cache.Statement.{statement}
+use Rattle.bm25.proofs.compute_tf_cache.Tie as tie
+
+abbrev Inv-loop : tie.InvT-loop
+Inv-loop average cache₀ i₀ cache i = (i ≤ 256) × Filling nan 256 (λ k. normOf (fieldnorm k) average) cache₀ i cache
+
+abbrev μ-loop : tie.MeasureT-loop
+μ-loop average cache₀ i₀ cache i = 256 - i
+
+loop-holds : tie.Need-loop-holds Inv-loop μ-loop
+loop-holds c = (search needs, begun nan 256 _ _ refl)
+
+cast-id-to-fieldnorm : tie.Need-cast-id-to-fieldnorm Inv-loop μ-loop
+cast-id-to-fieldnorm c = search needs
+
+id-to-fieldnorm-requires : tie.Need-id-to-fieldnorm-requires Inv-loop μ-loop
+id-to-fieldnorm-requires c κs = search needs
+
+cached-tf-component-requires : tie.Need-cached-tf-component-requires Inv-loop μ-loop
+cached-tf-component-requires c κs = search needs
+
+mul-cache : tie.Need-mul-cache Inv-loop μ-loop
+mul-cache c = search needs
+
+array-write-cache : tie.Need-array-write-cache Inv-loop μ-loop
+array-write-cache c = search needs
+
+add-i : tie.Need-add-i Inv-loop μ-loop
+add-i c = search needs
+
+loop-less : tie.Need-loop-less Inv-loop μ-loop
+loop-less c = search needs
+
+loop-again : tie.Need-loop-again Inv-loop μ-loop
+loop-again c =
+    let a = c .before .before .before in (
+      omega arith,
+      goes-on nan 256 _ _ (a .loop .i) (a .loop .cache) _ (omega arith)
+          (c .cached-tf-component .ensures ∙ ap (λ (z : ℕ). normOf z (a .before .args .average)) (c .before .id-to-fieldnorm .ensures)) (a .loop .inv .1),
+    )
+
+returns : tie.Need-returns Inv-loop μ-loop
+returns c = let l = c .before .loop in ended nan 256 _ _ (l .i) (l .cache) (omega arith) (l .inv .1) .at
+
+pub compute-tf-cache-spec : {M : Type 1} → statement M
+compute-tf-cache-spec =
+    tie.close
+    (tie.spec
+    Inv-loop
+    μ-loop
+    loop-holds
+    cast-id-to-fieldnorm
+    id-to-fieldnorm-requires
+    cached-tf-component-requires
+    mul-cache
+    array-write-cache
+    add-i
+    loop-less
+    loop-again
+    returns)

@@ -1,0 +1,43 @@
+-- What the loops over a block's 128 postings leave.
+use mathlib.Core.Bool.{Bool, true, _&&_}
+use mathlib.Core.List.{List}
+use Prim.Native.Nat.{ℕ, zero, suc}
+use lib.Dec.{leb}
+use lib.ListN.{getD}
+use lib.Ieee.{Float, nan, binary32, add, mul, div}
+use Rattle.arrays.specs.Holds.{Holds}
+use Rattle.floats.specs.Whole.{wholeF32}
+use Rattle.floats.specs.Step.{stepDown}
+use Rattle.bm25.specs.Weight.{scoreIn}
+use Rattle.bm25.specs.Scoring.{scored}
+use Rattle.bm25.specs.declared.Bm25Weight.{Bm25Weight}
+use Rattle.bm25.specs.declared.Scoring.{Scoring}
+
+-- each code's cached norm
+abbrev pub Gathered : List Float → List ℕ → List Float → Type 0
+Gathered cache ids out = Holds nan 128 (λ i. getD cache (getD ids i 0) nan) out
+
+-- whether f32 holds the first n frequencies as they are: up to 2 ^ 24 it holds every whole number
+unfoldable pub exactUpTo : List ℕ → ℕ → Bool
+exactUpTo freqs zero = true
+exactUpTo freqs (suc n) = exactUpTo freqs n && leb (getD freqs n 0) 16777216
+
+unfoldable pub allExact : List ℕ → Bool
+unfolding exactUpTo
+allExact freqs = exactUpTo freqs 128
+
+-- each frequency as an f32
+abbrev pub Whole : List ℕ → List Float → Type 0
+Whole freqs out = Holds nan 128 (λ i. wholeF32 (getD freqs i 0)) out
+
+-- each frequency f at its norm: weight × (f / (f + norm))
+abbrev pub Weighed : Float → List Float → List Float → List Float → Type 0
+Weighed weight norms tfs out = Holds nan 128 (λ i. mul binary32 weight (div binary32 (getD tfs i nan) (add binary32 (getD tfs i nan) (getD norms i nan)))) out
+
+-- each score cut down to the grid
+abbrev pub Stepped : List Float → List Float → Type 0
+Stepped xs out = Holds nan 128 (λ i. stepDown (getD xs i nan)) out
+
+-- each posting's score
+abbrev pub Scored : Bm25Weight → Scoring → List ℕ → List ℕ → List Float → Type 0
+Scored w scoring ids freqs out = Holds nan 128 (λ i. scored scoring (scoreIn w (getD ids i 0) (getD freqs i 0))) out

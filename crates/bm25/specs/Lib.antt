@@ -1,0 +1,7 @@
+-- What the contracts of `bm25` cite.
+pub mod Score
+pub mod Scoring
+pub mod Limits
+pub mod Weight
+pub mod Bound
+pub mod Block

@@ -1,0 +1,121 @@
+// The scores of a block's postings: the struct comes once, norms are gathered, and the float work is a loop of its own.
+use super::Bm25Weight;
+use super::Scoring;
+ghost use mathlib.Core.Path.{_≡_};
+ghost use Prim.Native.Nat.{ℕ, _<_, _≤_};
+ghost use mathlib.Core.Bool.{true};
+ghost use lib.ListN.{getD, length};
+ghost use lib.Ieee.{nan};
+ghost use Rattle.bm25.specs.Block.{Gathered, Whole, Weighed, Stepped, Scored, allExact};
+
+// A code as a place in the cache.
+fn place(id: u8) -> usize
+    ensures { λ r. ⌜ (r ≡ id) × (r < 256) ⌝ }
+{
+    id as usize
+}
+
+// The norm of each posting.
+fn gather_norms(cache: &[f32; 256], ids: &[u8; 128], norms: &mut [f32; 128])
+    ensures { λ _. ⌜ Gathered (now (cache .entry)) (now (ids .entry)) (now (norms .exit)) ⌝ }
+{
+    let n = (&norms[..]).len();
+    let mut i = 0usize;
+    while i < n {
+        let id = place(ids[i]);
+        norms[i] = cache[id];
+        i += 1;
+    }
+}
+
+// Whether every frequency is a whole number that f32 holds.
+fn all_exact(term_freqs: &[u32; 128]) -> bool
+    ensures { λ r. ⌜ r ≡ allExact (now («term_freqs» .entry)) ⌝ }
+{
+    let mut ok = true;
+    let mut i = 0usize;
+    while i < 128 {
+        if term_freqs[i] > 16777216 {
+            ok = false;
+        }
+        i += 1;
+    }
+    ok
+}
+
+fn exact_tfs(term_freqs: &[u32; 128], tfs: &mut [f32; 128])
+    requires { ⌜ allExact (now «term_freqs») ≡ true ⌝ }
+    ensures { λ _. ⌜ Whole (now («term_freqs» .entry)) (now (tfs .exit)) ⌝ }
+{
+    let n = (&tfs[..]).len();
+    let mut i = 0usize;
+    while i < n {
+        tfs[i] = term_freqs[i] as f32;
+        i += 1;
+    }
+}
+
+fn rounded_tfs(term_freqs: &[u32; 128], tfs: &mut [f32; 128])
+    ensures { λ _. ⌜ Whole (now («term_freqs» .entry)) (now (tfs .exit)) ⌝ }
+{
+    let n = (&tfs[..]).len();
+    let mut i = 0usize;
+    while i < n {
+        tfs[i] = floats::u32_to_f32(term_freqs[i]);
+        i += 1;
+    }
+}
+
+// Frequencies as f32: nearly every block has none above 2^24, and then the loop has no branch.
+fn to_tfs(term_freqs: &[u32; 128], tfs: &mut [f32; 128])
+    ensures { λ _. ⌜ Whole (now («term_freqs» .entry)) (now (tfs .exit)) ⌝ }
+{
+    if all_exact(term_freqs) {
+        exact_tfs(term_freqs, tfs);
+    } else {
+        rounded_tfs(term_freqs, tfs);
+    }
+}
+
+// Scores in place of frequencies.
+fn weigh(weight: f32, norms: &[f32; 128], scores: &mut [f32; 128])
+    ensures { λ _. ⌜ Weighed weight (now (norms .entry)) (now (scores .entry)) (now (scores .exit)) ⌝ }
+{
+    let n = (&scores[..]).len();
+    let mut i = 0usize;
+    while i < n {
+        let tf = scores[i];
+        scores[i] = weight * (tf / (tf + norms[i]));
+        i += 1;
+    }
+}
+
+fn step_all(scores: &mut [f32; 128])
+    ensures { λ _. ⌜ Stepped (now (scores .entry)) (now (scores .exit)) ⌝ }
+{
+    let n = (&scores[..]).len();
+    let mut i = 0usize;
+    while i < n {
+        scores[i] = floats::step_down(scores[i]);
+        i += 1;
+    }
+}
+
+// The scores of 128 postings, by their norm codes and frequencies.
+pub fn score_block(
+    w: Bm25Weight,
+    scoring: Scoring,
+    ids: &[u8; 128],
+    term_freqs: &[u32; 128],
+    scores: &mut [f32; 128],
+)
+    ensures { λ _. ⌜ Scored w scoring (now (ids .entry)) (now («term_freqs» .entry)) (now (scores .exit)) ⌝ }
+{
+    let mut norms = [0.0f32; 128];
+    gather_norms(&w.cache, ids, &mut norms);
+    to_tfs(term_freqs, scores);
+    weigh(w.weight, &norms, scores);
+    if let Scoring::Stepped = scoring {
+        step_all(scores);
+    }
+}

@@ -1,0 +1,120 @@
+// BM25 over ready weights: norms, scores and bounds, unstepped or stepped.
+mod block;
+mod limits;
+
+ghost use mathlib.Core.Path.{_≡_};
+ghost use lib.ListN.{getD};
+ghost use lib.Ieee.{nan};
+ghost use Rattle.bm25.specs.Score.{normOf, scoreAt};
+ghost use Rattle.bm25.specs.Weight.{NormsOf, WeightOf, scoreIn};
+ghost use Rattle.bm25.specs.Scoring.{scored};
+ghost use Rattle.bm25.specs.Bound.{maxTf, maxScore, blockMaxScore};
+pub use block::score_block;
+pub use limits::average_ok;
+pub use limits::weight_ok;
+
+const K1: f32 = 1.2;
+
+const B: f32 = 0.75;
+
+// The highest norm code and the highest frequency: the list bound's pair.
+const MAX_FIELDNORM_ID: u8 = 255;
+
+const MAX_TERM_FREQ: u32 = 2013265944;
+
+// Whether scores and bounds are cut down to multiples of 1/1024.
+pub enum Scoring {
+    Unstepped,
+    Stepped,
+}
+
+// Weight, average and the 256 cached norms of one list.
+pub struct Bm25Weight {
+    pub weight: f32,
+    pub average: f32,
+    pub cache: [f32; 256],
+}
+
+// The norm of a length.
+pub fn cached_tf_component(fieldnorm: u32, average: f32) -> f32
+    ensures { λ r. ⌜ r ≡ normOf fieldnorm average ⌝ }
+{
+    K1 * ((1.0 - B) + (B * floats::u32_to_f32(fieldnorm)) / average)
+}
+
+// The norms of all codes.
+fn compute_tf_cache(average: f32) -> [f32; 256]
+    ensures { λ r. ⌜ NormsOf average r ⌝ }
+{
+    let mut cache = [0.0f32; 256];
+    let mut i = 0usize;
+    while i < 256 {
+        let fieldnorm = fieldnorm::id_to_fieldnorm(i as u8);
+        cache[i] = cached_tf_component(fieldnorm, average);
+        i += 1;
+    }
+    cache
+}
+
+// The score of a frequency at a norm.
+fn score_at(weight: f32, norm: f32, term_freq: u32) -> f32
+    ensures { λ r. ⌜ r ≡ scoreAt weight norm «term_freq» ⌝ }
+{
+    let tf = floats::u32_to_f32(term_freq);
+    weight * (tf / (tf + norm))
+}
+
+// A score as a scoring has it.
+fn in_scoring(scoring: Scoring, score: f32) -> f32
+    ensures { λ r. ⌜ r ≡ scored scoring score ⌝ }
+{
+    match scoring {
+        Scoring::Unstepped => score,
+        Scoring::Stepped => floats::step_down(score),
+    }
+}
+
+// The frequency that a skip entry's maximum-frequency code stands for.
+pub fn decode_block_wand_max_tf(max_tf_code: u8) -> u32
+    ensures { λ r. ⌜ r ≡ maxTf «max_tf_code» ⌝ }
+{
+    if max_tf_code == 255 {
+        return 4294967295;
+    }
+    max_tf_code as u32
+}
+
+impl Bm25Weight {
+    pub fn new(weight: f32, average: f32) -> Self
+        ensures { λ r. ⌜ WeightOf weight average r ⌝ }
+    {
+        let cache = compute_tf_cache(average);
+        Self {
+            weight,
+            average,
+            cache,
+        }
+    }
+
+    // One document's score.
+    pub fn score(self, scoring: Scoring, fieldnorm_id: u8, term_freq: u32) -> f32
+        ensures { λ r. ⌜ r ≡ scored scoring (scoreIn self «fieldnorm_id» «term_freq») ⌝ }
+    {
+        let i = fieldnorm_id as usize;
+        in_scoring(scoring, score_at(self.weight, self.cache[i], term_freq))
+    }
+
+    // The list bound.
+    pub fn max_score(self, scoring: Scoring) -> f32
+        ensures { λ r. ⌜ r ≡ scored scoring (maxScore self) ⌝ }
+    {
+        self.score(scoring, MAX_FIELDNORM_ID, MAX_TERM_FREQ)
+    }
+
+    // A full block's bound, from its skip entry's pair of codes.
+    pub fn block_max_score(self, scoring: Scoring, fieldnorm_id: u8, max_tf_code: u8) -> f32
+        ensures { λ r. ⌜ r ≡ scored scoring (blockMaxScore self «fieldnorm_id» «max_tf_code») ⌝ }
+    {
+        self.score(scoring, fieldnorm_id, decode_block_wand_max_tf(max_tf_code))
+    }
+}

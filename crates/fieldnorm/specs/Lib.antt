@@ -1,0 +1,3 @@
+-- What the contracts of `fieldnorm` cite.
+pub mod Code
+pub mod Reader
