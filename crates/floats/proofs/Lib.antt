@@ -13,4 +13,5 @@ pub mod Pattern
 pub mod PatternOrder
 pub mod Threshold
 pub mod Exact
+pub mod MaximumLaws
 pub mod Worked

@@ -1,9 +1,10 @@
-// Whole numbers as f32, and the step of scores to multiples of 1/1024.
+// Whole numbers as f32, the step of scores to multiples of 1/1024, the larger of two, and the thresholds of stepped runs.
 ghost use mathlib.Core.Path.{_≡_};
 ghost use Prim.Native.Nat.{_^_, _<_};
 ghost use lib.Ieee.Nearest.{closest};
 ghost use Rattle.floats.specs.Whole.{wholeF32};
 ghost use Rattle.floats.specs.Step.{stepDown};
+ghost use Rattle.floats.specs.Maximum.{larger};
 ghost use Rattle.floats.specs.Threshold.{thresholdOk};
 
 // From here on an f32 is a multiple of 1/1024, and up to twice this no finer.
@@ -56,6 +57,16 @@ pub fn step_down(x: f32) -> f32
         return x;
     }
     0.0
+}
+
+// The larger of two scores, by comparison.
+pub fn larger(x: f32, y: f32) -> f32
+    ensures { λ r. ⌜ r ≡ larger x y ⌝ }
+{
+    if x < y {
+        return y;
+    }
+    x
 }
 
 // Whether x may be a stepped run's threshold.
