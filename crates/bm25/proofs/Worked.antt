@@ -26,7 +26,7 @@ pub document-3 : add binary32 (stepDown (smallScore 1000 3)) (stepDown (smallSco
 unfolding scoreOf add mul div sub ofInt stepDown round
 document-3 = refl
 
--- 01, (j): 'codes 254 and 255'
+-- 01, (j): the two highest codes
 pub case-j : (maxTf 254 ≡ 254) × (maxTf 255 ≡ 4294967295)
 case-j = (refl, refl)
 

@@ -1,4 +1,4 @@
--- The bounds of 01, Pivots, windows and block bounds.
+-- The bounds of a list and of a full block (01, Pivots, windows and block bounds).
 use mathlib.Core.Bool.{cond}
 use Prim.Native.Nat.{ℕ}
 use lib.Dec.{eqb}
@@ -6,11 +6,11 @@ use lib.Ieee.{Float}
 use Rattle.bm25.specs.Weight.{scoreIn}
 use Rattle.bm25.specs.declared.Bm25Weight.{Bm25Weight}
 
--- 'maximum-frequency code 254 means 254, code 255 means 4,294,967,295'
+-- on `skip.rs`: code 255 stands for the largest u32, any lower code for itself
 abbrev pub maxTf : ℕ → ℕ
 maxTf code = cond (eqb code 255) 4294967295 code
 
--- '`max_score`, the list bound, is `score(255, 2_013_265_944)`'
+-- on `bm25.rs`: the list bound is the score of code 255 and frequency 2,013,265,944
 unfoldable pub maxScore : Bm25Weight → Float
 unfolding scoreIn
 maxScore w = scoreIn w 255 2013265944

@@ -4,7 +4,7 @@ use lib.Ieee.{Float, binary32, add, sub, mul, div}
 use Rattle.floats.specs.Whole.{wholeF32, f32Of}
 use Rattle.fieldnorm.specs.Code.{fieldnorm}
 
--- 01, Scores: 'K1 1.2, B 0.75, all f32'
+-- 01, Scores, the constants: 1.2 and 0.75 as f32
 unfoldable pub K1 : Float
 K1 = f32Of 12 10
 
@@ -14,12 +14,12 @@ B = f32Of 75 100
 unfoldable pub one : Float
 one = f32Of 1 1
 
--- 'Norm = K1 × ((1 - B) + (B × length) / average)'
+-- 01, Scores, the norm: K1 × ((1 - B) + (B × length) / average)
 unfoldable pub normOf : ℕ → Float → Float
 unfolding K1 B one
 normOf length average = mul binary32 K1 (add binary32 (sub binary32 one B) (div binary32 (mul binary32 B (wholeF32 length)) average))
 
--- 'Score = weight × (f / (f + norm))', f the frequency
+-- 01, Scores, the score of frequency f: weight × (f / (f + norm))
 unfoldable pub scoreAt : Float → Float → ℕ → Float
 scoreAt weight norm freq = mul binary32 weight (div binary32 (wholeF32 freq) (add binary32 (wholeF32 freq) norm))
 

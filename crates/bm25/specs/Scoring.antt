@@ -1,4 +1,4 @@
--- The two scorings. Stepped is 01's own term: 'each score and bound is cut down to a multiple of 1/1024'.
+-- The two scorings (01, Scores): scores and bounds as they are, or each cut down to a multiple of 1/1024, which the paper calls stepped.
 use lib.Ieee.{Float}
 use Rattle.floats.specs.Step.{stepDown}
 use Rattle.bm25.specs.declared.Scoring.{Scoring}

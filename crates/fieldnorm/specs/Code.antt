@@ -1,4 +1,4 @@
--- 01, Scores: 'length from `FIELD_NORMS_TABLE`'.
+-- 01, Scores, on lengths: the 256 entries of `FIELD_NORMS_TABLE`.
 use mathlib.Core.List.{List, [], _∷_}
 use Prim.Native.Nat.{ℕ}
 use lib.ListN.{getD}

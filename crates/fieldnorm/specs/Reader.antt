@@ -1,4 +1,4 @@
--- 01, The note file: norm kind '0: a norm byte per document; 1: one constant code'.
+-- 01, The note file, the norm kind: kind 0 has a byte for each document, kind 1 one code for all.
 use mathlib.Core.List.{List}
 use Prim.Native.Nat.{ℕ, _+_}
 use lib.ListN.{getD}

@@ -6,7 +6,7 @@ use lib.Ieee.Exact.{HasValue}
 use Rattle.floats.specs.Whole.{wholeF32, f32Of}
 use Rattle.floats.specs.Step.{gridF, stepDown}
 
--- 01: '16,777,217 becomes 16,777,216 and 16,777,219 becomes 16,777,220'
+-- 01, (l): ties at 16,777,217 and 16,777,219 go to the even one
 pub case-l : HasValue (wholeF32 16777217) false 16777216 1 × HasValue (wholeF32 16777219) false 16777220 1
 unfolding ofInt round
 case-l = ((refl, refl), (refl, refl))

@@ -1,4 +1,4 @@
--- The step (01, Scores: 'Stepped scoring is added: each score and bound is cut down to a multiple of 1/1024'), counted in naturals.
+-- The step of stepped scoring (01, Scores; the term is the paper's): a value is cut down to a multiple of 1/1024, counted in naturals.
 use Prim.Native.Nat.{ℕ, _+_, _*_, _/_}
 use mathlib.Core.Path.{_≡_}
 use mathlib.Core.Bool.{Bool, true, false}

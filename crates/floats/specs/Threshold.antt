@@ -4,7 +4,7 @@ use mathlib.Core.Bool.{Bool, true, false, _&&_}
 use lib.Dec.{leb, eqb}
 use lib.Ieee.{Float, nan, inf, fin, up, down}
 
--- 01's table, 11: 'a multiple of 1/1024 from -1 to 16,000'
+-- 01's table, row 11, on stepped runs: multiples of 1/1024, none below -1 or above 16,000
 abbrev pub thresholdOk : Float → Bool
 thresholdOk nan = false
 thresholdOk (inf s) = false

@@ -4,7 +4,7 @@ use mathlib.Core.Bool.{false}
 use lib.IntN.{pos}
 use lib.Ieee.{Float, binary32, ofInt, round}
 
--- 01, Scores: 'Whole numbers become f32 to nearest, ties to even.' IEEE 754-2019, 5.4.1: convertFromInt.
+-- 01, Scores, on whole numbers: the nearest f32, a tie to the even one (IEEE 754-2019, 5.4.1, convertFromInt)
 abbrev pub wholeF32 : ℕ → Float
 wholeF32 n = ofInt binary32 (pos n)
 
