@@ -1,7 +1,5 @@
 -- Facts of norms and scores that belong to no one function.
-pub mod Exact
 pub mod Bounds
 pub mod LimitBits
-pub mod BlockScores
 pub mod WeightLaws
 pub mod Worked

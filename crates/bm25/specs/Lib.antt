@@ -4,4 +4,3 @@ pub mod Scoring
 pub mod Limits
 pub mod Weight
 pub mod Bound
-pub mod Block

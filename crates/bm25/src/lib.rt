@@ -1,5 +1,4 @@
 // BM25 over ready weights: norms, scores and bounds, unstepped or stepped.
-mod block;
 mod limits;
 
 ghost use mathlib.Core.Path.{_≡_};
@@ -9,7 +8,6 @@ ghost use Rattle.bm25.specs.Score.{normOf, scoreAt};
 ghost use Rattle.bm25.specs.Weight.{NormsOf, WeightOf, scoreIn};
 ghost use Rattle.bm25.specs.Scoring.{scored};
 ghost use Rattle.bm25.specs.Bound.{maxTf, maxScore, blockMaxScore};
-pub use block::score_block;
 pub use limits::average_ok;
 pub use limits::weight_ok;
 

@@ -10,7 +10,7 @@ use lib.Dec.{T, leb, leb→le}
 use lib.ListN.{getD}
 use lib.Ieee.Fits.{and-l, and-r}
 use borrow.Author.Tests.{le-leb, lt-leb}
-use Rattle.bm25.specs.Block.{exactUpTo}
+use Rattle.bm25_block.specs.Block.{exactUpTo}
 
 and-false : (a : Bool) → (a && false) ≡ false
 and-false true = refl

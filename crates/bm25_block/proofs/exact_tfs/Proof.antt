@@ -1,14 +1,14 @@
--- `block::exact_tfs` meets its contract: a whole number up to 2 ^ 24 is cast without loss.
+-- `bm25_block::exact_tfs` meets its contract: a whole number up to 2 ^ 24 is cast without loss.
 use borrow.Author.Needs.{needs}
 use native.Mathlib.Omega.{arith}
-use Rattle.bm25.proofs.block.exact_tfs.Statement.{statement}
-use Rattle.bm25.proofs.block.exact_tfs.Tie as tie
+use Rattle.bm25_block.proofs.exact_tfs.Statement.{statement}
+use Rattle.bm25_block.proofs.exact_tfs.Tie as tie
 use mathlib.Core.Path.{_≡_, refl, sym, subst}
 use Prim.Native.Nat.{_-_, _≤_}
 use lib.ListN.{getD}
 use lib.Dec.{T, le→leb}
-use Rattle.bm25.specs.Block.{allExact}
-use Rattle.bm25.proofs.Exact.{exact-at}
+use Rattle.bm25_block.specs.Block.{allExact}
+use Rattle.bm25_block.proofs.Exact.{exact-at}
 use lib.Ieee.{inFloat, nan}
 use Rattle.arrays.proofs.Filling.{Filling, begun, goes-on, ended}
 use Rattle.floats.specs.Whole.{wholeF32}

@@ -1,8 +1,8 @@
--- `block::gather_norms` meets its contract: each turn puts one cached norm.
+-- `bm25_block::gather_norms` meets its contract: each turn puts one cached norm.
 use borrow.Author.Needs.{needs}
 use native.Mathlib.Omega.{arith}
-use Rattle.bm25.proofs.block.gather_norms.Statement.{statement}
-use Rattle.bm25.proofs.block.gather_norms.Tie as tie
+use Rattle.bm25_block.proofs.gather_norms.Statement.{statement}
+use Rattle.bm25_block.proofs.gather_norms.Tie as tie
 use mathlib.Core.Path.{_≡_, ap}
 use Prim.Native.Nat.{ℕ, _-_, _≤_}
 use lib.ListN.{getD}

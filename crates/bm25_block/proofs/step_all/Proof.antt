@@ -1,8 +1,8 @@
--- `block::step_all` meets its contract: each turn steps one score, which no earlier turn has touched.
+-- `bm25_block::step_all` meets its contract: each turn steps one score, which no earlier turn has touched.
 use borrow.Author.Needs.{needs}
 use native.Mathlib.Omega.{arith}
-use Rattle.bm25.proofs.block.step_all.Statement.{statement}
-use Rattle.bm25.proofs.block.step_all.Tie as tie
+use Rattle.bm25_block.proofs.step_all.Statement.{statement}
+use Rattle.bm25_block.proofs.step_all.Tie as tie
 use mathlib.Core.Path.{_≡_, ap, _∙_}
 use Prim.Native.Nat.{_-_, _≤_}
 use lib.ListN.{getD}

@@ -1,9 +1,9 @@
--- `block::score_block` meets its contract: its four loops in turn leave each posting's score.
-use Rattle.bm25.proofs.BlockScores.{block-stepped, block-unstepped}
+-- `bm25_block::score_block` meets its contract: its four loops in turn leave each posting's score.
+use Rattle.bm25_block.proofs.BlockScores.{block-stepped, block-unstepped}
 use borrow.Author.Needs.{needs}
 use borrow.Author.Needs.{needs}
-use Rattle.bm25.proofs.block.score_block.Statement.{statement}
-use Rattle.bm25.proofs.block.score_block.Tie as tie
+use Rattle.bm25_block.proofs.score_block.Statement.{statement}
+use Rattle.bm25_block.proofs.score_block.Tie as tie
 
 gather-norms-requires : tie.Need-gather-norms-requires
 gather-norms-requires c κs = search needs

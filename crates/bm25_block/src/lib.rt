@@ -1,12 +1,12 @@
 // The scores of a block's postings: the struct comes once, norms are gathered, and the float work is a loop of its own.
-use super::Bm25Weight;
-use super::Scoring;
+use bm25::Bm25Weight;
+use bm25::Scoring;
 ghost use mathlib.Core.Path.{_≡_};
 ghost use Prim.Native.Nat.{ℕ, _<_, _≤_};
 ghost use mathlib.Core.Bool.{true};
 ghost use lib.ListN.{getD, length};
 ghost use lib.Ieee.{nan};
-ghost use Rattle.bm25.specs.Block.{Gathered, Whole, Weighed, Stepped, Scored, allExact};
+ghost use Rattle.bm25_block.specs.Block.{Gathered, Whole, Weighed, Stepped, Scored, allExact};
 
 // A code as a place in the cache.
 fn place(id: u8) -> usize

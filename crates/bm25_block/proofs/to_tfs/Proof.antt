@@ -1,9 +1,9 @@
--- `block::to_tfs` meets its contract: both ways leave each frequency's nearest f32.
+-- `bm25_block::to_tfs` meets its contract: both ways leave each frequency's nearest f32.
 use mathlib.Core.Path.{sym, _∙_}
 use borrow.Author.Needs.{needs}
 use borrow.Author.Needs.{needs}
-use Rattle.bm25.proofs.block.to_tfs.Statement.{statement}
-use Rattle.bm25.proofs.block.to_tfs.Tie as tie
+use Rattle.bm25_block.proofs.to_tfs.Statement.{statement}
+use Rattle.bm25_block.proofs.to_tfs.Tie as tie
 
 all-exact-requires : tie.Need-all-exact-requires
 all-exact-requires c κs = search needs

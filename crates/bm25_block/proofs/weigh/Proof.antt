@@ -1,8 +1,8 @@
--- `block::weigh` meets its contract: each turn puts one score in place of its frequency, which no earlier turn has touched.
+-- `bm25_block::weigh` meets its contract: each turn puts one score in place of its frequency, which no earlier turn has touched.
 use borrow.Author.Needs.{needs}
 use native.Mathlib.Omega.{arith}
-use Rattle.bm25.proofs.block.weigh.Statement.{statement}
-use Rattle.bm25.proofs.block.weigh.Tie as tie
+use Rattle.bm25_block.proofs.weigh.Statement.{statement}
+use Rattle.bm25_block.proofs.weigh.Tie as tie
 use mathlib.Core.Path.{_≡_, ap}
 use Prim.Native.Nat.{_-_, _≤_}
 use lib.ListN.{getD}

@@ -1,8 +1,8 @@
--- `block::rounded_tfs` meets its contract: each turn puts one frequency as its nearest f32.
+-- `bm25_block::rounded_tfs` meets its contract: each turn puts one frequency as its nearest f32.
 use borrow.Author.Needs.{needs}
 use native.Mathlib.Omega.{arith}
-use Rattle.bm25.proofs.block.rounded_tfs.Statement.{statement}
-use Rattle.bm25.proofs.block.rounded_tfs.Tie as tie
+use Rattle.bm25_block.proofs.rounded_tfs.Statement.{statement}
+use Rattle.bm25_block.proofs.rounded_tfs.Tie as tie
 use mathlib.Core.Path.{_≡_}
 use Prim.Native.Nat.{_-_, _≤_}
 use lib.ListN.{getD}

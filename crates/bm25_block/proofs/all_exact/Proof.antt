@@ -1,13 +1,13 @@
--- `block::all_exact` meets its contract: after each turn the flag is the test over the frequencies passed.
+-- `bm25_block::all_exact` meets its contract: after each turn the flag is the test over the frequencies passed.
 use mathlib.Core.Path.{_≡_, refl, ap, _∙_}
 use mathlib.Core.Logic.{⊎-elim}
 use Prim.Native.Nat.{_-_, _≤_}
-use Rattle.bm25.specs.Block.{exactUpTo, allExact}
-use Rattle.bm25.proofs.Exact.{stays, fails}
+use Rattle.bm25_block.specs.Block.{exactUpTo, allExact}
+use Rattle.bm25_block.proofs.Exact.{stays, fails}
 use borrow.Author.Needs.{needs}
 use native.Mathlib.Omega.{arith}
-use Rattle.bm25.proofs.block.all_exact.Statement.{statement}
-use Rattle.bm25.proofs.block.all_exact.Tie as tie
+use Rattle.bm25_block.proofs.all_exact.Statement.{statement}
+use Rattle.bm25_block.proofs.all_exact.Tie as tie
 
 abbrev Inv-loop : tie.InvT-loop
 Inv-loop term-freqs ok₀ i₀ ok i = (i ≤ 128) × (ok ≡ exactUpTo term-freqs i)

@@ -1,0 +1,3 @@
+-- Laws of a block that belong to no one function.
+pub mod Exact
+pub mod BlockScores
