@@ -1,0 +1,59 @@
+-- A route, 01's word for the path of a skipping run: places, and turns from one to the next with at most one report each.
+use mathlib.Core.Bool.{Bool, true}
+use mathlib.Core.Option.{Option, none}
+use mathlib.Core.Path.{_≡_}
+use mathlib.Core.List.{List, [], _++_}
+use Prim.Native.Nat.{ℕ, zero, suc}
+use Rattle.route.specs.Report.{Report, Callback, reported}
+use Rattle.route.specs.Scorer.{Scorer, Load}
+
+-- What a turn leaves: the next place, and a report if one is due.
+pub record Turn (P S : Type 0) : Type 0 where
+  pub next : P
+  pub due : Option (Report S)
+
+-- a turn without a report
+abbrev pub quiet : {P S : Type 0} → P → Turn P S
+quiet p = record { next = p; due = none }
+
+-- A turn is a function of the place before it and of the threshold of the moment, and so are its loads: `loads` come before
+-- its report, `lateLoads` behind it. At its end a route stays.
+pub record Route (S : Type 0) : Type 1 where
+  pub Place : Type 0
+  pub first : Place
+  pub ended : Place → Bool
+  pub turn : S → Place → Turn Place S
+  pub scorers : Place → List (Scorer S)
+  pub loads : S → Place → List Load
+  pub lateLoads : S → Place → List Load
+
+-- a run on its way: where the route stands, and the callback's state
+pub record Run (P R : Type 0) : Type 0 where
+  pub place : P
+  pub state : R
+
+module _ {S : Type 0} (K : Callback S) (W : Route S) where
+  -- one turn, and its report handed to the callback
+  abbrev pub step : Run (W .Place) (K .State) → Run (W .Place) (K .State)
+  step u =
+      let t = W .turn (K .threshold (u .state)) (u .place) in
+      record { place = t .next; state = reported K (t .due) (u .state) }
+
+  -- the run after n steps from the callback's state r
+  abbrev pub after : K .State → ℕ → Run (W .Place) (K .State)
+  after r zero = record { place = W .first; state = r }
+  after r (suc n) = step (after r n)
+
+  -- the loads of the first n steps, in order
+  abbrev pub loadsOf : K .State → ℕ → List Load
+  loadsOf r zero = []
+  loadsOf r (suc n) =
+      let u = after r n in
+      let t = K .threshold (u .state) in
+      loadsOf r n ++ (W .loads t (u .place) ++ W .lateLoads t (u .place))
+
+  -- The run from r ends, and leaves the callback in the state `total`.
+  pub record Ends (r total : K .State) : Type 0 where
+    pub steps : ℕ
+    pub ended : W .ended (after r steps .place) ≡ true
+    pub leaves : after r steps .state ≡ total

@@ -1,0 +1,214 @@
+-- The route of `block_wand`: a pivot, then one scorer past blocks that are too low, or the scorers onto the pivot.
+use mathlib.Core.Bool.{Bool, true, false, cond, not}
+use mathlib.Core.Option.{Option, none, some}
+use mathlib.Core.List.{List, [], _∷_, _++_, map}
+use Prim.Native.Nat.{ℕ, suc, min}
+use lib.Dec.{eqb}
+use lib.ListN.{length}
+use Rattle.route.specs.Score.{Ops, sum}
+use Rattle.route.specs.Report.{dueAt}
+use Rattle.route.specs.Postings.{TERMINATED}
+use Rattle.route.specs.Ordering.{restoreOrdering, sortBy, sweep, putBack}
+use Rattle.route.specs.Scorer.{Scorer, Load, docOf, scoreHere, maxScore, lastDocInBlock, seekBlock, seek, advance, seekLoads, advanceLoads, blockMaxScore}
+use Rattle.route.specs.Route.{Turn, quiet, Route}
+use Rattle.route.specs.Single.{blockWandSingleScorer}
+
+-- `find_pivot_doc`'s answer: the scorers up to `before_pivot_len`, on to `pivot_len`, the rest, and `pivot_doc`.
+pub record Pivot (S : Type 0) : Type 0 where
+  pub pre : List (Scorer S)
+  pub piv : List (Scorer S)
+  pub post : List (Scorer S)
+  pub doc : ℕ
+
+-- a list of scorers around one of them
+pub record Around (S : Type 0) : Type 0 where
+  pub left : List (Scorer S)
+  pub one : Scorer S
+  pub right : List (Scorer S)
+
+-- `align_scorers`' answer: the scorers on the pivot, or those around the one that went past it
+pub data Aligned (S : Type 0) : Type 0 where
+  aligned : List (Scorer S) → Aligned S
+  missed : Around S → Aligned S
+
+-- whether the loop goes on, and the scorers in their present order
+pub record UnionPlace (S : Type 0) : Type 0 where
+  pub more : Bool
+  pub scorers : List (Scorer S)
+
+-- the loop goes on over these scorers
+abbrev pub goOn : {S : Type 0} → List (Scorer S) → UnionPlace S
+goOn ss = record { more = true; scorers = ss }
+
+-- `if doc_to_seek_after != TERMINATED { doc_to_seek_after += 1; }`
+abbrev pub behind : ℕ → ℕ
+behind e = cond (eqb e TERMINATED) e (suc e)
+
+module _ {S : Type 0} where
+  -- `take_while(|scorer| scorer.doc() == pivot_doc)`
+  abbrev pub onDoc : ℕ → List (Scorer S) → List (Scorer S)
+  onDoc d [] = []
+  onDoc d (s ∷ ss) = cond (eqb (docOf s) d) (s ∷ onDoc d ss) []
+
+  -- the scorers behind those on the pivot
+  abbrev pub offDoc : ℕ → List (Scorer S) → List (Scorer S)
+  offDoc d [] = []
+  offDoc d (s ∷ ss) = cond (eqb (docOf s) d) (offDoc d ss) (s ∷ ss)
+
+  -- one more scorer before the pivot
+  abbrev pub pushPre : Scorer S → Option (Pivot S) → Option (Pivot S)
+  pushPre s none = none
+  pushPre s (some c) = some (record { pre = s ∷ c .pre; piv = c .piv; post = c .post; doc = c .doc })
+
+  -- `if pivot_doc == TERMINATED { return None; }`
+  abbrev pub liveOnly : Option (Pivot S) → Option (Pivot S)
+  liveOnly none = none
+  liveOnly (some c) = cond (eqb (c .doc) TERMINATED) none (some c)
+
+  -- the least document of the scorers behind the pivot, or t
+  abbrev pub leastDoc : ℕ → List (Scorer S) → ℕ
+  leastDoc t [] = t
+  leastDoc t (y ∷ ys) = leastDoc (min (docOf y) t) ys
+
+  -- after a miss: the scorers before it, then it and those behind it in order
+  abbrev pub missedOn : Around S → List (Scorer S) → List (Scorer S)
+  missedOn m rest = m .left ++ putBack docOf (m .one) (m .right ++ rest)
+
+  module _ (B : ℕ) where
+    -- the least `last_doc_in_block()` of x ∷ xs
+    abbrev pub leastLastDoc : Scorer S → List (Scorer S) → ℕ
+    leastLastDoc x [] = lastDocInBlock B x
+    leastLastDoc x (y ∷ ys) = min (lastDocInBlock B x) (leastLastDoc y ys)
+
+    -- one turn of the loop: s seeks the pivot, unless one behind it missed
+    abbrev pub alignOn : ℕ → Scorer S → Aligned S → Aligned S
+    alignOn p s (missed m) = missed (record { left = s ∷ m .left; one = m .one; right = m .right })
+    alignOn p s (aligned ss) =
+        cond (eqb (docOf (seek B p s)) p) (aligned (seek B p s ∷ ss)) (missed (record { left = []; one = seek B p s; right = ss }))
+
+    -- `align_scorers`: from the last to the first, until one misses the pivot p
+    abbrev pub alignScorers : ℕ → List (Scorer S) → Aligned S
+    alignScorers p [] = aligned []
+    alignScorers p (s ∷ ss) = alignOn p s (alignScorers p ss)
+
+    -- `advance_all_scorers_on_pivot`, over the scorers on the pivot and those behind it
+    abbrev pub advanceAllScorersOnPivot : List (Scorer S) → List (Scorer S) → List (Scorer S)
+    advanceAllScorersOnPivot on post = let all = map (advance B) on ++ post in sortBy docOf (sweep docOf (length all) all)
+
+    -- ---- loads, in order
+
+    -- of scorers that advance, in their order
+    abbrev pub advanceAllLoads : List (Scorer S) → List Load
+    advanceAllLoads [] = []
+    advanceAllLoads (s ∷ ss) = advanceLoads B s ++ advanceAllLoads ss
+
+    -- of s, behind those of the scorers that sought before it
+    abbrev pub alignOnLoads : ℕ → Scorer S → List Load → Aligned S → List Load
+    alignOnLoads p s done (missed m) = done
+    alignOnLoads p s done (aligned ss) = done ++ seekLoads B p s
+
+    -- of `align_scorers`, up to the one that misses
+    abbrev pub alignLoads : ℕ → List (Scorer S) → List Load
+    alignLoads p [] = []
+    alignLoads p (s ∷ ss) = alignOnLoads p s (alignLoads p ss) (alignScorers p ss)
+
+    -- of the scorers on the pivot, if all came to it
+    abbrev pub pivotLoads : Aligned S → List (Scorer S) → List Load
+    pivotLoads (missed m) piv = []
+    pivotLoads (aligned pre) piv = advanceAllLoads (pre ++ piv)
+
+module _ (O : Ops) where
+  -- the `while` of `find_pivot_doc`, with the list bounds added up so far
+  abbrev pub pivotFrom : O .S → O .S → List (Scorer (O .S)) → Option (Pivot (O .S))
+  pivotFrom t acc [] = none
+  pivotFrom t acc (s ∷ ss) =
+      cond (O .above (O .add acc (maxScore s)) t)
+      (some (record { pre = []; piv = s ∷ onDoc (docOf s) ss; post = offDoc (docOf s) ss; doc = docOf s }))
+      (pushPre s (pivotFrom t (O .add acc (maxScore s)) ss))
+
+  -- `find_pivot_doc`
+  abbrev pub findPivotDoc : O .S → List (Scorer (O .S)) → Option (Pivot (O .S))
+  findPivotDoc t ss = liveOnly (pivotFrom t (O .nil) ss)
+
+  -- `scorer_to_seek`: the highest list bound of x ∷ xs, the last among equals
+  abbrev pub scorerToSeek : Scorer (O .S) → List (Scorer (O .S)) → Around (O .S)
+  scorerToSeek x [] = record { left = []; one = x; right = [] }
+  scorerToSeek x (y ∷ ys) =
+      let m = scorerToSeek y ys in
+      cond (O .above (maxScore x) (maxScore (m .one)))
+      (record { left = []; one = x; right = y ∷ ys })
+      (record { left = x ∷ m .left; one = m .one; right = m .right })
+
+module _ (B : ℕ) (O : Ops) where
+  -- `block_max_was_too_low_advance_one_scorer`, over the scorers up to `pivot_len` and those behind
+  abbrev pub blockMaxWasTooLow : List (Scorer (O .S)) → List (Scorer (O .S)) → List (Scorer (O .S))
+  blockMaxWasTooLow [] post = post
+  blockMaxWasTooLow (x ∷ xs) post =
+      let m = scorerToSeek O x xs in
+      let d = leastDoc (behind (leastLastDoc B x xs)) post in
+      m .left ++ restoreOrdering docOf (seek B d (m .one)) (m .right ++ post)
+
+  -- behind `align_scorers`; the scores are added in the order that the scorers have now, which shows in unstepped sums (01, union)
+  abbrev pub afterAlign : O .S → Aligned (O .S) → ℕ → List (Scorer (O .S)) → List (Scorer (O .S)) → Turn (UnionPlace (O .S)) (O .S)
+  afterAlign t (missed m) p piv post = quiet (goOn (missedOn m (piv ++ post)))
+  afterAlign t (aligned pre) p piv post = record {
+    next = goOn (advanceAllScorersOnPivot B (pre ++ piv) post);
+    due = dueAt O t p (sum O (map scoreHere (pre ++ piv)));
+  }
+
+  -- the body of the `while let`, at a pivot
+  abbrev pub onPivot : O .S → Pivot (O .S) → Turn (UnionPlace (O .S)) (O .S)
+  onPivot t c =
+      let pre = map (seekBlock B (c .doc)) (c .pre) in
+      let piv = map (seekBlock B (c .doc)) (c .piv) in
+      cond (O .above (sum O (map (blockMaxScore B O) (pre ++ piv))) t)
+      (afterAlign t (alignScorers B (c .doc) pre) (c .doc) piv (c .post))
+      (quiet (goOn (blockMaxWasTooLow (pre ++ piv) (c .post))))
+
+  -- no pivot ends the loop
+  abbrev pub afterPivot : O .S → Option (Pivot (O .S)) → List (Scorer (O .S)) → Turn (UnionPlace (O .S)) (O .S)
+  afterPivot t none ss = quiet (record { more = false; scorers = ss })
+  afterPivot t (some c) ss = onPivot t c
+
+  -- one turn of `while let Some(..) = find_pivot_doc(..)`
+  abbrev pub unionTurn : O .S → UnionPlace (O .S) → Turn (UnionPlace (O .S)) (O .S)
+  unionTurn t u = cond (u .more) (afterPivot t (findPivotDoc O t (u .scorers)) (u .scorers)) (quiet u)
+
+  -- of the one scorer that seeks past blocks too low
+  abbrev pub tooLowLoads : List (Scorer (O .S)) → List (Scorer (O .S)) → List Load
+  tooLowLoads [] post = []
+  tooLowLoads (x ∷ xs) post = seekLoads B (leastDoc (behind (leastLastDoc B x xs)) post) (scorerToSeek O x xs .one)
+
+  -- the loads of `align_scorers`, or of the one scorer that seeks
+  abbrev pub unionLoads : O .S → Option (Pivot (O .S)) → List Load
+  unionLoads t none = []
+  unionLoads t (some c) =
+      let pre = map (seekBlock B (c .doc)) (c .pre) in
+      let piv = map (seekBlock B (c .doc)) (c .piv) in
+      cond (O .above (sum O (map (blockMaxScore B O) (pre ++ piv))) t) (alignLoads B (c .doc) pre) (tooLowLoads (pre ++ piv) (c .post))
+
+  -- those of `advance_all_scorers_on_pivot`, behind the report
+  abbrev pub advancedLoads : O .S → Option (Pivot (O .S)) → List Load
+  advancedLoads t none = []
+  advancedLoads t (some c) =
+      let pre = map (seekBlock B (c .doc)) (c .pre) in
+      let piv = map (seekBlock B (c .doc)) (c .piv) in
+      cond (O .above (sum O (map (blockMaxScore B O) (pre ++ piv))) t) (pivotLoads B (alignScorers B (c .doc) pre) piv) []
+
+  -- the loop of `block_wand`, over scorers with a document each
+  abbrev pub pivotRoute : List (Scorer (O .S)) → Route (O .S)
+  pivotRoute ss = record {
+    Place = UnionPlace (O .S);
+    first = goOn (sortBy docOf ss);
+    ended = λ u. not (u .more);
+    turn = unionTurn;
+    scorers = λ u. u .scorers;
+    loads = λ t u. cond (u .more) (unionLoads t (findPivotDoc O t (u .scorers))) [];
+    lateLoads = λ t u. cond (u .more) (advancedLoads t (findPivotDoc O t (u .scorers))) [];
+  }
+
+  -- `block_wand` behind its `retain`: one scorer left goes to the single scan, none leaves no pivot to find
+  abbrev pub blockWand : List (Scorer (O .S)) → Route (O .S)
+  blockWand [] = pivotRoute []
+  blockWand (s ∷ []) = blockWandSingleScorer B O s
+  blockWand (x ∷ y ∷ ss) = pivotRoute (x ∷ y ∷ ss)
