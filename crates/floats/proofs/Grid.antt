@@ -3,12 +3,12 @@ use mathlib.Core.Path.{_≡_, sym, _∙_, subst}
 use Prim.Native.Nat.{ℕ, _+_, _-_, _^_, _≤_, zero-le}
 use native.Mathlib.Nat.{le-trans, sub-zero, add-zero}
 use mathlib.Core.Bool.{false}
-use lib.Dec.{leb, ltb, lit<}
-use lib.Ieee.{binary32, round, add, sub, lt, le}
+use lib.Dec.{leb, lit<}
+use lib.Ieee.{binary32, round, add, sub, le}
 use lib.Ieee.Exact.{HasValue}
 use Rattle.floats.specs.Step.{gridF, Steps}
 use Rattle.floats.proofs.Sum.{add-at, sub-at}
-use Rattle.floats.proofs.Steps.{grid-value, pos-steps, steps-lt, steps-le}
+use Rattle.floats.proofs.Steps.{grid-value, pos-steps, steps-le}
 
 pub grid-has : (n : ℕ) → n ≤ 2 ^ 24 → HasValue (gridF n) false n 1024
 unfolding gridF
@@ -25,9 +25,6 @@ grid-add a b h k = add-at binary32 (round binary32 false a 1024) (round binary32
 pub grid-sub : (a b : ℕ) → a ≤ 2 ^ 24 → b ≤ a → sub binary32 (gridF a) (gridF b) ≡ gridF (a - b)
 unfolding gridF
 grid-sub a b h k = sub-at binary32 (round binary32 false a 1024) (round binary32 false b 1024) a b 1024 (lit< tt) (grid-value false a h) (grid-value false b (le-trans k h)) k
-
-pub grid-lt : (a b : ℕ) → a ≤ 2 ^ 24 → b ≤ 2 ^ 24 → lt (gridF a) (gridF b) ≡ ltb a b
-grid-lt a b h k = steps-lt (gridF a) (gridF b) a 0 b 0 (grid-steps a h) (grid-steps b k) ∙ simp add-zero
 
 pub grid-le : (a b : ℕ) → a ≤ 2 ^ 24 → b ≤ 2 ^ 24 → le (gridF a) (gridF b) ≡ leb a b
 grid-le a b h k = steps-le (gridF a) (gridF b) a 0 b 0 (grid-steps a h) (grid-steps b k) ∙ simp add-zero

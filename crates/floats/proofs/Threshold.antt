@@ -1,8 +1,8 @@
 -- Thresholds: the test of the code is the definition's, and a threshold's level says how it compares with the grid.
 use mathlib.Core.Path.{_≡_, refl, sym, ap, _∙_, subst}
 use mathlib.Core.Logic.{inl, inr}
-use Prim.Native.Nat.{ℕ, _+_, _-_, _*_, _/_, _%_, _^_, _≤_, _<_}
-use native.Mathlib.Nat.{le-trans, le-of-eq, le-of-lt, eq-or-lt-of-le, mul-one, mul-right-comm, eq-of-mul-eq-mul-right, div-add-mod', add-zero, add-mul}
+use Prim.Native.Nat.{ℕ, _+_, _-_, _*_, _/_, _%_, _≤_, _<_}
+use native.Mathlib.Nat.{le-trans, le-of-eq, le-of-lt, eq-or-lt-of-le, mul-one, mul-right-comm, eq-of-mul-eq-mul-right, div-add-mod', add-mul}
 use native.Mathlib.Omega.{arith}
 use mathlib.Core.Bool.{Bool, true, false, not, _&&_, true≢false, false≢true}
 use lib.IntN.{ℤ, pos}
@@ -16,8 +16,7 @@ use Rattle.floats.specs.Threshold.{thresholdOk, level}
 use Rattle.floats.proofs.Stepped.{steps-within}
 use Rattle.floats.proofs.Order.{le→cross, cross→le}
 use Rattle.floats.proofs.Tests.{and-true, left-true, or-left, or-right, is-true, is-false, same-test, same-eqb}
-use Rattle.floats.proofs.Steps.{steps-lt}
-use Rattle.floats.proofs.Grid.{grid-has, grid-steps}
+use Rattle.floats.proofs.Grid.{grid-has}
 
 -- ---- on the grid is what the cut does not change
 eq-values : (x : Float) (a c m : ℕ) (e : ℤ) → 0 < c → HasValue x false a c → eq x (fin false m e) ≡ eqb (a * down e) (m * up e * c)
@@ -164,7 +163,3 @@ level-le nan t = absurd t
 level-le (inf s) t = absurd t
 level-le (fin false m e) t = omega (arith, steps-within 16000 (fin false m e) (and-l (leb (m * up e) (16000 * down e)) (eqb (m * up e * 1024 % down e) 0) t))
 level-le (fin true m e) t = omega arith
-
--- a sum n / 1024 is above the threshold
-pub level-lt : (x : Float) (n : ℕ) → T (thresholdOk x) → n ≤ 2 ^ 24 → lt x (gridF n) ≡ ltb (level x) (n + 1024)
-level-lt x n t h = steps-lt x (gridF n) (level x) 1024 n 0 (level-steps x t) (grid-steps n h) ∙ ap (λ (z : ℕ). ltb z (n + 1024)) (add-zero (level x))
