@@ -1,2 +1,4 @@
 -- Laws of loops over arrays.
+pub mod Order
+pub mod Every
 pub mod Filling

@@ -1,2 +1,3 @@
--- What contracts over arrays cite.
+-- What contracts over arrays and tests cite.
 pub mod Holds
+pub mod Every

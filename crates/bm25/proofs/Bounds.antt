@@ -1,9 +1,9 @@
 -- With an average and a weight within their limits, every norm is from 1/4 to 2 ^ 38, and every score is finite, of clear sign and at most 1,000.
 use mathlib.Core.Path.{_≡_, refl, sym}
+use mathlib.Core.Bool.{true, false}
 use Prim.Native.Nat.{ℕ, _^_, _≤_, _<_}
 use native.Mathlib.Nat.{le-trans, le-of-eq, le-of-lt, mul-one}
 use native.Mathlib.Omega.{arith}
-use mathlib.Core.Bool.{true, false}
 use lib.IntN.{negsuc}
 use lib.Dec.{T, lit<, lit≤}
 use lib.Ieee.{Float, nan, inf, fin, binary32, round, ofInt, add, sub, mul, div, le}
@@ -15,10 +15,10 @@ use Rattle.fieldnorm.proofs.Rising.{fieldnorm-top}
 use Rattle.floats.specs.Step.{within}
 use Rattle.floats.proofs.Order.{le→cross}
 use Rattle.floats.proofs.Stepped.{step-within}
+use Rattle.floats.proofs.Range.{add-comm-high, High, Low, Exact, high-round, mul-high, mul-low, add-high, add-low, div-high, div-unit, le-add, high-not-inf, high-within, within-high}
 use Rattle.bm25.specs.Scoring.{scored}
 use Rattle.bm25.specs.declared.Scoring.{Scoring}
 use Rattle.bm25.specs.declared.Scoring.the-variants.{Unstepped, Stepped}
-use Rattle.floats.proofs.Range.{add-comm-high, High, Low, Exact, high-round, mul-high, mul-low, add-high, add-low, div-high, div-unit, le-add, high-not-inf, high-within, within-high}
 use Rattle.bm25.specs.Score.{K1, B, one, normOf, scoreAt, scoreOf}
 use Rattle.bm25.specs.Limits.{averageOk, weightOk}
 

@@ -1,9 +1,9 @@
 -- The limits on a weight and an average, as tests of the bit pattern.
 use mathlib.Core.Path.{_≡_, refl, sym, ap, _∙_}
+use mathlib.Core.Bool.{true, false}
 use Prim.Native.Nat.{ℕ, _*_, _^_, _≤_, _<_}
 use native.Mathlib.Nat.{le-trans, le-of-eq, lt-of-not-le, not-le-of-lt, le-of-suc-le-suc, le-of-mul-le-mul-right, mul-le-mul-right, mul-right-comm, mul-one}
 use native.Mathlib.Omega.{arith}
-use mathlib.Core.Bool.{true, false}
 use lib.IntN.{pos}
 use lib.Dec.{T, leb, leb→le, le→leb, lit<}
 use lib.Pow.{pow-pos}

@@ -5,9 +5,9 @@ use Prim.Native.Nat.{ℕ}
 use lib.Ieee.{Float}
 use Rattle.floats.specs.Step.{stepDown}
 use Rattle.bm25.specs.Weight.{scoreIn}
-use Rattle.bm25_block.specs.Block.{Gathered, Whole, Weighed, Stepped, Scored}
 use Rattle.bm25.specs.declared.Bm25Weight.{Bm25Weight}
 use Rattle.bm25.specs.declared.Scoring.the-variants.{Unstepped as unstepped, Stepped as stepped}
+use Rattle.bm25_block.specs.Block.{Gathered, Whole, Weighed, Stepped, Scored}
 
 module _ (w : Bm25Weight) (ids freqs : List ℕ) (norms tfs xs : List Float) (g : Gathered (w .cache) ids norms) (h : Whole freqs tfs) (k : Weighed (w .weight) norms tfs xs) where
   pub block-unstepped : Scored w unstepped ids freqs xs

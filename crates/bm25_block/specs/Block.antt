@@ -1,10 +1,11 @@
 -- What the loops over a block's 128 postings leave.
-use mathlib.Core.Bool.{Bool, true, _&&_}
+use mathlib.Core.Bool.{Bool}
 use mathlib.Core.List.{List}
-use Prim.Native.Nat.{ℕ, zero, suc}
+use Prim.Native.Nat.{ℕ}
 use lib.Dec.{leb}
 use lib.ListN.{getD}
 use lib.Ieee.{Float, nan, binary32, add, mul, div}
+use Rattle.arrays.specs.Every.{every}
 use Rattle.arrays.specs.Holds.{Holds}
 use Rattle.floats.specs.Whole.{wholeF32}
 use Rattle.floats.specs.Step.{stepDown}
@@ -17,14 +18,12 @@ use Rattle.bm25.specs.declared.Scoring.{Scoring}
 abbrev pub Gathered : List Float → List ℕ → List Float → Type 0
 Gathered cache ids out = Holds nan 128 (λ i. getD cache (getD ids i 0) nan) out
 
--- whether f32 holds the first n frequencies as they are: up to 2 ^ 24 it holds every whole number
-unfoldable pub exactUpTo : List ℕ → ℕ → Bool
-exactUpTo freqs zero = true
-exactUpTo freqs (suc n) = exactUpTo freqs n && leb (getD freqs n 0) 16777216
+-- f32 holds a frequency as it is: up to 2 ^ 24 it holds every whole number
+abbrev pub exactAt : List ℕ → ℕ → Bool
+exactAt freqs i = leb (getD freqs i 0) 16777216
 
 unfoldable pub allExact : List ℕ → Bool
-unfolding exactUpTo
-allExact freqs = exactUpTo freqs 128
+allExact freqs = every 128 (exactAt freqs)
 
 -- each frequency as an f32
 abbrev pub Whole : List ℕ → List Float → Type 0

@@ -1,10 +1,10 @@
 -- Leading digits: a fraction of prec + k digits in units of the format's smallest value keeps prec of them, rounded, and drops k.
 use mathlib.Core.Path.{_≡_, refl, sym, ap, _∙_, subst}
+use mathlib.Core.Bool.{false}
 use Prim.Native.Nat.{ℕ, suc, _+_, _-_, _*_, _/_, _%_, _^_, _≤_, _<_, compare, Ordering, Ordering·lt, Ordering·eq, Ordering·gt}
 use native.Mathlib.Nat.{le-trans, le-of-eq, lt-of-lt-of-le, lt-of-le-of-lt, lt-of-not-le, not-le-of-lt, mul-one, one-mul, mul-comm, mul-assoc, mul-left-comm, mul-right-comm, mul-pos, mul-le-mul-right, mul-lt-mul-of-pos-right, add-assoc, div-lt-iff-lt-mul, le-div-iff-mul-le, zero-lt-suc, le-of-lt, lt-irrefl, mod-eq-of-lt, add-sub-cancel-left}
 use native.Mathlib.Numerals.{add-one}
 use native.Mathlib.Omega.{arith}
-use mathlib.Core.Bool.{false}
 use lib.Dec.{T, lit<, isLe, isEq, le→leb, leb→le, eqb→eq}
 use lib.Pow.{pow-add, pow-pos, pow-mono, pow-lt}
 use lib.Ieee.{Float, Format, binary32, prec, emax, low, size, nearest, units, round, mul}

@@ -1,8 +1,8 @@
 -- The f32 values n / 1024 of clear sign, up to 2 ^ 24 steps: sums, differences and order are those of the step counts.
 use mathlib.Core.Path.{_≡_, sym, _∙_, subst}
+use mathlib.Core.Bool.{false}
 use Prim.Native.Nat.{ℕ, _+_, _-_, _^_, _≤_, zero-le}
 use native.Mathlib.Nat.{le-trans, sub-zero, add-zero}
-use mathlib.Core.Bool.{false}
 use lib.Dec.{leb, lit<}
 use lib.Ieee.{binary32, round, add, sub, le}
 use lib.Ieee.Exact.{HasValue}

@@ -1,15 +1,15 @@
 -- The order of finite values of clear sign, as an order of fractions.
 use mathlib.Core.Path.{_≡_, refl}
 use mathlib.Core.Logic.{inl, inr}
+use mathlib.Core.Bool.{true, false, _&&_}
 use Prim.Native.Nat.{ℕ, _*_, _≤_}
 use native.Mathlib.Nat.{le-of-eq, le-of-lt}
-use mathlib.Core.Bool.{true, false, _&&_}
 use lib.IntN.{ℤ}
 use lib.Dec.{T, ltb, eqb, ltb→lt, eqb→eq}
-use mir.Facts.{or-yes}
 use lib.Ieee.{Float, nan, inf, fin, up, down, lt, le}
 use lib.Ieee.Fits.{down-pos, and-l}
 use lib.Ieee.Order.{le-of-values}
+use mir.Facts.{or-yes}
 use borrow.Author.Tests.{ltb-false}
 use Rattle.floats.specs.Step.{within}
 

@@ -1,15 +1,15 @@
 -- An f32's bit pattern, of clear sign: n / 2 ^ 23 is the exponent's field, n % 2 ^ 23 the digits.
 use mathlib.Core.Path.{_≡_, refl, sym, ap, _∙_, subst}
+use mathlib.Core.Bool.{Bool, true, false, not, cond, false≢true}
 use Prim.Native.Nat.{ℕ, zero, suc, _+_, _*_, _/_, _%_, _^_, _<_}
 use native.Mathlib.Nat.{mul-one, le-of-suc-le-suc}
 use native.Mathlib.Omega.{arith}
-use mathlib.Core.Bool.{Bool, true, false, not, cond, false≢true}
 use lib.Dec.{T, leb, eqb, nleb→lt}
 use lib.Arith.{lt-of-le-ne}
-use mir.Facts.{eqb-no}
 use lib.Ieee.{Float, nan, inf, fin, binary32, odd, fits, isNan, ofFields, ofBits, toBits}
 use lib.Ieee.Bits.{ofBits-toBits, ofBits-fits, toBits-ofBits, toBits-lt}
 use lib.Ieee.Exact.{HasValue, odd-sign}
+use mir.Facts.{eqb-no}
 use borrow.Author.Tests.{lt-leb, ne-eqb}
 use Rattle.floats.specs.Step.{within}
 

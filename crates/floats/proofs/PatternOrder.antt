@@ -1,11 +1,11 @@
 -- Bit patterns of clear sign below an infinity's are in the order of their values.
 use mathlib.Core.Path.{_≡_, refl, sym, ap, _∙_, subst}
 use mathlib.Core.Logic.{_⊎_, inl, inr}
+use mathlib.Core.Bool.{false}
 use Prim.Native.Nat.{ℕ, zero, suc, _+_, _*_, _/_, _%_, _^_, _≤_, _<_}
 use native.Mathlib.Nat.{le-refl, le-trans, le-of-lt, lt-of-lt-of-le, lt-of-not-le, not-le-of-lt, lt-suc-self, eq-or-lt-of-le, mul-assoc, mul-lt-mul-of-pos-right, mul-le-mul-right, pow-succ', le-of-eq, le-of-suc-le-suc}
 use native.Mathlib.Decide.{le-ind}
 use native.Mathlib.Omega.{arith}
-use mathlib.Core.Bool.{false}
 use lib.Dec.{T, leb, le→leb, leb→le, lit<}
 use lib.Pow.{pow-pos}
 use lib.Ieee.{binary32, ofBits, le}

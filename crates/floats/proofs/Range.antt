@@ -2,11 +2,10 @@
 --
 use mathlib.Core.Path.{_≡_, refl, sym, ap, _∙_, subst}
 use mathlib.Core.Logic.{_⊎_, inl, inr}
+use mathlib.Core.Bool.{Bool, true, false, not, cond, true≢false}
 use Prim.Native.Nat.{ℕ, _+_, _*_, _/_, _%_, _^_, _≤_, _<_, compare}
 use native.Mathlib.Nat.{le-trans, le-of-eq, lt-of-lt-of-le, lt-irrefl, mul-one, one-mul, mul-comm, mul-assoc, mul-right-comm, mul-mul-mul-comm, mul-le-mul-right, mul-le-mul, le-of-mul-le-mul-right, add-mul, add-comm, add-le-add, le-add-right, mul-pos, div-div-eq-div-mul}
-use mathlib.Core.Bool.{Bool, true, false, not, cond, true≢false}
 use lib.Dec.{T, ltb, eqb, leb→le, le→leb, ltb→lt, lit<}
-use mir.Facts.{no-eqb}
 use lib.Pow.{pow-pos}
 use lib.Ieee.{Float, nan, inf, fin, binary32, up, down, odd, units, round, sum, add, mul, div, le}
 use lib.Ieee.Fits.{up-pos, down-pos, round-is, nearest-le, kept-lt}
@@ -15,8 +14,9 @@ use lib.Ieee.Exact.{HasValue}
 use lib.Ieee.Order.{drop, kept, round-mono}
 use lib.Ieee.Scale.{grid, overflow, round-val}
 use lib.Ieee.Positive.{first-pos}
-use Rattle.floats.proofs.Value.{round-exact-le}
+use mir.Facts.{no-eqb}
 use Rattle.floats.specs.Step.{within}
+use Rattle.floats.proofs.Value.{round-exact-le}
 use Rattle.floats.proofs.Order.{le→cross, cross→le}
 
 -- x is finite, of clear sign, and at most a / c; at least a / c

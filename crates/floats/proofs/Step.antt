@@ -1,17 +1,17 @@
 -- The step: x + 8192 rounds to a multiple of 1/1024, less 8192 that is the cut of x or one step more, and a comparison with x tells which.
 use mathlib.Core.Path.{_≡_, refl, sym, ap, _∙_}
+use mathlib.Core.Bool.{true, false, true≢false, false≢true}
 use Prim.Native.Nat.{ℕ, zero, suc, _+_, _-_, _*_, _/_, _%_, _^_, _≤_, _<_, suc-le-suc}
 use native.Mathlib.Nat.{le-trans, le-of-eq, lt-of-lt-of-le, lt-of-le-of-lt, lt-of-not-le, not-le-of-lt, mul-one, mul-assoc, mul-right-comm, mul-le-mul-right, mul-div-cancel, div-mul-le-self, div-lt-iff-lt-mul, le-div-iff-mul-le, div-add-mod', mod-lt, add-mul, zero-mul, div-one, div-eq-of-lt, lt-of-mul-lt-mul-right, mul-lt-mul-of-pos-right}
 use native.Mathlib.Omega.{arith}
-use mathlib.Core.Bool.{true, false, true≢false, false≢true}
 use lib.Dec.{T, ltb, lit<}
 use lib.IntN.{ℤ, pos, negsuc}
 use lib.Pow.{pow-add, pow-pos, pow-mono}
-use borrow.Author.Tests.{ltb-true, ltb-false}
 use lib.Ieee.{Float, nan, inf, fin, binary32, up, down, round, fits, add, sub, lt}
 use lib.Ieee.Fits.{down-pos}
 use lib.Ieee.Nearest.{closest}
 use lib.Ieee.Exact.{HasValue}
+use borrow.Author.Tests.{ltb-true, ltb-false}
 use Rattle.floats.specs.Step.{gridF, stepDown}
 use Rattle.floats.proofs.Tests.{same-ltb}
 use Rattle.floats.proofs.Value.{round-of-value, held}

@@ -1,9 +1,9 @@
 -- What the step gives of a score: a value on the grid, no larger than the score, the largest such, at most the score's own bound; and it keeps the order.
 use mathlib.Core.Path.{_≡_, refl, ap, _∙_, subst}
+use mathlib.Core.Bool.{true, false, true≢false}
 use Prim.Native.Nat.{ℕ, _*_, _/_, _≤_, _<_}
 use native.Mathlib.Nat.{le-trans, le-of-eq, mul-right-comm, mul-le-mul-right, mul-div-cancel, div-mul-le-self}
 use native.Mathlib.Omega.{arith}
-use mathlib.Core.Bool.{true, false, true≢false}
 use lib.Dec.{T, leb→le, le→leb, lit<}
 use lib.Ieee.{Float, nan, inf, fin, up, down, le}
 use lib.Ieee.Fits.{down-pos}

@@ -1,16 +1,16 @@
 -- Values on the grid of multiples of 1/1024, of either sign: their sums, differences and comparisons are those of whole numbers.
 use mathlib.Core.Path.{_≡_, sym, ap, _∙_, subst}
 use mathlib.Core.Logic.{inl, inr}
+use mathlib.Core.Bool.{Bool, true, false, not, _||_, cond, true≢false, false≢true}
 use Prim.Native.Nat.{ℕ, _+_, _-_, _*_, _^_, _≤_, _<_}
 use native.Mathlib.Nat.{le-of-eq, le-of-lt, lt-of-le-of-lt, mul-comm, mul-assoc, mul-right-comm, mul-pos, add-mul, mul-le-mul-right, le-of-mul-le-mul-right, mul-lt-mul-of-pos-right, lt-of-mul-lt-mul-right, eq-of-mul-eq-mul-right, eq-or-lt-of-le}
 use native.Mathlib.Omega.{arith}
-use mathlib.Core.Bool.{Bool, true, false, not, _||_, cond, true≢false, false≢true}
 use lib.Dec.{T, leb, ltb, eqb, lit<, leb→le, le→leb, ltb→lt, lt→ltb, nltb→le, eqb→eq}
 use lib.Ieee.{Float, nan, inf, fin, binary32, up, down, round, level, add, sub, neg, sum, lt, le, eq}
 use lib.Ieee.Fits.{down-pos, eq→eqb, and-i, and-l, and-r}
-use mir.Facts.{or-yes}
 use lib.Ieee.Exact.{HasValue}
 use lib.Ieee.Scale.{round-same}
+use mir.Facts.{or-yes}
 use Rattle.floats.specs.Step.{Steps}
 use Rattle.floats.proofs.Tests.{and-true, same-test, same-ltb, same-eqb, or-left, or-right}
 use Rattle.floats.proofs.Value.{round-exact-le}

@@ -1,8 +1,8 @@
 -- Sums and differences of two finite values of clear sign, at one denominator: rounded once.
 use mathlib.Core.Path.{_≡_, sym, ap, _∙_}
+use mathlib.Core.Bool.{Bool, true, false, cond, true≢false}
 use Prim.Native.Nat.{ℕ, _+_, _-_, _*_, _≤_, _<_}
 use native.Mathlib.Nat.{le-trans, le-of-eq, mul-comm, mul-assoc, mul-right-comm, mul-pos, add-mul, mul-sub, mul-le-mul-right, mul-lt-mul-of-pos-right, not-le-of-lt}
-use mathlib.Core.Bool.{Bool, true, false, cond, true≢false}
 use lib.Dec.{T, ltb, ltb→lt}
 use lib.Ieee.{Float, nan, inf, fin, Format, up, down, round, add, sub, neg, sum}
 use lib.Ieee.Fits.{down-pos}

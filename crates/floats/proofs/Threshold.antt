@@ -1,16 +1,16 @@
 -- Thresholds: the test of the code is the definition's, and a threshold's level says how it compares with the grid.
 use mathlib.Core.Path.{_≡_, refl, sym, ap, _∙_, subst}
 use mathlib.Core.Logic.{inl, inr}
+use mathlib.Core.Bool.{Bool, true, false, not, _&&_, true≢false, false≢true}
 use Prim.Native.Nat.{ℕ, _+_, _-_, _*_, _/_, _%_, _≤_, _<_}
 use native.Mathlib.Nat.{le-trans, le-of-eq, le-of-lt, eq-or-lt-of-le, mul-one, mul-right-comm, eq-of-mul-eq-mul-right, div-add-mod', add-mul}
 use native.Mathlib.Omega.{arith}
-use mathlib.Core.Bool.{Bool, true, false, not, _&&_, true≢false, false≢true}
 use lib.IntN.{ℤ, pos}
 use lib.Dec.{T, T-not, leb, ltb, eqb, leb→le, le→leb, ltb→lt, lt→ltb, nltb→le, eqb→eq, lit<}
-use mir.Facts.{or-yes}
 use lib.Ieee.{Float, nan, inf, fin, up, down, lt, le, eq, neg}
 use lib.Ieee.Fits.{down-pos, and-l, and-r, and-i, eq→eqb}
 use lib.Ieee.Exact.{HasValue}
+use mir.Facts.{or-yes}
 use Rattle.floats.specs.Step.{within, gridF, stepDown, Steps}
 use Rattle.floats.specs.Threshold.{thresholdOk, level}
 use Rattle.floats.proofs.Stepped.{steps-within}

@@ -1,9 +1,9 @@
 -- Values that a format holds, as data: each is told by its sign and size, and a fraction that a value has rounds to it.
 use mathlib.Core.Path.{_≡_, refl, sym, ap, _∙_, subst}
 use mathlib.Core.Logic.{_⊎_, inl, inr}
+use mathlib.Core.Bool.{Bool, true, false, cond, _&&_}
 use Prim.Native.Nat.{ℕ, zero, suc, _+_, _-_, _*_, _/_, _%_, _^_, _≤_, _<_}
 use native.Mathlib.Nat.{mul-right-comm, mul-assoc, mul-one, mul-comm, zero-mul, eq-or-lt-of-le, one-mul, eq-of-mul-eq-mul-right, mul-lt-mul-of-pos-right, lt-of-lt-of-le, le-of-eq, lt-of-not-le, not-le-of-lt, le-of-suc-le-suc, lt-of-le-of-lt, sub-add-cancel}
-use mathlib.Core.Bool.{Bool, true, false, cond, _&&_}
 use lib.Dec.{T, leb, ltb, eqb, lit<, leb→le, ltb→lt}
 use lib.IntN.{ℤ, pos, negsuc}
 use lib.Pow.{pow-add, pow-pos, pow-lt}

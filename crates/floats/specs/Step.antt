@@ -1,7 +1,7 @@
 -- The step of stepped scoring (01, Scores; the term is the paper's): a value is cut down to a multiple of 1/1024, counted in naturals.
-use Prim.Native.Nat.{ℕ, _+_, _*_, _/_}
 use mathlib.Core.Path.{_≡_}
 use mathlib.Core.Bool.{Bool, true, false}
+use Prim.Native.Nat.{ℕ, _+_, _*_, _/_}
 use lib.Dec.{leb}
 use lib.Ieee.{Float, nan, inf, fin, up, down}
 use Rattle.floats.specs.Whole.{f32Of}

@@ -1,6 +1,6 @@
 -- Whole numbers and fractions as f32, each rounded once.
-use Prim.Native.Nat.{ℕ}
 use mathlib.Core.Bool.{false}
+use Prim.Native.Nat.{ℕ}
 use lib.IntN.{pos}
 use lib.Ieee.{Float, binary32, ofInt, round}
 

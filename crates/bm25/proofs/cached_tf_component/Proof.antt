@@ -1,6 +1,6 @@
 -- `bm25::cached_tf_component` meets its contract: the code's operations are the definition's, and its literals are K1, B and 1.
-use borrow.Author.Needs.{needs}
 use lib.Ieee.{ofBits, round}
+use borrow.Author.Needs.{needs}
 use Rattle.bm25.specs.Score.{normOf}
 use Rattle.bm25.proofs.cached_tf_component.Statement.{statement}
 use Rattle.bm25.proofs.cached_tf_component.Tie as tie

@@ -1,12 +1,12 @@
 -- `bm25::compute_tf_cache` meets its contract: each turn puts one code's norm.
 use mathlib.Core.Path.{refl, ap, _∙_}
 use Prim.Native.Nat.{ℕ, _-_, _≤_}
-use lib.Ieee.{nan}
-use Rattle.fieldnorm.specs.Code.{fieldnorm}
-use Rattle.bm25.specs.Score.{normOf}
-use Rattle.arrays.proofs.Filling.{Filling, begun, goes-on, ended}
-use borrow.Author.Needs.{needs}
 use native.Mathlib.Omega.{arith}
+use lib.Ieee.{nan}
+use borrow.Author.Needs.{needs}
+use Rattle.fieldnorm.specs.Code.{fieldnorm}
+use Rattle.arrays.proofs.Filling.{Filling, begun, goes-on, ended}
+use Rattle.bm25.specs.Score.{normOf}
 use Rattle.bm25.proofs.compute_tf_cache.Statement.{statement}
 use Rattle.bm25.proofs.compute_tf_cache.Tie as tie
 

@@ -1,18 +1,17 @@
 -- `bm25_block::exact_tfs` meets its contract: a whole number up to 2 ^ 24 is cast without loss.
-use borrow.Author.Needs.{needs}
-use native.Mathlib.Omega.{arith}
-use Rattle.bm25_block.proofs.exact_tfs.Statement.{statement}
-use Rattle.bm25_block.proofs.exact_tfs.Tie as tie
 use mathlib.Core.Path.{_≡_, refl, sym, subst}
 use Prim.Native.Nat.{_-_, _≤_}
+use native.Mathlib.Omega.{arith}
 use lib.ListN.{getD}
-use lib.Dec.{T, le→leb}
-use Rattle.bm25_block.specs.Block.{allExact}
-use Rattle.bm25_block.proofs.Exact.{exact-at}
+use lib.Dec.{T}
 use lib.Ieee.{inFloat, nan}
+use borrow.Author.Needs.{needs}
+use Rattle.arrays.proofs.Every.{each}
 use Rattle.arrays.proofs.Filling.{Filling, begun, goes-on, ended}
 use Rattle.floats.specs.Whole.{wholeF32}
-use mathlib.Core.Path.{_≡_, refl, sym, subst}
+use Rattle.bm25_block.specs.Block.{exactAt, allExact}
+use Rattle.bm25_block.proofs.exact_tfs.Statement.{statement}
+use Rattle.bm25_block.proofs.exact_tfs.Tie as tie
 
 abbrev Inv-loop : tie.InvT-loop
 Inv-loop term-freqs tfs₀ n i₀ tfs i = (n ≡ 128) × ((i ≤ 128) × Filling nan 128 (λ k. wholeF32 (getD term-freqs k 0)) tfs₀ i tfs)
@@ -34,7 +33,7 @@ unfolding inFloat allExact
 int-to-float-tfs c =
     let a = c .before .before .before in
     let s = a .before .before .before in
-    le→leb _ 16777216 (exact-at (s .args .term-freqs .now) 128 (a .loop .i) (subst T (sym (s .pre)) tt) (omega arith))
+    subst T (sym (each (exactAt (s .args .term-freqs .now)) 128 (a .loop .i) (s .pre) (omega arith))) tt
 
 mul-tfs-2 : tie.Need-mul-tfs-2 Inv-loop μ-loop
 mul-tfs-2 c = search needs

@@ -1,14 +1,13 @@
 -- `bm25_block::gather_norms` meets its contract: each turn puts one cached norm.
-use borrow.Author.Needs.{needs}
-use native.Mathlib.Omega.{arith}
-use Rattle.bm25_block.proofs.gather_norms.Statement.{statement}
-use Rattle.bm25_block.proofs.gather_norms.Tie as tie
 use mathlib.Core.Path.{_≡_, ap}
 use Prim.Native.Nat.{ℕ, _-_, _≤_}
+use native.Mathlib.Omega.{arith}
 use lib.ListN.{getD}
 use lib.Ieee.{nan}
+use borrow.Author.Needs.{needs}
 use Rattle.arrays.proofs.Filling.{Filling, begun, goes-on, ended}
-use mathlib.Core.Path.{_≡_, ap}
+use Rattle.bm25_block.proofs.gather_norms.Statement.{statement}
+use Rattle.bm25_block.proofs.gather_norms.Tie as tie
 
 abbrev Inv-loop : tie.InvT-loop
 Inv-loop cache ids norms₀ n i₀ norms i = (n ≡ 128) × ((i ≤ 128) × Filling nan 128 (λ k. getD cache (getD ids k 0) nan) norms₀ i norms)

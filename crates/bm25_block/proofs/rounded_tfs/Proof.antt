@@ -1,15 +1,14 @@
 -- `bm25_block::rounded_tfs` meets its contract: each turn puts one frequency as its nearest f32.
-use borrow.Author.Needs.{needs}
-use native.Mathlib.Omega.{arith}
-use Rattle.bm25_block.proofs.rounded_tfs.Statement.{statement}
-use Rattle.bm25_block.proofs.rounded_tfs.Tie as tie
 use mathlib.Core.Path.{_≡_}
 use Prim.Native.Nat.{_-_, _≤_}
+use native.Mathlib.Omega.{arith}
 use lib.ListN.{getD}
 use lib.Ieee.{nan}
+use borrow.Author.Needs.{needs}
 use Rattle.arrays.proofs.Filling.{Filling, begun, goes-on, ended}
 use Rattle.floats.specs.Whole.{wholeF32}
-use mathlib.Core.Path.{_≡_}
+use Rattle.bm25_block.proofs.rounded_tfs.Statement.{statement}
+use Rattle.bm25_block.proofs.rounded_tfs.Tie as tie
 
 abbrev Inv-loop : tie.InvT-loop
 Inv-loop term-freqs tfs₀ n i₀ tfs i = (n ≡ 128) × ((i ≤ 128) × Filling nan 128 (λ k. wholeF32 (getD term-freqs k 0)) tfs₀ i tfs)

@@ -1,7 +1,6 @@
 -- `bm25_block::score_block` meets its contract: its four loops in turn leave each posting's score.
+use borrow.Author.Needs.{needs}
 use Rattle.bm25_block.proofs.BlockScores.{block-stepped, block-unstepped}
-use borrow.Author.Needs.{needs}
-use borrow.Author.Needs.{needs}
 use Rattle.bm25_block.proofs.score_block.Statement.{statement}
 use Rattle.bm25_block.proofs.score_block.Tie as tie
 

@@ -1,15 +1,14 @@
 -- `bm25_block::step_all` meets its contract: each turn steps one score, which no earlier turn has touched.
-use borrow.Author.Needs.{needs}
-use native.Mathlib.Omega.{arith}
-use Rattle.bm25_block.proofs.step_all.Statement.{statement}
-use Rattle.bm25_block.proofs.step_all.Tie as tie
 use mathlib.Core.Path.{_≡_, ap, _∙_}
 use Prim.Native.Nat.{_-_, _≤_}
+use native.Mathlib.Omega.{arith}
 use lib.ListN.{getD}
 use lib.Ieee.{nan}
+use borrow.Author.Needs.{needs}
 use Rattle.arrays.proofs.Filling.{Filling, begun, goes-on, ended}
 use Rattle.floats.specs.Step.{stepDown}
-use mathlib.Core.Path.{_≡_, ap, _∙_}
+use Rattle.bm25_block.proofs.step_all.Statement.{statement}
+use Rattle.bm25_block.proofs.step_all.Tie as tie
 
 abbrev Inv-loop : tie.InvT-loop
 Inv-loop scores₀ n i₀ scores i = (n ≡ 128) × ((i ≤ 128) × Filling nan 128 (λ k. stepDown (getD scores₀ k nan)) scores₀ i scores)

@@ -1,7 +1,6 @@
 -- `bm25_block::to_tfs` meets its contract: both ways leave each frequency's nearest f32.
 use mathlib.Core.Path.{sym, _∙_}
 use borrow.Author.Needs.{needs}
-use borrow.Author.Needs.{needs}
 use Rattle.bm25_block.proofs.to_tfs.Statement.{statement}
 use Rattle.bm25_block.proofs.to_tfs.Tie as tie
 

@@ -1,15 +1,13 @@
 -- `bm25_block::weigh` meets its contract: each turn puts one score in place of its frequency, which no earlier turn has touched.
-use borrow.Author.Needs.{needs}
-use native.Mathlib.Omega.{arith}
-use Rattle.bm25_block.proofs.weigh.Statement.{statement}
-use Rattle.bm25_block.proofs.weigh.Tie as tie
 use mathlib.Core.Path.{_≡_, ap}
 use Prim.Native.Nat.{_-_, _≤_}
+use native.Mathlib.Omega.{arith}
 use lib.ListN.{getD}
-use lib.Ieee.{nan, binary32, add, mul, div}
+use lib.Ieee.{nan, binary32, add, mul, div, Float}
+use borrow.Author.Needs.{needs}
 use Rattle.arrays.proofs.Filling.{Filling, begun, goes-on, ended}
-use lib.Ieee.{Float, nan, binary32, add, mul, div}
-use mathlib.Core.Path.{_≡_, ap}
+use Rattle.bm25_block.proofs.weigh.Statement.{statement}
+use Rattle.bm25_block.proofs.weigh.Tie as tie
 
 abbrev weighed : Float → Float → Float → Float
 weighed weight norm tf = mul binary32 weight (div binary32 tf (add binary32 tf norm))

@@ -1,6 +1,6 @@
 -- `fieldnorm::id_to_fieldnorm` meets its contract: the constant is the table of `specs/`.
-use borrow.Author.Needs.{needs}
 use mathlib.Core.Path.{refl}
+use borrow.Author.Needs.{needs}
 use Rattle.fieldnorm.specs.Code.{fieldnorm}
 use Rattle.fieldnorm.proofs.id_to_fieldnorm.Statement.{statement}
 use Rattle.fieldnorm.proofs.id_to_fieldnorm.Tie as tie

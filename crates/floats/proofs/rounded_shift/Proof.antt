@@ -1,10 +1,10 @@
 -- `floats::rounded_shift` meets its contract: each return is one of the three ways that the remainder compares with a half.
-use borrow.Author.Needs.{needs}
 use mathlib.Core.Path.{_≡_}
 use Prim.Native.Nat.{ℕ, _^_, _*_, _%_, _/_, _<_, _≤_}
 use native.Mathlib.Nat.{mod-lt, div-lt-iff-lt-mul, le-antisymm, le-of-suc-le-suc}
 use native.Mathlib.Omega.{arith}
 use lib.Pow.{pow-pos, pow-mono}
+use borrow.Author.Needs.{needs}
 use Rattle.floats.proofs.Digits.{closest-down, closest-up, closest-tie, one-shift}
 use Rattle.floats.proofs.rounded_shift.Statement.{statement}
 use Rattle.floats.proofs.rounded_shift.Tie as tie

@@ -1,7 +1,7 @@
 -- `floats::threshold_ok` meets its contract: on the grid is what the step does not change, and the comparisons are the range's.
-use borrow.Author.Needs.{needs}
 use lib.Dec.{T, lit≤}
 use lib.Ieee.{ofBits, neg}
+use borrow.Author.Needs.{needs}
 use Rattle.floats.specs.Step.{within}
 use Rattle.floats.proofs.Range.{within-more}
 use Rattle.floats.proofs.Threshold.{in-high, ok-high, out-high, in-low, ok-low, out-low, ok-zero}

@@ -1,5 +1,4 @@
 -- `floats::u32_to_f32` meets its contract: above 2 ^ 24, the kept digits times 2 ^ k round to what n rounds to.
-use borrow.Author.Needs.{needs}
 use mathlib.Core.Path.{_≡_, sym, _∙_, subst}
 use Prim.Native.Nat.{ℕ, suc, suc-le-suc, _^_, _*_, _%_, _+_, _-_, _<_, _≤_}
 use native.Mathlib.Nat.{lt-of-lt-of-le, lt-of-not-le, not-le-of-lt, le-trans, le-of-eq, le-of-lt, one-mul}
@@ -10,6 +9,7 @@ use lib.Pow.{pow-pos, pow-mono, pow-add}
 use lib.Count.{leadingZeros, leading-top}
 use lib.Ieee.{binary32, mul, ofInt, inFloat}
 use lib.Ieee.Nearest.{closest}
+use borrow.Author.Needs.{needs}
 use Rattle.floats.specs.Whole.{wholeF32}
 use Rattle.floats.proofs.Digits.{closest-le, closest-ge, one-shift, whole-rounds, mul-whole}
 use Rattle.floats.proofs.u32_to_f32.Statement.{statement}

@@ -1,8 +1,8 @@
 -- `FieldNormReader::fieldnorm_id` meets its contract: a byte that is there is read, and past the file's end the definition says 0.
-use borrow.Author.Needs.{needs}
 use mathlib.Core.Path.{sym}
 use native.Mathlib.Omega.{arith}
 use lib.ListN.{List·getD-eq-default}
+use borrow.Author.Needs.{needs}
 use Rattle.fieldnorm.proofs.FieldNormReader.fieldnorm_id.Statement.{statement}
 use Rattle.fieldnorm.proofs.FieldNormReader.fieldnorm_id.Tie as tie
 

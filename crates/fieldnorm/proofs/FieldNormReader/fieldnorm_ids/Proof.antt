@@ -1,11 +1,11 @@
 -- `FieldNormReader::fieldnorm_ids` meets its contract: each turn puts one document's code.
 use mathlib.Core.Path.{_≡_}
 use Prim.Native.Nat.{_-_, _≤_}
+use native.Mathlib.Omega.{arith}
 use lib.ListN.{getD}
+use borrow.Author.Needs.{needs}
 use Rattle.arrays.proofs.Filling.{Filling, begun, goes-on, ended}
 use Rattle.fieldnorm.specs.Reader.{fieldnormId}
-use borrow.Author.Needs.{needs}
-use native.Mathlib.Omega.{arith}
 use Rattle.fieldnorm.proofs.FieldNormReader.fieldnorm_ids.Statement.{statement}
 use Rattle.fieldnorm.proofs.FieldNormReader.fieldnorm_ids.Tie as tie
 

@@ -1,0 +1,2 @@
+-- What the contracts of `bitpacker` cite.
+pub mod Packed

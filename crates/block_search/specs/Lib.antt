@@ -1,0 +1,2 @@
+-- What the contracts of `block_search` cite.
+pub mod Search

@@ -1,0 +1,4 @@
+-- What the contracts of `codec` cite.
+pub mod Bits
+pub mod VInt
+pub mod VInts

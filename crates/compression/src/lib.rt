@@ -1,0 +1,3 @@
+// Documents by differences, and frequencies.
+pub mod documents;
+pub mod frequencies;
