@@ -3,6 +3,7 @@ pub mod Cases
 pub mod Lists
 pub mod Order
 pub mod Scan
+pub mod Ranking
 pub mod Rule
 pub mod TwoStarts
 pub mod ListLaws

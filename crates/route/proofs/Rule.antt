@@ -1,9 +1,8 @@
 -- The threshold never falls, and from a higher start it is the larger of that start and the threshold from the lower.
 use mathlib.Core.Bool.{Bool, cond, false, true}
 use mathlib.Core.List.{List, [], map-append, _++_, _∷_}
-use mathlib.Core.Path.{ap, refl, sym, _≡_}
+use mathlib.Core.Path.{refl, _≡_}
 use Prim.Native.Nat.{max, pred, suc, zero, ℕ, _+_, _<_, _≤_}
-use native.Mathlib.Nat.{add-zero}
 use native.Mathlib.Omega.{arith}
 use lib.Dec.{leb}
 use lib.ListN.{getD, length, length-append, take}
@@ -14,6 +13,7 @@ use Rattle.route.specs.Report.{Report}
 use Rattle.route.specs.Rule.{Rises, Rule, RuleOk, best, insertDown, lastOf, rankFrom, ruled, scores, script, thresholdAfter}
 use Rattle.route.proofs.Cases.{by-test}
 use Rattle.route.proofs.Lists.{all-append}
+use Rattle.route.proofs.Ranking.{rank-length, rank-snoc}
 use Rattle.route.proofs.Order.{NeverFalls, Ordered, above-false, above-true, larger-rank}
 
 module _ (O : Ops) (L : Ordered O) where
@@ -87,16 +87,6 @@ module _ (O : Ops) (L : Ordered O) where
       by-test (λ z. L .rank (getD ys i (O .nil)) ≤ L .rank (getD z (suc i) (O .nil))) (O .above x y) (x ∷ y ∷ ys) (y ∷ insertDown O x ys)
       (λ e. desc-step y ys i h (omega arith)) (λ e. ih)
 
-  insert-length : (x : O .S) (l : List (O .S)) → length (insertDown O x l) ≡ suc (length l)
-  insert-length x [] = refl
-  insert-length x (y ∷ ys) =
-      let ih = insert-length x ys in
-      by-test (λ z. length z ≡ suc (suc (length ys))) (O .above x y) (x ∷ y ∷ ys) (y ∷ insertDown O x ys) (λ e. refl) (λ e. ap suc ih)
-
-  rank-snoc : (acc xs : List (O .S)) (x : O .S) → rankFrom O acc (xs ++ (x ∷ [])) ≡ insertDown O x (rankFrom O acc xs)
-  rank-snoc acc [] x = refl
-  rank-snoc acc (y ∷ ys) x = rank-snoc (insertDown O y acc) ys x
-
   rank-fin : (acc xs : List (O .S)) → All (L .Fin) acc → All (L .Fin) xs → All (L .Fin) (rankFrom O acc xs)
   rank-fin acc [] a b = a
   rank-fin acc (x ∷ xs) a b = rank-fin (insertDown O x acc) xs (insert-fin x acc (b .0) a) (b .1)
@@ -104,10 +94,6 @@ module _ (O : Ops) (L : Ordered O) where
   rank-desc : (acc xs : List (O .S)) → All (L .Fin) acc → All (L .Fin) xs → Desc acc → Desc (rankFrom O acc xs)
   rank-desc acc [] a b h = h
   rank-desc acc (x ∷ xs) a b h = rank-desc (insertDown O x acc) xs (insert-fin x acc (b .0) a) (b .1) (insert-desc x acc (b .0) a h)
-
-  rank-length : (acc xs : List (O .S)) → length (rankFrom O acc xs) ≡ length acc + length xs
-  rank-length acc [] = sym (add-zero (length acc))
-  rank-length acc (x ∷ xs) = let e = rank-length (insertDown O x acc) xs in let f = insert-length x acc in omega arith
 
   get-fin : (l : List (O .S)) (i : ℕ) → i < length l → All (L .Fin) l → L .Fin (getD l i (O .nil))
   get-fin [] i h a = absurd (omega arith)
@@ -119,7 +105,7 @@ module _ (O : Ops) (L : Ordered O) where
   kth-fin : (k : ℕ) (xs : List (O .S)) → 0 < k → All (L .Fin) xs → leb k (length xs) ≡ true → L .Fin (getD (rankFrom O [] xs) (pred k) (O .nil))
   kth-fin k xs k0 a e =
       let h = leb-true k (length xs) e in
-      let n = rank-length [] xs in
+      let n = rank-length O [] xs in
       get-fin (rankFrom O [] xs) (pred k) (omega arith) (rank-fin [] xs tt a)
 
   pub after-fin : (q : Rule (O .S)) (s : O .S) (xs : List (O .S)) → RuleOk O (L .Fin) q s → All (L .Fin) xs → L .Fin (thresholdAfter O q s xs)
@@ -147,7 +133,7 @@ module _ (O : Ops) (L : Ordered O) where
   best-rise : (k : ℕ) (s x : O .S) (xs : List (O .S)) → 0 < k → L .Fin x → All (L .Fin) xs → bestRank k s xs ≤ bestRank k s (xs ++ (x ∷ []))
   unfolding bestRank
   best-rise k s x xs k0 fx a =
-      rw (length-append xs (x ∷ []), rank-snoc [] xs x)
+      rw (length-append xs (x ∷ []), rank-snoc O [] xs x)
       (go (leb k (length xs)) (leb k (length xs + 1)) refl refl)
     where
       go : (b c : Bool) → leb k (length xs) ≡ b → leb k (length xs + 1) ≡ c
@@ -155,7 +141,7 @@ module _ (O : Ops) (L : Ordered O) where
           ≤ cond c (max (L .rank s) (L .rank (getD (insertDown O x (rankFrom O [] xs)) (pred k) (O .nil)))) (L .rank s)
       go true true e f =
           let h = leb-true k (length xs) e in
-          let n = rank-length [] xs in
+          let n = rank-length O [] xs in
           let i = insert-rise x (rankFrom O [] xs) (pred k) fx (rank-fin [] xs tt a) (rank-desc [] xs tt a tt) (omega arith) in
           omega arith
       go true false e f = let h = leb-true k (length xs) e in let g = leb-false k (length xs + 1) f in absurd (omega arith)

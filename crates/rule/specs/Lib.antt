@@ -1,0 +1,3 @@
+-- What the contracts of `rule` cite.
+pub mod Right
+pub mod Follows
