@@ -1,0 +1,2 @@
+-- A file as the route takes it.
+pub mod Lists

@@ -1,0 +1,33 @@
+-- The decoded lists of a note file as the route and the plain scan take them: blocks of 128, with scores and bounds in a scoring.
+use mathlib.Core.List.{List, [], _∷_}
+use Prim.Native.Nat.{ℕ, _<_}
+use lib.ListN.{getD}
+use lib.Ieee.{Float}
+use Rattle.bm25.specs.Scoring.{scored}
+use Rattle.bm25.specs.declared.Scoring.{Scoring}
+use Rattle.notefile.specs.Parts.{partOf}
+use Rattle.notefile.specs.Lists.{fullBlocks, listDoc, listScore, blockBound, listBound}
+use Rattle.route.specs.Postings.{Postings}
+
+-- what a slice of bytes is as a list: each element is below 256
+abbrev pub Bytes : List ℕ → Type 0
+Bytes file = (i : ℕ) → getD file i 0 < 256
+
+-- list l of a file
+unfoldable pub postingsOf : Scoring → List ℕ → ℕ → Postings Float
+postingsOf scoring file l =
+    let x = partOf file l in
+    record {
+      len = x .count;
+      full = fullBlocks x;
+      doc = listDoc file x;
+      score = λ k. scored scoring (listScore file x k);
+      bound = λ b. scored scoring (blockBound file x b);
+      top = scored scoring (listBound x);
+    }
+
+-- the lists that a query names, in its order, a list as often as it is named
+unfoldable pub queried : Scoring → List ℕ → List ℕ → List (Postings Float)
+unfolding postingsOf
+queried scoring file [] = []
+queried scoring file (l ∷ ls) = postingsOf scoring file l ∷ queried scoring file ls

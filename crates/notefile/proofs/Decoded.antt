@@ -1,0 +1,94 @@
+-- Blocks: what values, summed and counted, are of the decoded list.
+use mathlib.Core.Path.{_≡_, refl, sym, ap, _∙_}
+use mathlib.Core.Bool.{Bool, true, false, _&&_}
+use mathlib.Core.List.{List}
+use Prim.Native.Nat.{ℕ, zero, suc, _+_, _≤_, _<_}
+use native.Mathlib.Omega.{arith}
+use lib.Dec.{eqb, ltb}
+use lib.ListN.{getD}
+use borrow.Author.Tests.{ne-eqb}
+use Rattle.arrays.specs.Every.{every}
+use Rattle.compression.specs.Documents.{gapOf, baseAt, docAt, aboveLast, rises, docsRight, Summed, Checked}
+use Rattle.compression.specs.Frequencies.{freqRight, Counted}
+use Rattle.arrays.proofs.Every.{first-true}
+use Rattle.compression.proofs.Differences.{right-word}
+use Rattle.compression.proofs.Counts.{right-freq}
+use Rattle.notefile.specs.Header.{documents}
+use Rattle.notefile.specs.Lists.{blockSize, isFirst, docValue, freqValue, strictIn, blockDoc, previousDoc, blockFreq}
+use Rattle.notefile.specs.Conditions.{docsRise, lastRight, blockDocsRight, blockFreqsRight}
+use Rattle.notefile.specs.Given.{BlockRight}
+use Rattle.notefile.specs.Reads.{FreqsRead}
+use Rattle.notefile.specs.declared.part.Part.{Part}
+use Rattle.notefile.proofs.Covers.{every-same}
+
+-- documents go by the values up to theirs
+module _ (v w : ℕ → ℕ) (strict first : Bool) (previous n : ℕ) (e : (i : ℕ) → i < n → v i ≡ w i) where
+  base-same : (i : ℕ) → i ≤ n → baseAt v strict first previous i ≡ baseAt w strict first previous i
+  unfolding baseAt
+  base-same zero h = refl
+  base-same (suc i) h = rw (base-same i (omega arith), e i h)
+
+  doc-same : (i : ℕ) → i < n → docAt v strict first previous i ≡ docAt w strict first previous i
+  unfolding docAt
+  doc-same i h = rw (base-same i (omega arith), e i h)
+
+  rises-same : (i : ℕ) → i < n → rises v strict first previous i ≡ rises w strict first previous i
+  rises-same zero h = go first
+    where
+      go : (f : Bool) → aboveLast v strict first previous f ≡ aboveLast w strict first previous f
+      go true = refl
+      go false = ap (ltb previous) (doc-same 0 h)
+  rises-same (suc i) h = ap (λ (z : ℕ). ltb z (docAt v strict first previous (suc i))) (doc-same i (omega arith)) ∙ ap (ltb (docAt w strict first previous i)) (doc-same (suc i) h)
+
+  docs-right-same : (limit : ℕ) → docsRight v strict first previous n limit ≡ docsRight w strict first previous n limit
+  docs-right-same limit = every-same _ _ n (λ i h. ap (λ (z : Bool). z && ltb (docAt v strict first previous i) limit) (rises-same i h) ∙ ap (λ (z : ℕ). rises w strict first previous i && ltb z limit) (doc-same i h))
+
+module _ (file : List ℕ) (x : Part) (b : ℕ) where
+  first-is : eqb b 0 ≡ isFirst b
+  first-is = go b
+    where
+      go : (b : ℕ) → eqb b 0 ≡ isFirst b
+      go zero = refl
+      go (suc b) = ne-eqb (suc b) 0 (λ q. omega arith)
+
+  pub doc-is : (i : ℕ) → blockDoc file x b i ≡ docAt (docValue file x b) (strictIn file x b) (isFirst b) (previousDoc file x b) i
+  unfolding blockDoc
+  doc-is = go b
+    where
+      go : (b i : ℕ) → blockDoc file x b i ≡ docAt (docValue file x b) (strictIn file x b) (isFirst b) (previousDoc file x b) i
+      go zero i = refl
+      go (suc b) i = refl
+
+  -- summed values that are the block's
+  module _ {vs out : List ℕ} {n : ℕ} {strict r : Bool} {previous limit : ℕ} (C : Checked vs n strict (eqb b 0) previous limit r out) (top : n ≤ 128) (size : n ≡ blockSize x b)
+      (values : (i : ℕ) → i < n → getD vs i 0 ≡ docValue file x b i) (es : strict ≡ strictIn file x b) (ep : previous ≡ previousDoc file x b) (el : limit ≡ documents file) (few : limit ≤ 1048576) where
+    pub rise-is : r ≡ docsRise file x b
+    unfolding docsRise
+    rise-is = C .same ∙ docs-right-same _ (docValue file x b) strict (eqb b 0) previous n values limit ∙ rw (size, es, ep, el, first-is)
+
+    pub docs-are : r ≡ true → (i : ℕ) → i < n → getD out i 0 ≡ blockDoc file x b i
+    docs-are t i h =
+        right-word n limit (C .summed) top (omega arith) (sym (C .same) ∙ t) i h ∙ doc-same _ (docValue file x b) strict (eqb b 0) previous n values i h
+        ∙ rw (es, ep, first-is) (sym (doc-is i))
+
+  -- and without a test, where the block is right
+  pub docs-loaded : {vs out : List ℕ} {n : ℕ} {strict : Bool} {previous : ℕ} → Summed vs strict (eqb b 0) previous out → n ≤ 128 → n ≡ blockSize x b → ((i : ℕ) → i < n → getD vs i 0 ≡ docValue file x b i)
+      → strict ≡ strictIn file x b → BlockRight file x b previous → (i : ℕ) → i < n → getD out i 0 ≡ blockDoc file x b i
+  unfolding blockDocsRight
+  docs-loaded {vs} {out} {n} {strict} {previous} S top size values es B =
+      let C : Checked vs n strict (eqb b 0) previous (documents file) (docsRight (λ k. getD vs k 0) strict (eqb b 0) previous n (documents file)) out = record { summed = S; same = refl } in
+      docs-are C top size values es (B .previous-is) refl (B .few) (rise-is C top size values es (B .previous-is) refl (B .few) ∙ first-true (docsRise file x b) (lastRight file x b) (B .docs))
+
+  -- counted values that are the block's
+  module _ {vs out : List ℕ} {n : ℕ} {strict r : Bool} (C : Counted vs n strict r out) (size : n ≡ blockSize x b) (values : (i : ℕ) → i < n → getD vs i 0 ≡ freqValue file x b i) (es : strict ≡ strictIn file x b) where
+    freq-is : (i : ℕ) → i < n → getD vs i 0 + gapOf strict ≡ blockFreq file x b i
+    unfolding blockFreq
+    freq-is i h = rw (values i h, es)
+
+    pub freqs-are : FreqsRead file x b r out
+    unfolding blockFreqsRight
+    freqs-are = record {
+      same = C .same ∙ every-same _ _ n (λ i h. ap freqRight (freq-is i h)) ∙ ap (λ n. every n (λ i. freqRight (blockFreq file x b i))) size;
+      long = C .long;
+      at = λ t i h. right-freq C t i (omega (arith, size)) ∙ freq-is i (omega (arith, size));
+    }

@@ -1,0 +1,101 @@
+-- Full blocks: unpacked values are the block's, and what the readers leave of them.
+use mathlib.Core.Path.{_≡_, sym, ap, _∙_}
+use mathlib.Core.Bool.{Bool, true, false, _&&_, cond, true≢false}
+use mathlib.Core.List.{List}
+use Prim.Native.Nat.{ℕ, _+_, _*_, _≤_, _<_}
+use native.Mathlib.Nat.{mod-lt, lt-of-lt-of-le}
+use native.Mathlib.Omega.{arith}
+use lib.Dec.{eqb}
+use lib.ListN.{length, getD}
+use lib.Pow.{pow-pos, pow-mono}
+use borrow.Author.Tests.{lt-ltb}
+use Rattle.bitpacker.specs.Packed.{packedAt, Unpacked}
+use Rattle.compression.specs.Documents.{Summed, Checked}
+use Rattle.compression.specs.Frequencies.{Counted}
+use Rattle.notefile.specs.Header.{documents}
+use Rattle.notefile.specs.Skips.{lastDoc, docWidth, strictBlock, freqWidth, skipEntryOf}
+use Rattle.notefile.specs.Lists.{fullBlocks, tailSize, isFull, blockSize, docValue, freqValue, strictIn, previousDoc}
+use Rattle.notefile.specs.Conditions.{docsRise, lastRight, blockDocsRight}
+use Rattle.notefile.specs.Given.{PackedIn, BlockRight}
+use Rattle.notefile.specs.Reads.{DocsRead, FreqsRead, Loaded}
+use Rattle.notefile.specs.declared.part.Part.{Part}
+use Rattle.notefile.specs.declared.skip.SkipEntry.{SkipEntry}
+use Rattle.notefile.proofs.Decoded.{rise-is, docs-are, docs-loaded, freqs-are}
+
+pub full-size : (x : Part) (b : ℕ) → b < fullBlocks x → 128 ≡ blockSize x b
+full-size x b h = sym (ap (λ (z : Bool). cond z 128 (tailSize x)) (lt-ltb b (fullBlocks x) h))
+
+-- a full block
+module _ {file : List ℕ} {x : Part} {b at : ℕ} (P : PackedIn file x b at) (e : SkipEntry) (ee : e ≡ skipEntryOf file x b) where
+  is-full : isFull x b ≡ true
+  is-full = lt-ltb b (fullBlocks x) (P .full)
+
+  size-full : 128 ≡ blockSize x b
+  size-full = full-size x b (P .full)
+
+  strict-is : e .strict ≡ strictIn file x b
+  unfolding skipEntryOf
+  strict-is = ap (λ (z : SkipEntry). z .strict) ee ∙ sym (ap (λ (z : Bool). z && strictBlock file x b) is-full)
+
+  width-is : e .width ≡ docWidth file x b
+  unfolding skipEntryOf
+  width-is = ap (λ (z : SkipEntry). z .width) ee
+
+  freqs-is : e .freqs ≡ freqWidth file x b
+  unfolding skipEntryOf
+  freqs-is = ap (λ (z : SkipEntry). z .freqs) ee
+
+  last-is : e .last ≡ lastDoc file x b
+  unfolding skipEntryOf
+  last-is = ap (λ (z : SkipEntry). z .last) ee
+
+  pub docs-in : (e .width ≤ 32) × (at + 16 * e .width ≤ length file)
+  docs-in = (omega (arith, width-is), omega (arith, width-is, P .inside))
+
+  pub freqs-in : (e .freqs ≤ 32) × (at + 16 * e .width + 16 * e .freqs ≤ length file)
+  freqs-in = (omega (arith, freqs-is, P .narrow), omega (arith, width-is, freqs-is, P .inside))
+
+  -- a packed value is below 2 to its width
+  pub small : {p w : ℕ} {vs : List ℕ} → w ≤ 32 → Unpacked file p w vs → (k : ℕ) → k < 128 → getD vs k 0 < 4294967296
+  unfolding packedAt
+  small h U k l = rw (U .values k l) (lt-of-lt-of-le (mod-lt _ (pow-pos _)) (pow-mono {j = 32} h))
+
+  module _ {vs : List ℕ} (U : Unpacked file at (e .width) vs) where
+    doc-values : (i : ℕ) → i < 128 → getD vs i 0 ≡ docValue file x b i
+    unfolding docValue
+    doc-values i h = U .values i h ∙ rw (P .place, width-is, is-full)
+
+    module _ {out : List ℕ} {r : Bool} {previous limit : ℕ} (ep : previous ≡ previousDoc file x b) (el : limit ≡ documents file) (few : limit ≤ 1048576) (C : Checked vs 128 (e .strict) (eqb b 0) previous limit r out) where
+      rise : r ≡ docsRise file x b
+      rise = rise-is file x b C (omega arith) size-full doc-values strict-is ep el few
+
+      pub docs-fall : r ≡ false → DocsRead file x b false out
+      unfolding blockDocsRight
+      docs-fall f = record { same = sym (ap (λ (z : Bool). z && lastRight file x b) (sym rise ∙ f)); at = λ t. absurd (true≢false (sym t)) }
+
+      pub docs-end : r ≡ true → DocsRead file x b (eqb (getD out 127 0) (e .last)) out
+      unfolding blockDocsRight lastRight
+      docs-end t =
+          let D = docs-are file x b C (omega arith) size-full doc-values strict-is ep el few t in
+          record {
+            same = rw (D 127 (omega arith), last-is) (sym (ap (λ (z : Bool). z && lastRight file x b) (sym rise ∙ t) ∙ rw is-full));
+            at = λ _ i h. D i (omega (arith, size-full));
+          }
+
+  pub freqs-counted : {vs out : List ℕ} {r : Bool} → Unpacked file (at + 16 * e .width) (e .freqs) vs → Counted vs 128 (e .strict) r out → FreqsRead file x b r out
+  unfolding freqValue
+  freqs-counted {vs} U C = freqs-are file x b C size-full values strict-is
+    where
+      values : (i : ℕ) → i < 128 → getD vs i 0 ≡ freqValue file x b i
+      values i h = U .values i h ∙ rw (P .place, width-is, freqs-is, is-full)
+
+  -- a full block has nothing past its end
+  pub packed-loaded : {vs docs freqs : List ℕ} {r : Bool} {previous : ℕ} → Unpacked file at (e .width) vs → Summed vs (e .strict) (eqb b 0) previous docs → FreqsRead file x b r freqs → BlockRight file x b previous → Loaded file x b docs freqs
+  packed-loaded U S F B = record {
+    long-docs = S .long;
+    long-freqs = F .long;
+    doc-at = λ i h. docs-loaded file x b S (omega arith) size-full (doc-values U) strict-is B i (omega (arith, size-full));
+    freq-at = F .at (F .same ∙ B .freqs);
+    docs-past = λ i h l. absurd (omega (arith, size-full));
+    freqs-past = λ i h l. absurd (omega (arith, size-full));
+  }

@@ -1,0 +1,88 @@
+-- The tail: the values of its VInts are the block's, and what the readers leave of them.
+use mathlib.Core.Path.{_≡_, refl, sym, ap, _∙_}
+use mathlib.Core.Bool.{Bool, true, false, _&&_, cond}
+use mathlib.Core.List.{List}
+use Prim.Native.Nat.{ℕ, _+_, _≤_, _<_}
+use native.Mathlib.Nat.{add-zero, le-refl}
+use native.Mathlib.Omega.{arith}
+use lib.Dec.{eqb, ltb}
+use lib.ListN.{getD}
+use borrow.Author.Tests.{le-ltb, ltb-true}
+use Rattle.codec.specs.VInt.{pick, capped, valueOf, vintFrom, vintAt}
+use Rattle.codec.specs.VInts.{vintPlace, vintValue}
+use Rattle.codec.specs.declared.vint.VInt.{VInt}
+use Rattle.codec.specs.declared.vint.VInt.the-variants.{Value, Broken}
+use Rattle.compression.specs.Documents.{gapOf, Summed, Checked}
+use Rattle.compression.specs.Frequencies.{Counted}
+use Rattle.notefile.specs.Header.{documents}
+use Rattle.notefile.specs.Skips.{strictBlock}
+use Rattle.notefile.specs.Lists.{fullBlocks, tailSize, isFull, blockSize, tailAt, tailFreqsAt, docValue, freqValue, strictIn, previousDoc, blockFreq}
+use Rattle.notefile.specs.Conditions.{docsRise, lastRight, blockDocsRight}
+use Rattle.notefile.specs.Given.{BlockRight}
+use Rattle.notefile.specs.Reads.{TailValues, DocsRead, FreqsRead, Padded, Loaded}
+use Rattle.notefile.specs.declared.part.Part.{Part}
+use Rattle.notefile.proofs.Decoded.{rise-is, docs-are, docs-loaded, freqs-are}
+
+-- a value of a VInt is below 2 ^ 32
+capped-small : (v : VInt) → valueOf (capped v) < 4294967296
+capped-small (Value v next) = go (ltb v 4294967296) refl
+  where
+    go : (t : Bool) → ltb v 4294967296 ≡ t → valueOf (pick t (Value v next) Broken) < 4294967296
+    go true e = ltb-true v 4294967296 e
+    go false e = omega arith
+capped-small Broken = omega arith
+
+value-small : (s : List ℕ) (e p k : ℕ) → vintValue s e p k < 4294967296
+unfolding vintValue vintAt
+value-small s e p k = capped-small (vintFrom 5 s e (vintPlace s e p k))
+
+-- the tail
+module _ {file : List ℕ} {x : Part} {docs freqs : List ℕ} (R : TailValues file x docs freqs) where
+  abbrev tail : ℕ
+  tail = fullBlocks x
+
+  not-full : isFull x tail ≡ false
+  not-full = le-ltb tail tail (le-refl tail)
+
+  pub size-tail : tailSize x ≡ blockSize x tail
+  size-tail = sym (ap (λ (z : Bool). cond z 128 (tailSize x)) not-full)
+
+  strict-tail : false ≡ strictIn file x tail
+  strict-tail = sym (ap (λ (z : Bool). z && strictBlock file x tail) not-full)
+
+  pub docs-small : (k : ℕ) → k < tailSize x → getD docs k 0 < 4294967296
+  unfolding docValue
+  docs-small k h = rw (R .doc-at k h, not-full) (value-small file (x .end) (tailAt file x) k)
+
+  pub freqs-small : (k : ℕ) → k < tailSize x → getD freqs k 0 < 4294967296
+  unfolding freqValue
+  freqs-small k h = rw (R .freq-at k h, not-full) (value-small file (x .end) (tailFreqsAt file x) k)
+
+  last-tail : lastRight file x tail ≡ true
+  unfolding lastRight
+  last-tail = rw not-full
+
+  pub docs-tail : {out : List ℕ} {r : Bool} {previous limit : ℕ} → previous ≡ previousDoc file x tail → limit ≡ documents file → limit ≤ 1048576 → Checked docs (tailSize x) false (eqb tail 0) previous limit r out → DocsRead file x tail r out
+  unfolding blockDocsRight
+  docs-tail ep el few C = record {
+    same = rise-is file x tail C (omega arith) size-tail (R .doc-at) strict-tail ep el few ∙ sym (ap (λ (z : Bool). docsRise file x tail && z) last-tail ∙ and-one (docsRise file x tail));
+    at = λ t i h. docs-are file x tail C (omega arith) size-tail (R .doc-at) strict-tail ep el few t i (omega (arith, size-tail));
+  }
+    where
+      and-one : (z : Bool) → z && true ≡ z
+      and-one true = refl
+      and-one false = refl
+
+  pub freqs-tail : {out : List ℕ} {r : Bool} → Counted freqs (tailSize x) false r out → FreqsRead file x tail r out
+  freqs-tail C = freqs-are file x tail C size-tail (R .freq-at) strict-tail
+
+  pub tail-loaded : {sums out outf : List ℕ} {previous : ℕ} → Summed docs false (eqb tail 0) previous sums → BlockRight file x tail previous → Padded sums (tailSize x) out → Padded freqs (tailSize x) outf → Loaded file x tail out outf
+  unfolding blockFreq
+  tail-loaded S B P Q = record {
+    long-docs = P .long;
+    long-freqs = Q .long;
+    doc-at = λ i h. P .kept i (omega (arith, size-tail)) ∙ docs-loaded file x tail S (omega arith) size-tail (R .doc-at) strict-tail B i (omega (arith, size-tail));
+    freq-at = λ i h. Q .kept i (omega (arith, size-tail)) ∙ R .freq-at i (omega (arith, size-tail)) ∙ sym (ap (λ (z : Bool). freqValue file x tail i + gapOf z) (sym strict-tail) ∙ add-zero (freqValue file x tail i));
+    docs-past = λ i h l. P .past i (omega (arith, size-tail)) l;
+    freqs-past = λ i h l. Q .past i (omega (arith, size-tail)) l;
+  }

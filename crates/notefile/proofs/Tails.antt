@@ -1,0 +1,101 @@
+-- The tail's VInts: what the tests of condition 6 find, in its order.
+use mathlib.Core.Path.{_≡_, refl, sym, ap, _∙_}
+use mathlib.Core.Bool.{Bool, true, false, _&&_, true≢false}
+use mathlib.Core.List.{List}
+use Prim.Native.Nat.{ℕ, suc, _≤_, _<_}
+use native.Mathlib.Nat.{le-refl}
+use native.Mathlib.Omega.{arith}
+use lib.Dec.{eqb}
+use lib.ListN.{getD}
+use borrow.Author.Tests.{le-leb, lt-leb, le-ltb}
+use Rattle.arrays.specs.Every.{every}
+use Rattle.codec.specs.VInts.{vintPlace, vintValue, vintWhole, endOr, VIntsRead}
+use Rattle.codec.specs.declared.vint.VInts.{VInts}
+use Rattle.codec.specs.declared.vint.VInts.the-variants.{End, Broken}
+use Rattle.arrays.proofs.Every.{each, all}
+use Rattle.notefile.specs.Lists.{fullBlocks, tailSize, isFull, tailAt, tailFreqsAt, docValue, freqValue}
+use Rattle.notefile.specs.Conditions.{postingsRight}
+use Rattle.notefile.specs.Reads.{TailRead}
+use Rattle.notefile.specs.declared.part.Part.{Part}
+
+-- what an answer of the VInts says
+broke : (z : Bool) (p : ℕ) {r : VInts} → r ≡ endOr z p → r ≡ Broken → z ≡ false
+broke true p e f = cc
+broke false p e f = refl
+
+whole : (z : Bool) (p : ℕ) {q : ℕ} {r : VInts} → r ≡ endOr z p → r ≡ End q → z ≡ true
+whole true p e f = refl
+whole false p e f = cc
+
+ends : (z : Bool) (p : ℕ) {q : ℕ} {r : VInts} → r ≡ endOr z p → r ≡ End q → q ≡ p
+ends true p e f = cc
+ends false p e f = cc
+
+-- all of a row's values, where all are whole
+row : {s : List ℕ} {e p n : ℕ} {vs out : List ℕ} {r : VInts} → VIntsRead s e p n vs r out → every n (vintWhole s e p) ≡ true → (i : ℕ) → i < n → getD out i 0 ≡ vintValue s e p i
+row {s} {e} {p} {n} R w i h = R .values i h (all (vintWhole s e p) (suc i) (λ k l. each (vintWhole s e p) n k w (omega arith)))
+
+-- the parts of condition 6
+module _ (file : List ℕ) (x : Part) where
+  abbrev docs-whole : Bool
+  docs-whole = every (tailSize x) (vintWhole file (x .end) (tailAt file x))
+
+  abbrev freqs-whole : Bool
+  freqs-whole = every (tailSize x) (vintWhole file (x .end) (tailFreqsAt file x))
+
+  abbrev fills : Bool
+  fills = eqb (vintPlace file (x .end) (tailFreqsAt file x) (tailSize x)) (x .end)
+
+module _ (file : List ℕ) (x : Part) {at : ℕ} (ea : at ≡ tailAt file x) where
+  wrong : {docs freqs : List ℕ} → postingsRight file x ≡ false → TailRead file x false docs freqs
+  wrong e = record { same = sym e; values = λ t. absurd (true≢false (sym t)) }
+
+  pub past-end : {docs freqs : List ℕ} → x .end < at → TailRead file x false docs freqs
+  unfolding postingsRight
+  past-end l = wrong (rw (lt-leb (tailAt file x) (x .end) (omega arith)))
+
+  module _ (inside : at ≤ x .end) {before docs : List ℕ} {r : VInts} (R : VIntsRead file (x .end) at (tailSize x) before r docs) where
+    rest-is : postingsRight file x ≡ docs-whole file x && (freqs-whole file x && fills file x)
+    unfolding postingsRight
+    rest-is = rw (le-leb (tailAt file x) (x .end) (omega arith))
+
+    same-1 : r ≡ endOr (docs-whole file x) (tailFreqsAt file x)
+    same-1 = rw ea at (R .same)
+
+    pub docs-broken : {freqs : List ℕ} → r ≡ Broken → TailRead file x false docs freqs
+    docs-broken b = wrong (rest-is ∙ ap (λ (z : Bool). z && (freqs-whole file x && fills file x)) (broke (docs-whole file x) _ same-1 b))
+
+    module _ {middle : ℕ} (m : r ≡ End middle) {before2 freqs : List ℕ} {r2 : VInts} (R2 : VIntsRead file (x .end) middle (tailSize x) before2 r2 freqs) where
+      whole-1 : docs-whole file x ≡ true
+      whole-1 = whole (docs-whole file x) _ same-1 m
+
+      mid : middle ≡ tailFreqsAt file x
+      mid = ends (docs-whole file x) _ same-1 m
+
+      then-is : postingsRight file x ≡ freqs-whole file x && fills file x
+      then-is = rest-is ∙ ap (λ (z : Bool). z && (freqs-whole file x && fills file x)) whole-1
+
+      same-2 : r2 ≡ endOr (freqs-whole file x) (vintPlace file (x .end) (tailFreqsAt file x) (tailSize x))
+      same-2 = rw mid at (R2 .same)
+
+      pub freqs-broken : r2 ≡ Broken → TailRead file x false docs freqs
+      freqs-broken b = wrong (then-is ∙ ap (λ (z : Bool). z && fills file x) (broke (freqs-whole file x) _ same-2 b))
+
+      module _ {last : ℕ} (l : r2 ≡ End last) where
+        whole-2 : freqs-whole file x ≡ true
+        whole-2 = whole (freqs-whole file x) _ same-2 l
+
+        no-more : isFull x (fullBlocks x) ≡ false
+        no-more = le-ltb (fullBlocks x) (fullBlocks x) (le-refl (fullBlocks x))
+
+        pub filled : TailRead file x (eqb last (x .end)) docs freqs
+        unfolding docValue freqValue
+        filled = record {
+          same = sym (then-is ∙ ap (λ (z : Bool). z && fills file x) whole-2 ∙ ap (λ (z : ℕ). eqb z (x .end)) (sym (ends (freqs-whole file x) _ same-2 l)));
+          values = λ _. record {
+            long-docs = R .long;
+            long-freqs = R2 .long;
+            doc-at = λ i h. (rw ea at (row R (rw ea whole-1) i h)) ∙ rw no-more;
+            freq-at = λ i h. (rw mid at (row R2 (rw mid whole-2) i h)) ∙ rw no-more;
+          };
+        }

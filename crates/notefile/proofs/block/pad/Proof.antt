@@ -1,0 +1,48 @@
+-- `block::pad` meets its contract: each turn fills one place.
+use Prim.Native.Nat.{_-_}
+use native.Mathlib.Omega.{arith}
+use borrow.Author.Needs.{needs}
+use Rattle.notefile.proofs.Padding.{Padding, begun, one-padded, all-padded}
+use Rattle.notefile.proofs.block.pad.Statement.{statement}
+use Rattle.notefile.proofs.block.pad.Tie as tie
+
+abbrev Inv-loop : tie.InvT-loop
+Inv-loop values₀ n i₀ values i = Padding values₀ n values i
+
+abbrev μ-loop : tie.MeasureT-loop
+μ-loop values₀ n i₀ values i = 128 - i
+
+loop-holds : tie.Need-loop-holds Inv-loop μ-loop
+loop-holds c = begun _ _ (c .pre)
+
+mul-values : tie.Need-mul-values Inv-loop μ-loop
+mul-values c = search needs
+
+element-write-values : tie.Need-element-write-values Inv-loop μ-loop
+element-write-values c = omega (arith, c .before .loop .inv .long)
+
+add-i : tie.Need-add-i Inv-loop μ-loop
+add-i c = search needs
+
+loop-less : tie.Need-loop-less Inv-loop μ-loop
+loop-less c = search needs
+
+loop-again : tie.Need-loop-again Inv-loop μ-loop
+loop-again c = one-padded (c .before .loop .inv) (c .loop-test .taken)
+
+returns : tie.Need-returns Inv-loop μ-loop
+returns c = all-padded (c .before .loop .inv) (c .loop-test .left)
+
+pub pad-spec : {M : Type 1} → statement M
+pad-spec =
+    tie.close
+    (tie.spec
+    Inv-loop
+    μ-loop
+    loop-holds
+    mul-values
+    element-write-values
+    add-i
+    loop-less
+    loop-again
+    returns)

@@ -1,0 +1,50 @@
+-- `block::read_tail` meets its contract: the tests are those of condition 6, in its order.
+use borrow.Author.Needs.{needs}
+use Rattle.notefile.proofs.Tails.{past-end, docs-broken, freqs-broken, filled}
+use Rattle.notefile.proofs.block.read_tail.Statement.{statement}
+use Rattle.notefile.proofs.block.read_tail.Tie as tie
+
+returns : tie.Need-returns
+returns c = let a = c .before .before .before in past-end (a .args .file .now) (a .args .x) (a .pre .1) (c .if1 .taken)
+
+read-vints-requires : tie.Need-read-vints-requires
+read-vints-requires c κs = search needs
+
+enum-known-first : tie.Need-enum-known-first
+enum-known-first c = search needs
+
+enum-told : tie.Need-enum-told
+enum-told c = search needs
+
+returns-2 : tie.Need-returns-2
+returns-2 c = let v = c .before .before in let a = v .before .before .before .before .before .before in docs-broken (a .args .file .now) (a .args .x) (a .pre .1) (v .before .before .before .if1 .left) (v .read-vints .ensures) (c .enum-told .given .1)
+
+read-vints-requires-2 : tie.Need-read-vints-requires-2
+read-vints-requires-2 c κs = search needs
+
+enum-known-second : tie.Need-enum-known-second
+enum-known-second c = search needs
+
+enum-told-2 : tie.Need-enum-told-2
+enum-told-2 c = search needs
+
+returns-3 : tie.Need-returns-3
+returns-3 c = let w = c .before .before in let v = w .before .before .before .before .before in let a = v .before .before .before .before .before .before in freqs-broken (a .args .file .now) (a .args .x) (a .pre .1) (v .before .before .before .if1 .left) (v .read-vints .ensures) (w .before .before .before .first .given .1) (w .read-vints2 .ensures) (c .enum-told2 .given .1)
+
+returns-4 : tie.Need-returns-4
+returns-4 c = let w = c .before .before .before .before in let v = w .before .before .before .before .before in let a = v .before .before .before .before .before .before in filled (a .args .file .now) (a .args .x) (a .pre .1) (v .before .before .before .if1 .left) (v .read-vints .ensures) (w .before .before .before .first .given .1) (w .read-vints2 .ensures) (c .before .before .second .given .1)
+
+pub read-tail-spec : {M : Type 1} → statement M
+read-tail-spec =
+    tie.close
+    (tie.spec
+    returns
+    read-vints-requires
+    enum-known-first
+    enum-told
+    returns-2
+    read-vints-requires-2
+    enum-known-second
+    enum-told-2
+    returns-3
+    returns-4)

@@ -1,0 +1,75 @@
+-- What the functions that read a file leave and answer.
+use mathlib.Core.Path.{_≡_}
+use mathlib.Core.Bool.{Bool, true, false, not, cond}
+use mathlib.Core.List.{List}
+use Prim.Native.Nat.{ℕ, _≤_, _<_}
+use lib.Dec.{eqb, ltb}
+use lib.ListN.{length, getD}
+use lib.Ieee.{Float, lt}
+use Rattle.arrays.specs.Every.{every}
+use Rattle.notefile.specs.Header.{normCodeOf}
+use Rattle.notefile.specs.Lists.{fullBlocks, tailSize, blockSize, docValue, freqValue, blockDoc, blockFreq, scoreFor}
+use Rattle.notefile.specs.Conditions.{postingsRight, blockDocsRight, blockFreqsRight, boundsRight}
+use Rattle.notefile.specs.Refusal.{firstOf}
+use Rattle.notefile.specs.declared.part.Part.{Part}
+use Rattle.notefile.specs.declared.skip.TailPlace.{TailPlace}
+use Rattle.notefile.specs.declared.skip.TailPlace.the-variants.{At, Wrong}
+
+-- where the tail starts, if the skip entries are right
+abbrev pub tailOr : Bool → ℕ → TailPlace
+tailOr true at = At at
+tailOr false at = Wrong
+
+-- whether a bound lies below none of n scores
+abbrev pub allCovered : Float → ℕ → (ℕ → Float) → Bool
+allCovered bound n score = every n (λ i. not (lt bound (score i)))
+
+-- the scores of a list's postings, by their documents and frequencies
+abbrev pub scoreAmong : List ℕ → Part → List ℕ → List ℕ → ℕ → Float
+scoreAmong file x docs freqs i = scoreFor x (normCodeOf file (getD docs i 0)) (getD freqs i 0)
+
+-- a block's documents, and whether condition 7 is not met by them
+pub record DocsRead (file : List ℕ) (x : Part) (b : ℕ) (r : Bool) (docs : List ℕ) : Type 0 where
+  pub same : r ≡ blockDocsRight file x b
+  pub at : r ≡ true → (i : ℕ) → i < blockSize x b → getD docs i 0 ≡ blockDoc file x b i
+
+-- a block's frequencies, and whether condition 8 is not met by them
+pub record FreqsRead (file : List ℕ) (x : Part) (b : ℕ) (r : Bool) (freqs : List ℕ) : Type 0 where
+  pub same : r ≡ blockFreqsRight file x b
+  pub long : length freqs ≡ 128
+  pub at : r ≡ true → (i : ℕ) → i < blockSize x b → getD freqs i 0 ≡ blockFreq file x b i
+
+-- the values of the tail's VInts
+pub record TailValues (file : List ℕ) (x : Part) (docs freqs : List ℕ) : Type 0 where
+  pub long-docs : length docs ≡ 128
+  pub long-freqs : length freqs ≡ 128
+  pub doc-at : (i : ℕ) → i < tailSize x → getD docs i 0 ≡ docValue file x (fullBlocks x) i
+  pub freq-at : (i : ℕ) → i < tailSize x → getD freqs i 0 ≡ freqValue file x (fullBlocks x) i
+
+-- these, and whether condition 6 is not met by them
+pub record TailRead (file : List ℕ) (x : Part) (r : Bool) (docs freqs : List ℕ) : Type 0 where
+  pub same : r ≡ postingsRight file x
+  pub values : r ≡ true → TailValues file x docs freqs
+
+-- values with TERMINATED from place n on
+pub record Padded (before : List ℕ) (n : ℕ) (out : List ℕ) : Type 0 where
+  pub long : length out ≡ 128
+  pub kept : (i : ℕ) → i < n → getD out i 0 ≡ getD before i 0
+  pub past : (i : ℕ) → n ≤ i → i < 128 → getD out i 0 ≡ 2147483647
+
+-- a loaded block: its documents and frequencies, and TERMINATED past its end
+pub record Loaded (file : List ℕ) (x : Part) (b : ℕ) (docs freqs : List ℕ) : Type 0 where
+  pub long-docs : length docs ≡ 128
+  pub long-freqs : length freqs ≡ 128
+  pub doc-at : (i : ℕ) → i < blockSize x b → getD docs i 0 ≡ blockDoc file x b i
+  pub freq-at : (i : ℕ) → i < blockSize x b → getD freqs i 0 ≡ blockFreq file x b i
+  pub docs-past : (i : ℕ) → blockSize x b ≤ i → i < 128 → getD docs i 0 ≡ 2147483647
+  pub freqs-past : (i : ℕ) → blockSize x b ≤ i → i < 128 → getD freqs i 0 ≡ 2147483647
+
+-- what one block is refused for, of 7 to 9
+abbrev pub blockRefusal : List ℕ → Part → ℕ → ℕ
+blockRefusal file x b = firstOf (blockDocsRight file x b) (blockFreqsRight file x b) (boundsRight file x b)
+
+-- the lower of two refusals, where 0 is none
+abbrev pub lower : ℕ → ℕ → ℕ
+lower a b = cond (eqb a 0) b (cond (eqb b 0) a (cond (ltb b a) b a))

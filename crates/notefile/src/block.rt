@@ -1,0 +1,148 @@
+// The blocks of a list: read with the tests of conditions 6 to 8, or loaded without them.
+ghost use mathlib.Core.Path.{_≡_};
+ghost use mathlib.Core.Bool.{true};
+ghost use Prim.Native.Nat.{_≤_};
+ghost use lib.ListN.{length};
+ghost use Rattle.notefile.specs.Header.{documents};
+ghost use Rattle.notefile.specs.Skips.{skipEntryOf};
+ghost use Rattle.notefile.specs.Lists.{fullBlocks, previousDoc, tailAt};
+ghost use Rattle.notefile.specs.Conditions.{postingsRight};
+ghost use Rattle.notefile.specs.Given.{BlockRight, PackedIn, Skipped};
+ghost use Rattle.notefile.specs.Reads.{DocsRead, FreqsRead, Loaded, Padded, TailRead};
+use crate::part::Part;
+use crate::skip::SkipEntry;
+use crate::skip::read_skip_entry;
+use bitpacker::unpack;
+use codec::vint::VInts;
+use codec::vint::read_vints;
+use compression::documents::documents;
+use compression::documents::sums;
+use compression::frequencies::frequencies;
+
+pub const TERMINATED: u32 = 2147483647;
+
+// The documents of full block b, and whether condition 7 is not met by them.
+pub fn packed_docs(
+    file: &[u8],
+    x: Part,
+    b: usize,
+    at: usize,
+    e: SkipEntry,
+    previous: u32,
+    limit: u32,
+    docs: &mut [u32; 128],
+) -> bool
+    requires { ⌜ PackedIn (now file) x b at × (e ≡ skipEntryOf (now file) x b) × (previous ≡ previousDoc (now file) x b) × (limit ≡ documents (now file)) × (limit ≤ 1048576)
+        × (length (now docs) ≡ 128) ⌝ }
+    ensures { λ r. ⌜ DocsRead (now (file .entry)) x b r (now (docs .exit)) ⌝ }
+{
+    unpack(file, at, e.width, docs);
+    if documents(docs, 128, e.strict, b == 0, previous, limit) {
+        let last = docs[127];
+        return last == e.last;
+    }
+    false
+}
+
+// The frequencies of full block b, and whether condition 8 is not met by them.
+pub fn packed_freqs(
+    file: &[u8],
+    x: Part,
+    b: usize,
+    at: usize,
+    e: SkipEntry,
+    freqs: &mut [u32; 128],
+) -> bool
+    requires { ⌜ PackedIn (now file) x b at × (e ≡ skipEntryOf (now file) x b) × (length (now freqs) ≡ 128) ⌝ }
+    ensures { λ r. ⌜ FreqsRead (now (file .entry)) x b r (now (freqs .exit)) ⌝ }
+{
+    unpack(file, at + 16 * (e.width as usize), e.freqs, freqs);
+    frequencies(freqs, 128, e.strict)
+}
+
+// The values of the tail's VInts, and whether condition 6 is not met by them.
+pub fn read_tail(
+    file: &[u8],
+    x: Part,
+    at: usize,
+    docs: &mut [u32; 128],
+    freqs: &mut [u32; 128],
+) -> bool
+    requires { ⌜ Skipped (now file) x × (at ≡ tailAt (now file) x) × (length (now docs) ≡ 128) × (length (now freqs) ≡ 128) ⌝ }
+    ensures { λ r. ⌜ TailRead (now (file .entry)) x r (now (docs .exit)) (now (freqs .exit)) ⌝ }
+{
+    if x.end < at {
+        return false;
+    }
+    let n = x.count % 128;
+    let first = read_vints(file, x.end, at, n, docs);
+    let VInts::End(middle) = first else {
+        return false;
+    };
+    let second = read_vints(file, x.end, middle, n, freqs);
+    let VInts::End(last) = second else {
+        return false;
+    };
+    last == x.end
+}
+
+// TERMINATED in the places from n on.
+fn pad(values: &mut [u32; 128], n: usize)
+    requires { ⌜ length (now values) ≡ 128 ⌝ }
+    ensures { λ _. ⌜ Padded (now (values .entry)) n (now (values .exit)) ⌝ }
+{
+    let mut i = n;
+    while i < 128 {
+        values[i] = TERMINATED;
+        i += 1;
+    }
+}
+
+// An array of 128 has 128 places.
+fn places(values: &[u32; 128]) -> usize
+    ensures { λ r. ⌜ (r ≡ 128) × (length (now (values .entry)) ≡ 128) ⌝ }
+{
+    (&values[..]).len()
+}
+
+// Full block b of an accepted list, loaded. `previous` is the last document before it.
+pub fn load_packed(
+    file: &[u8],
+    x: Part,
+    b: usize,
+    at: usize,
+    previous: u32,
+    docs: &mut [u32; 128],
+    freqs: &mut [u32; 128],
+)
+    requires { ⌜ PackedIn (now file) x b at × BlockRight (now file) x b previous ⌝ }
+    ensures { λ _. ⌜ Loaded (now (file .entry)) x b (now (docs .exit)) (now (freqs .exit)) ⌝ }
+{
+    places(docs);
+    places(freqs);
+    let e = read_skip_entry(file, x, b);
+    unpack(file, at, e.width, docs);
+    sums(docs, e.strict, b == 0, previous);
+    packed_freqs(file, x, b, at, e, freqs);
+}
+
+// The tail of an accepted list, loaded.
+pub fn load_tail(
+    file: &[u8],
+    x: Part,
+    at: usize,
+    previous: u32,
+    docs: &mut [u32; 128],
+    freqs: &mut [u32; 128],
+)
+    requires { ⌜ Skipped (now file) x × (at ≡ tailAt (now file) x) × (postingsRight (now file) x ≡ true) × BlockRight (now file) x (fullBlocks x) previous ⌝ }
+    ensures { λ _. ⌜ Loaded (now (file .entry)) x (fullBlocks x) (now (docs .exit)) (now (freqs .exit)) ⌝ }
+{
+    places(docs);
+    places(freqs);
+    let n = x.count % 128;
+    read_tail(file, x, at, docs, freqs);
+    sums(docs, false, x.count / 128 == 0, previous);
+    pad(docs, n);
+    pad(freqs, n);
+}

@@ -1,0 +1,89 @@
+// The header.
+ghost use mathlib.Core.Path.{_≡_};
+ghost use Prim.Native.Nat.{_≤_};
+ghost use lib.ListN.{length};
+ghost use Rattle.notefile.specs.Header.{averageBits, headerOf, normReader};
+ghost use Rattle.notefile.specs.Conditions.{headerRight};
+ghost use Rattle.notefile.specs.Given.{HeaderIn};
+use codec::bits::read_be;
+use fieldnorm::FieldNormReader;
+
+pub const HEADER_LENGTH: usize = 9;
+
+pub const ENTRY_LENGTH: usize = 13;
+
+const VERSION: u32 = 1;
+
+const MAX_LISTS: usize = 16;
+
+const MAX_DOCUMENTS: u32 = 1048576;
+
+// The header's fields but the average.
+pub struct Header {
+    pub version: u32,
+    pub kind: u32,
+    pub lists: usize,
+    pub code: u8,
+    pub documents: u32,
+    pub spare: u32,
+}
+
+pub fn read_header(file: &[u8]) -> Header
+    requires { ⌜ 9 ≤ length (now file) ⌝ }
+    ensures { λ r. ⌜ r ≡ headerOf (now (file .entry)) ⌝ }
+{
+    let x = read_be(file, 0, 5);
+    Header {
+        version: ((x >> 36) % 16) as u32,
+        kind: ((x >> 35) % 2) as u32,
+        lists: ((x >> 30) % 32) as usize,
+        code: ((x >> 22) % 256) as u8,
+        documents: ((x >> 1) % 2097152) as u32,
+        spare: (x % 2) as u32,
+    }
+}
+
+// The average field length of list l, as bits: the header has one for every list.
+pub fn read_average(file: &[u8], l: usize) -> u32
+    requires { ⌜ 9 ≤ length (now file) ⌝ }
+    ensures { λ r. ⌜ r ≡ averageBits (now (file .entry)) l ⌝ }
+{
+    read_be(file, 5, 4) as u32
+}
+
+// Whether condition 1 is not met.
+pub fn header_right(file: &[u8]) -> bool
+    ensures { λ r. ⌜ r ≡ headerRight (now (file .entry)) ⌝ }
+{
+    if file.len() < HEADER_LENGTH {
+        return false;
+    }
+    let h = read_header(file);
+    if h.version != VERSION {
+        return false;
+    }
+    if h.spare != 0 {
+        return false;
+    }
+    if h.lists > MAX_LISTS {
+        return false;
+    }
+    if h.documents > MAX_DOCUMENTS {
+        return false;
+    }
+    if h.kind == 0 {
+        return h.code == 0;
+    }
+    true
+}
+
+// Where the norm codes stand.
+pub fn norm_reader(file: &[u8], h: Header) -> FieldNormReader
+    requires { ⌜ HeaderIn (now file) h ⌝ }
+    ensures { λ r. ⌜ r ≡ normReader (now (file .entry)) ⌝ }
+{
+    if h.kind == 0 {
+        return FieldNormReader::FromData(HEADER_LENGTH + ENTRY_LENGTH * h.lists);
+    }
+    FieldNormReader::Const(h.code)
+}

@@ -1,0 +1,102 @@
+// Skip entries: one for each full block of a list.
+ghost use mathlib.Core.Path.{_≡_};
+ghost use mathlib.Core.Bool.{_&&_};
+ghost use Prim.Native.Nat.{_+_, _*_, _/_, _%_, _≤_, _<_};
+ghost use lib.Dec.{eqb, leb};
+ghost use lib.ListN.{length};
+ghost use Rattle.notefile.specs.Skips.{lastBefore, skipEntryAt, skipEntryOf};
+ghost use Rattle.notefile.specs.Lists.{fullBlocks, tailAt};
+ghost use Rattle.notefile.specs.Conditions.{skipsRight};
+ghost use Rattle.notefile.specs.Given.{Parted, Skipped};
+ghost use Rattle.notefile.specs.Reads.{tailOr};
+use crate::part::Part;
+use codec::bits::read_u32;
+use codec::bits::wide;
+
+// A skip entry. `width` and `freqs` are the widths of documents and frequencies, `norm` and `freq` the codes of the block's bound.
+pub struct SkipEntry {
+    pub last: u32,
+    pub width: u32,
+    pub strict: bool,
+    pub freqs: u32,
+    pub norm: u8,
+    pub freq: u8,
+}
+
+// Where a list's tail starts, or that its skip entries are wrong.
+pub enum TailPlace {
+    At(usize),
+    Wrong,
+}
+
+fn skip_entry_at(file: &[u8], x: Part, b: usize) -> usize
+    requires { ⌜ Skipped (now file) x × (b < fullBlocks x) ⌝ }
+    ensures { λ r. ⌜ (r ≡ skipEntryAt x b) × (8 ≤ x .entry) × (r + x .entry ≤ length (now (file .entry))) ⌝ }
+{
+    x.skips + x.entry * b
+}
+
+// Block b's skip entry.
+pub fn read_skip_entry(file: &[u8], x: Part, b: usize) -> SkipEntry
+    requires { ⌜ Skipped (now file) x × (b < fullBlocks x) ⌝ }
+    ensures { λ r. ⌜ r ≡ skipEntryOf (now (file .entry)) x b ⌝ }
+{
+    let at = skip_entry_at(file, x, b);
+    let byte = wide(file[at + 4]);
+    SkipEntry {
+        last: read_u32(file, at),
+        width: byte % 32,
+        strict: byte / 64 % 2 == 1,
+        freqs: wide(file[at + 5]),
+        norm: file[at + x.entry - 2],
+        freq: file[at + x.entry - 1],
+    }
+}
+
+// The last document before block b, by its skip entry; 0 before the first.
+pub fn last_before(file: &[u8], x: Part, b: usize) -> u32
+    requires { ⌜ Skipped (now file) x × (b ≤ fullBlocks x) ⌝ }
+    ensures { λ r. ⌜ r ≡ lastBefore (now (file .entry)) x b ⌝ }
+{
+    if b == 0 {
+        return 0;
+    }
+    read_u32(file, skip_entry_at(file, x, b - 1))
+}
+
+// Whether condition 5 is not met by a width byte and a frequency width.
+fn widths_right(byte: u32, freqs: u32) -> bool
+    ensures { λ r. ⌜ r ≡ eqb (byte / 32 % 2) 0 && (eqb (byte / 128 % 2) 0 && leb freqs 32) ⌝ }
+{
+    if byte / 32 % 2 != 0 {
+        return false;
+    }
+    if byte / 128 % 2 != 0 {
+        return false;
+    }
+    freqs <= 32
+}
+
+// Where the tail starts, if condition 5 is not met. The blocks before it may not lie in the file.
+pub fn tail_place(file: &[u8], x: Part) -> TailPlace
+    requires { ⌜ Parted (now file) x ⌝ }
+    ensures { λ r. ⌜ r ≡ tailOr (skipsRight (now (file .entry)) x) (tailAt (now (file .entry)) x) ⌝ }
+{
+    let blocks = x.count / 128;
+    if x.skips + x.entry * blocks != x.postings {
+        return TailPlace::Wrong;
+    }
+    let mut at = x.postings;
+    let mut b: usize = 0;
+    while b < blocks {
+        let e = skip_entry_at(file, x, b);
+        let byte = wide(file[e + 4]);
+        let freqs = wide(file[e + 5]);
+        if !widths_right(byte, freqs) {
+            return TailPlace::Wrong;
+        }
+        at += 16 * ((byte % 32 + freqs) as usize);
+        b += 1;
+    }
+    TailPlace::At(at)
+}
