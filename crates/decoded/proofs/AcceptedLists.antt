@@ -7,17 +7,15 @@ use native.Mathlib.Omega.{arith}
 use lib.Dec.{T, eqb, lit<}
 use lib.Ieee.{lt}
 use Rattle.floats.specs.Step.{within}
-use Rattle.codec.proofs.BitFields.{bits-lt}
-use Rattle.fieldnorm.specs.Reader.{fieldnormId}
 use Rattle.bm25.specs.declared.Scoring.the-variants.{Stepped}
 use Rattle.bm25.specs.Bound.{maxTf}
 use Rattle.bm25.proofs.Bounds.{score-within}
-use Rattle.notefile.specs.Header.{listCount, documents, normKind, readerOf, normReader, normCodeOf}
+use Rattle.notefile.specs.Header.{listCount, documents}
 use Rattle.notefile.specs.Parts.{partOf}
 use Rattle.notefile.specs.Lists.{fullBlocks, scoreFor, listScore, blockScore, blockBound, listBound}
 use Rattle.notefile.specs.Refusal.{fileRefusal}
 use Rattle.notefile.proofs.Accepted.{list-accepted, list-limits, header-right}
-use Rattle.notefile.proofs.Headers.{few-documents}
+use Rattle.notefile.proofs.Headers.{few-documents, norm-code-small}
 use Rattle.notefile.proofs.ListLaws.{list-docs-rise, list-doc-below, list-freq-right, list-score-covered, block-score-covered}
 use Rattle.route.specs.F32.{f32}
 use Rattle.route.specs.Postings.{start}
@@ -40,17 +38,9 @@ module _ (file : List ℕ) (bytes : Bytes file) (accepted : fileRefusal file ≡
       let L = list-limits file accepted l h in
       score-within _ _ code freq (subst T (sym (L .weight)) tt) (subst T (sym (L .average)) tt) c f
 
-  norm-byte : (d : ℕ) → normCodeOf file d < 256
-  unfolding normCodeOf normReader
-  norm-byte d = go (eqb (normKind file) 0)
-    where
-      go : (b : Bool) → fieldnormId (readerOf file b) file d < 256
-      go true = bytes _
-      go false = bits-lt file 10 8
-
   list-score-in : (k : ℕ) → k < partOf file l .count → T (within 1000 (listScore file (partOf file l) k))
   unfolding blockScore
-  list-score-in k g = score-in _ _ (norm-byte _) (let r = list-freq-right file (partOf file l) (list-accepted file accepted l h) k g in omega (arith, r .1))
+  list-score-in k g = score-in _ _ (norm-code-small file bytes _) (let r = list-freq-right file (partOf file l) (list-accepted file accepted l h) k g in omega (arith, r .1))
 
   block-bound-in : (b : ℕ) → T (within 1000 (blockBound file (partOf file l) b))
   unfolding blockBound
