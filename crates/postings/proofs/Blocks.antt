@@ -1,0 +1,121 @@
+-- A loaded block is the list's, from its first place on, and its documents never fall.
+use mathlib.Core.Path.{_≡_, _∙_}
+use mathlib.Core.List.{List}
+use mathlib.Core.Logic.{inl, inr}
+use Prim.Native.Nat.{ℕ, suc, _+_, _*_, _/_, _%_, _≤_, _<_}
+use native.Mathlib.Nat.{le-refl, le-of-lt}
+use native.Mathlib.Numerals.{add-one}
+use native.Mathlib.Omega.{arith}
+use lib.ListN.{getD}
+use borrow.Author.Tests.{lt-ltb, le-ltb, le-leb}
+use Rattle.arrays.specs.Holds.{Holds}
+use Rattle.arrays.proofs.Order.{lt-or-ge}
+use Rattle.arrays.proofs.Every.{all}
+use Rattle.block_search.specs.Search.{Sorted}
+use Rattle.notefile.specs.Skips.{lastBefore}
+use Rattle.notefile.specs.Lists.{fullBlocks, blockSize, blockAt}
+use Rattle.notefile.specs.Conditions.{blockDocsRight}
+use Rattle.notefile.specs.Given.{BlockRight, PackedIn}
+use Rattle.notefile.specs.Reads.{Loaded}
+use Rattle.notefile.specs.declared.part.Part.{Part}
+use Rattle.notefile.proofs.Judged.{packed-in, previous-same}
+use Rattle.notefile.proofs.ListLaws.{place-in, list-doc-below, list-docs-rise}
+use Rattle.route.specs.Postings.{start}
+use Rattle.postings.specs.Decoded.{docIn, freqIn, Decoded, ListIn}
+use Rattle.postings.specs.Reader.{Stands, remaining}
+use Rattle.postings.specs.declared.skip.SkipReader.{SkipReader}
+use Rattle.postings.proofs.Readers.{place-is, previous-is}
+
+module _ {file : List ℕ} {x : Part} (L : ListIn file x) where
+  -- the skip entry's last document serves as the previous one
+  right-block : (b : ℕ) → b ≤ fullBlocks x → BlockRight file x b (lastBefore file x b)
+  right-block b h = record {
+    few = L .few;
+    docs = L .right .docs b h;
+    freqs = L .right .freqs b h;
+    previous-is = previous-same file x b h (all (blockDocsRight file x) b (λ i m. L .right .docs i (omega arith)));
+  }
+
+  module _ (r : SkipReader) (S : Stands file x r) (h : r .block ≤ fullBlocks x) where
+    pub right-here : BlockRight file x (r .block) (r .«last_doc_in_previous_block»)
+    right-here = rw (previous-is file x r S, le-leb (r .block) (fullBlocks x) h) (right-block (r .block) h)
+
+    pub place-here : r .«byte_offset» ≡ blockAt file x (r .block)
+    place-here = place-is file x r S ∙ rw (le-leb (r .block) (fullBlocks x) h)
+
+  pub full-here : (r : SkipReader) → Stands file x r → r .block < fullBlocks x → PackedIn file x (r .block) (r .«byte_offset»)
+  full-here r S h = packed-in file x (L .blocks) h (place-here r S (omega arith))
+
+-- what is left of a list that has no full block from here on is its tail
+pub on-tail : (x : Part) (r : SkipReader) {n : ℕ} → (fullBlocks x ≤ r .block) × (n ≡ remaining x (r .block)) → (n ≡ 0 → ⊥) → r .block ≡ fullBlocks x
+on-tail x r {n} T h = elim (lt-or-ge (fullBlocks x) (r .block)) [
+  | inl l ↦ absurd (h (T .1 ∙ omega arith))
+  | inr l ↦ omega (arith, T .0)
+]
+
+-- a place of block b, in the block
+module _ (x : Part) (b i : ℕ) (h : b ≤ fullBlocks x) (k : i < 128) where
+  number-in : (start 128 b + i) / 128 ≡ b
+  unfolding start
+  number-in = omega arith
+
+  rest-in : (start 128 b + i) % 128 ≡ i
+  unfolding start
+  rest-in = omega arith
+
+  -- a posting is in its block
+  within : start 128 b + i < x .count → i < blockSize x b
+  within l = rw (number-in, rest-in) at (place-in x (start 128 b + i) l)
+
+  -- and past the last there is the tail's padding only
+  past : x .count ≤ start 128 b + i → blockSize x b ≤ i
+  unfolding start
+  past l =
+      let t : fullBlocks x ≤ b = omega arith in
+      rw (le-ltb b (fullBlocks x) t) (omega arith)
+
+module _ {file : List ℕ} {x : Part} {b : ℕ} {docs freqs : List ℕ} (h : b ≤ fullBlocks x) (D : Loaded file x b docs freqs) where
+  loaded-doc : (i : ℕ) → i < 128 → getD docs i 0 ≡ docIn file x (start 128 b + i)
+  loaded-doc i k = elim (lt-or-ge (start 128 b + i) (x .count)) [
+    | inl l ↦ rw (lt-ltb (start 128 b + i) (x .count) l, number-in x b i h k, rest-in x b i h k) (D .doc-at i (within x b i h k l))
+    | inr l ↦ rw (le-ltb (start 128 b + i) (x .count) l) (D .docs-past i (past x b i h k l) k)
+  ]
+
+  loaded-freq : (i : ℕ) → i < 128 → getD freqs i 0 ≡ freqIn file x (start 128 b + i)
+  loaded-freq i k = elim (lt-or-ge (start 128 b + i) (x .count)) [
+    | inl l ↦ rw (lt-ltb (start 128 b + i) (x .count) l, number-in x b i h k, rest-in x b i h k) (D .freq-at i (within x b i h k l))
+    | inr l ↦ rw (le-ltb (start 128 b + i) (x .count) l) (D .freqs-past i (past x b i h k l) k)
+  ]
+
+  pub loaded-is : Decoded file x b docs freqs
+  loaded-is = record { docs-are = record { long = D .long-docs; at = loaded-doc }; freqs-are = record { long = D .long-freqs; at = loaded-freq } }
+
+-- a tail of no documents, and the block behind a tail
+pub empty-is : (file : List ℕ) (x : Part) (b : ℕ) {docs freqs : List ℕ} → remaining x b ≡ 0 → Holds 0 128 (λ i. 2147483647) docs → Holds 0 128 (λ i. 2147483647) freqs → Decoded file x b docs freqs
+unfolding start
+empty-is file x b e D F =
+    let n : x .count ≤ b * 128 = omega arith in
+    record {
+      docs-are = record { long = D .long; at = λ i k. rw (le-ltb (b * 128 + i) (x .count) (omega arith)) (D .at i k) };
+      freqs-are = record { long = F .long; at = λ i k. rw (le-ltb (b * 128 + i) (x .count) (omega arith)) (F .at i k) };
+    }
+
+-- documents never fall, up to TERMINATED and on
+module _ {file : List ℕ} {x : Part} (L : ListIn file x) where
+  pub doc-small : (p : ℕ) → docIn file x p ≤ 2147483647
+  doc-small p = elim (lt-or-ge p (x .count)) [
+    | inl h ↦ rw (lt-ltb p (x .count) h) (let d = list-doc-below file x (L .right) p h in omega (arith, L .few))
+    | inr h ↦ rw (le-ltb p (x .count) h) (le-refl 2147483647)
+  ]
+
+  pub doc-rises : (p : ℕ) → docIn file x p ≤ docIn file x (p + 1)
+  doc-rises p = elim (lt-or-ge (suc p) (x .count)) [
+    | inl h ↦ rw (add-one, lt-ltb (suc p) (x .count) h, lt-ltb p (x .count) (omega arith)) (le-of-lt (list-docs-rise file x (L .right) p (suc p) (le-refl (suc p)) h))
+    | inr h ↦ rw (add-one, le-ltb (suc p) (x .count) h) (doc-small p)
+  ]
+
+  pub decoded-sorted : {b : ℕ} {docs freqs : List ℕ} → Decoded file x b docs freqs → Sorted docs
+  decoded-sorted {b} D i h = rw (D .docs-are .at i (omega arith), D .docs-are .at (i + 1) h, group (start 128 b) i) (doc-rises (start 128 b + i))
+    where
+      group : (a i : ℕ) → a + (i + 1) ≡ a + i + 1
+      group a i = omega arith

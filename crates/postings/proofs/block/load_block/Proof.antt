@@ -1,0 +1,75 @@
+-- `block::load_block` meets its contract: the skip entry's last document is the previous one, and what is past the list's end is TERMINATED.
+use mathlib.Core.Path.{sym, _∙_}
+use native.Mathlib.Nat.{le-refl}
+use native.Mathlib.Omega.{arith}
+use borrow.Author.Needs.{needs}
+use Rattle.postings.proofs.Readers.{packed-info, tail-info}
+use Rattle.postings.proofs.Blocks.{right-here, place-here, full-here, on-tail, loaded-is, empty-is}
+use Rattle.postings.proofs.block.load_block.Statement.{statement}
+use Rattle.postings.proofs.block.load_block.Tie as tie
+
+enum-told : tie.Need-enum-told
+enum-told c = search needs
+
+load-packed-requires : tie.Need-load-packed-requires
+load-packed-requires c κs =
+    let m = c .before .before in
+    let a = m .before .before .before in
+    let P = packed-info (a .args .file .now) (a .args .x) (a .args .reader) (a .pre .1) (m .enum-told .given .1) in
+    (full-here (a .pre .0) (a .args .reader) (a .pre .1) (P .full), right-here (a .pre .0) (a .args .reader) (a .pre .1) (omega (arith, P .full)))
+
+enum-known-info : tie.Need-enum-known-info
+enum-known-info c = search needs
+
+fill-terminated-requires : tie.Need-fill-terminated-requires
+fill-terminated-requires c κs = search needs
+
+fill-terminated-requires-2 : tie.Need-fill-terminated-requires-2
+fill-terminated-requires-2 c κs = search needs
+
+load-tail-requires : tie.Need-load-tail-requires
+load-tail-requires c κs =
+    let t = c .before .before in
+    let m = t .before .before in
+    let a = m .before .before .before in
+    let s = a .args .file .now in let x = a .args .x in let r = a .args .reader in
+    let e = on-tail x r (tail-info s x r (a .pre .1) (m .info .given .1)) (t .if1 .left) in
+    (a .pre .0 .blocks .skipped, rw e at (place-here (a .pre .0) r (a .pre .1) (omega (arith, e))), a .pre .0 .right .postings, rw e at (right-here (a .pre .0) r (a .pre .1) (omega (arith, e))))
+
+returns : tie.Need-returns
+returns c =
+    let m = c .before .before .before in
+    let a = m .before .before .before in
+    let P = packed-info (a .args .file .now) (a .args .x) (a .args .reader) (a .pre .1) (m .enum-told .given .1) in
+    loaded-is (omega (arith, P .full)) (c .load-packed .ensures)
+
+returns-2 : tie.Need-returns-2
+returns-2 c =
+    let t = c .before .before .before .before in
+    let m = t .before .before in
+    let a = m .before .before .before in
+    let s = a .args .file .now in let x = a .args .x in let r = a .args .reader in
+    empty-is s x (r .block) (sym (tail-info s x r (a .pre .1) (m .info .given .1) .1) ∙ t .if1 .taken) (c .before .before .fill-terminated .ensures) (c .fill-terminated2 .ensures)
+
+returns-3 : tie.Need-returns-3
+returns-3 c =
+    let t = c .before .before .before in
+    let m = t .before .before in
+    let a = m .before .before .before in
+    let s = a .args .file .now in let x = a .args .x in let r = a .args .reader in
+    let e = on-tail x r (tail-info s x r (a .pre .1) (m .info .given .1)) (t .if1 .left) in
+    rw e (loaded-is (le-refl _) (c .load-tail .ensures))
+
+pub load-block-spec : {M : Type 1} → statement M
+load-block-spec =
+    tie.close
+    (tie.spec
+    enum-told
+    load-packed-requires
+    enum-known-info
+    fill-terminated-requires
+    fill-terminated-requires-2
+    load-tail-requires
+    returns
+    returns-2
+    returns-3)

@@ -1,0 +1,17 @@
+-- `SegmentPostings::open` meets its contract: the first block is loaded, and its first place is the list's.
+use Rattle.postings.proofs.Readers.{stands-on}
+use Rattle.postings.proofs.Moves.{opened}
+use Rattle.postings.proofs.cursor.SegmentPostings.open.Statement.{statement}
+use Rattle.postings.proofs.cursor.SegmentPostings.open.Tie as tie
+
+new-requires : tie.Need-new-requires
+new-requires c κs = c .before .pre .blocks
+
+load-block-requires : tie.Need-load-block-requires
+load-block-requires c κs = let n = c .before .before in let a = n .before .before in (a .pre, stands-on (a .args .file .now) (a .args .x) 0 (n .new .ensures))
+
+returns : tie.Need-returns
+returns c = let n = c .before .before .before in let a = n .before .before in opened (a .args .file .now) (a .args .x) (n .new .ensures) (c .load-block .ensures)
+
+pub open-spec : {M : Type 1} → statement M
+open-spec = tie.close (tie.spec new-requires load-block-requires returns)

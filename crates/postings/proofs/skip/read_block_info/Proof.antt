@@ -1,0 +1,19 @@
+-- `skip::read_block_info` meets its contract: the tail or a block behind it where fewer than 128 documents are left, else the entry's block.
+use native.Mathlib.Omega.{arith}
+use Rattle.postings.proofs.Readers.{still-full, tail-reader, full-reader}
+use Rattle.postings.proofs.skip.read_block_info.Statement.{statement}
+use Rattle.postings.proofs.skip.read_block_info.Tie as tie
+
+returns : tie.Need-returns
+returns c = let a = c .before .before in tail-reader (a .args .file .now) (a .args .x) (a .args .b) (a .pre .1) (a .pre .2) (a .pre .3) (c .if1 .taken)
+
+read-skip-entry-requires : tie.Need-read-skip-entry-requires
+read-skip-entry-requires c κs = let a = c .before .before in (a .pre .0 .skipped, still-full (a .args .x) (a .args .b) (omega (arith, a .pre .3)))
+
+returns-2 : tie.Need-returns-2
+returns-2 c =
+    let a = c .before .before .before in
+    full-reader (a .args .file .now) (a .args .x) (a .args .b) (a .pre .1) (a .pre .2) (a .pre .3) (still-full (a .args .x) (a .args .b) (omega (arith, a .pre .3))) (c .read-skip-entry .result) (c .read-skip-entry .ensures)
+
+pub read-block-info-spec : {M : Type 1} → statement M
+read-block-info-spec = tie.close (tie.spec returns read-skip-entry-requires returns-2)

@@ -1,0 +1,58 @@
+-- One list of an accepted file, by its part.
+use mathlib.Core.Path.{_≡_, refl}
+use mathlib.Core.Bool.{cond}
+use mathlib.Core.List.{List}
+use Prim.Native.Nat.{ℕ, _+_, _≤_}
+use lib.Dec.{ltb}
+use lib.Ieee.{Float}
+use Rattle.arrays.specs.Holds.{Holds}
+use Rattle.bm25.specs.Scoring.{scored}
+use Rattle.bm25.specs.declared.Scoring.{Scoring}
+use Rattle.notefile.specs.Header.{documents}
+use Rattle.notefile.specs.Parts.{partOf}
+use Rattle.notefile.specs.Lists.{fullBlocks, listDoc, listFreq, listScore, blockBound, listBound}
+use Rattle.notefile.specs.Given.{BlocksIn}
+use Rattle.notefile.specs.declared.part.Part.{Part}
+use Rattle.notefile.proofs.Accepted.{ListRight}
+use Rattle.decoded.specs.Lists.{postingsOf}
+use Rattle.route.specs.Postings.{Postings, start, docAt}
+
+-- the list as the route takes it
+unfoldable pub listOf : Scoring → List ℕ → Part → Postings Float
+listOf scoring file x = record {
+  len = x .count;
+  full = fullBlocks x;
+  doc = listDoc file x;
+  score = λ k. scored scoring (listScore file x k);
+  bound = λ b. scored scoring (blockBound file x b);
+  top = scored scoring (listBound x);
+}
+
+-- which is the list of the route's theorems
+pub postings-is : (scoring : Scoring) (file : List ℕ) (l : ℕ) → postingsOf scoring file l ≡ listOf scoring file (partOf file l)
+unfolding postingsOf listOf
+postings-is scoring file l = refl
+
+module _ (file : List ℕ) (x : Part) where
+  -- the document and the frequency at place p; a decoded block is filled up with TERMINATED
+  abbrev pub docIn : ℕ → ℕ
+  docIn p = cond (ltb p (x .count)) (listDoc file x p) 2147483647
+
+  abbrev pub freqIn : ℕ → ℕ
+  freqIn p = cond (ltb p (x .count)) (listFreq file x p) 2147483647
+
+  -- which is the route's document there
+  pub doc-is : (scoring : Scoring) (p : ℕ) → docAt (listOf scoring file x) p ≡ docIn p
+  unfolding listOf
+  doc-is scoring p = refl
+
+-- block b decoded, from its first place on
+pub record Decoded (file : List ℕ) (x : Part) (b : ℕ) (docs freqs : List ℕ) : Type 0 where
+  pub docs-are : Holds 0 128 (λ i. docIn file x (start 128 b + i)) docs
+  pub freqs-are : Holds 0 128 (λ i. freqIn file x (start 128 b + i)) freqs
+
+-- what acceptance gives of a list
+pub record ListIn (file : List ℕ) (x : Part) : Type 0 where
+  pub blocks : BlocksIn file x
+  pub right : ListRight file x
+  pub few : documents file ≤ 1048576

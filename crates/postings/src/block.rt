@@ -1,0 +1,54 @@
+// Block loads: the skip reader's block decoded into two lent arrays.
+ghost use Rattle.arrays.specs.Holds.{Holds};
+ghost use Rattle.postings.specs.Decoded.{Decoded, ListIn};
+ghost use Rattle.postings.specs.Reader.{Stands};
+use crate::skip::BlockInfo;
+use crate::skip::SkipReader;
+use notefile::block::TERMINATED;
+use notefile::block::load_packed;
+use notefile::block::load_tail;
+use notefile::part::Part;
+
+fn fill_terminated(values: &mut [u32; 128])
+    ensures { λ _. ⌜ Holds 0 128 (λ i. 2147483647) (now (values .exit)) ⌝ }
+{
+    let n = (&values[..]).len();
+    let mut i = 0usize;
+    while i < n {
+        values[i] = TERMINATED;
+        i += 1;
+    }
+}
+
+// The reader's block, filled up with TERMINATED. A tail of no documents has no bytes.
+pub fn load_block(
+    file: &[u8],
+    x: Part,
+    reader: SkipReader,
+    docs: &mut [u32; 128],
+    freqs: &mut [u32; 128],
+)
+    requires { ⌜ ListIn (now file) x × Stands (now file) x reader ⌝ }
+    ensures { λ _. ⌜ Decoded (now (file .entry)) x (reader .block) (now (docs .exit)) (now (freqs .exit)) ⌝ }
+{
+    let info = reader.block_info;
+    let at = reader.byte_offset;
+    let previous = reader.last_doc_in_previous_block;
+    match info {
+        BlockInfo::BitPacked {
+            doc_num_bits: _,
+            strict_delta_encoded: _,
+            tf_num_bits: _,
+            block_wand_fieldnorm_id: _,
+            block_wand_max_tf: _,
+        } => load_packed(file, x, reader.block, at, previous, docs, freqs),
+        BlockInfo::VInt { num_docs } => {
+            if num_docs == 0 {
+                fill_terminated(docs);
+                fill_terminated(freqs);
+            } else {
+                load_tail(file, x, at, previous, docs, freqs);
+            }
+        }
+    }
+}

@@ -1,0 +1,91 @@
+// Block bounds: a full block's from its skip entry, a tail's from its scores once they are loaded.
+ghost use mathlib.Core.Path.{_≡_};
+ghost use Prim.Native.Nat.{_≤_};
+ghost use lib.ListN.{getD};
+ghost use lib.Ieee.{nan};
+ghost use Rattle.bm25.specs.Scoring.{scored};
+ghost use Rattle.notefile.specs.Header.{normReader};
+ghost use Rattle.notefile.specs.Given.{WeightIn};
+ghost use Rattle.notefile.specs.Reads.{scoreAmong};
+ghost use Rattle.route.specs.Cursor.{blockMax};
+ghost use Rattle.route.specs.F32.{f32};
+ghost use Rattle.postings.specs.Bounds.{mostOf};
+ghost use Rattle.postings.specs.Decoded.{ListIn, listOf};
+ghost use Rattle.postings.specs.Places.{Placed, cursorOf};
+use crate::cursor::SegmentPostings;
+use crate::skip::BlockInfo;
+use bm25::Bm25Weight;
+use bm25::Scoring;
+use fieldnorm::FieldNormReader;
+use notefile::part::Part;
+
+// The largest of the first n scores, or 0 where there is none.
+fn max_score(scores: &[f32; 128], n: usize) -> f32
+    requires { ⌜ n ≤ 128 ⌝ }
+    ensures { λ r. ⌜ r ≡ mostOf (λ i. getD (now (scores .entry)) i nan) n ⌝ }
+{
+    if n == 0 {
+        return 0.0;
+    }
+    let mut most = scores[0];
+    let mut i = 1usize;
+    while i < n {
+        most = floats::larger(most, scores[i]);
+        i += 1;
+    }
+    most
+}
+
+// The largest score of the first n postings.
+fn tail_max_score(
+    file: &[u8],
+    norms: FieldNormReader,
+    x: Part,
+    w: Bm25Weight,
+    scoring: Scoring,
+    n: usize,
+    docs: &[u32; 128],
+    freqs: &[u32; 128],
+) -> f32
+    requires { ⌜ (norms ≡ normReader (now file)) × WeightIn x w × (n ≤ 128) ⌝ }
+    ensures { λ r. ⌜ r ≡ mostOf (λ i. scored scoring (scoreAmong (now (file .entry)) x (now (docs .entry)) (now (freqs .entry)) i)) n ⌝ }
+{
+    let mut ids = [0u8; 128];
+    let mut scores = [0.0f32; 128];
+    norms.fieldnorm_ids(file, docs, &mut ids);
+    bm25_block::score_block(w, scoring, &ids, freqs, &mut scores);
+    max_score(&scores, n)
+}
+
+// The bound of the skip reader's block. A tail that is not loaded has the list bound.
+pub fn block_max_score(
+    file: &[u8],
+    norms: FieldNormReader,
+    x: Part,
+    w: Bm25Weight,
+    scoring: Scoring,
+    p: SegmentPostings,
+    docs: &[u32; 128],
+    freqs: &[u32; 128],
+) -> f32
+    requires { ⌜ ListIn (now file) x × (norms ≡ normReader (now file)) × WeightIn x w × Placed (now file) x p (now docs) (now freqs) ⌝ }
+    ensures { λ r. ⌜ r ≡ blockMax 128 f32 (listOf scoring (now (file .entry)) x) (cursorOf p) ⌝ }
+{
+    let reader = p.skip_reader;
+    let info = reader.block_info;
+    match info {
+        BlockInfo::BitPacked {
+            doc_num_bits: _,
+            strict_delta_encoded: _,
+            tf_num_bits: _,
+            block_wand_fieldnorm_id,
+            block_wand_max_tf,
+        } => w.block_max_score(scoring, block_wand_fieldnorm_id, block_wand_max_tf),
+        BlockInfo::VInt { num_docs } => {
+            if p.block_loaded {
+                return tail_max_score(file, norms, x, w, scoring, num_docs, docs, freqs);
+            }
+            w.max_score(scoring)
+        }
+    }
+}

@@ -1,0 +1,167 @@
+// A scorer's place in its list: the block cursor and the place in the block that it decoded last.
+ghost use mathlib.Core.Path.{_≡_};
+ghost use Prim.Native.Nat.{min, suc, _≤_, _<_};
+ghost use Rattle.notefile.specs.Lists.{fullBlocks};
+ghost use Rattle.route.specs.Cursor.{advanceIn, fresh, loadAt, seekBlockIn, seekIn};
+ghost use Rattle.postings.specs.Decoded.{Decoded, ListIn, listOf};
+ghost use Rattle.postings.specs.Reader.{Stands};
+ghost use Rattle.postings.specs.Places.{Here, Moved, Placed, Shallow, cursorOf};
+use crate::block::load_block;
+use crate::skip::SkipReader;
+use block_search::search_block;
+use notefile::part::Part;
+
+// The Rust's block cursor and its `cur`. The decoded block stands in two arrays beside it, and `decoded` is its number.
+pub struct SegmentPostings {
+    pub skip_reader: SkipReader,
+    pub block_loaded: bool,
+    pub decoded: usize,
+    pub cur: usize,
+}
+
+// The place after a place of a block, or its last.
+fn next_place(cur: usize) -> usize
+    requires { ⌜ cur < 128 ⌝ }
+    ensures { λ r. ⌜ (r ≡ min (suc cur) 127) × (r < 128) ⌝ }
+{
+    if cur < 127 { cur + 1 } else { 127 }
+}
+
+impl SegmentPostings {
+    // On a list's first posting, with the first block loaded.
+    pub fn open(
+        file: &[u8],
+        x: Part,
+        docs: &mut [u32; 128],
+        freqs: &mut [u32; 128],
+    ) -> SegmentPostings
+        requires { ⌜ ListIn (now file) x ⌝ }
+        ensures { λ r. ⌜ Moved (now (file .entry)) x (λ _. fresh) r (now (docs .exit)) (now (freqs .exit)) ⌝ }
+    {
+        let skip_reader = SkipReader::new(file, x);
+        load_block(file, x, skip_reader, docs, freqs);
+        SegmentPostings {
+            skip_reader,
+            block_loaded: true,
+            decoded: 0,
+            cur: 0,
+        }
+    }
+
+    // The document that the scorer stands on, of the block decoded last.
+    pub fn doc(self, docs: &[u32; 128]) -> u32
+        requires { ⌜ self .cur < 128 ⌝ }
+        ensures { λ r. ⌜ Here self (now (docs .entry)) r ⌝ }
+    {
+        let cur = self.cur;
+        docs[cur]
+    }
+
+    // Moves the skip reader only: the document and its frequency stay those of the block decoded last.
+    pub fn seek_block(self, file: &[u8], x: Part, target: u32) -> SegmentPostings
+        requires { ⌜ ListIn (now file) x × Stands (now file) x (self .«skip_reader») × (self .«skip_reader» .block ≤ suc (fullBlocks x)) ⌝ }
+        ensures { λ r. ⌜ Shallow (now (file .entry)) x (λ scoring. seekBlockIn (listOf scoring (now (file .entry)) x) 128 target (cursorOf self)) self r ⌝ }
+    {
+        let reader = self.skip_reader;
+        if target <= reader.last_doc_in_block {
+            return self;
+        }
+        let skip_reader = reader.seek(file, x, target);
+        SegmentPostings {
+            skip_reader,
+            block_loaded: false,
+            decoded: self.decoded,
+            cur: self.cur,
+        }
+    }
+
+    // The skip reader's block, loaded if it is not.
+    fn load(self, file: &[u8], x: Part, docs: &mut [u32; 128], freqs: &mut [u32; 128])
+        requires { ⌜ ListIn (now file) x × Placed (now file) x self (now docs) (now freqs) ⌝ }
+        ensures { λ _. ⌜ Decoded (now (file .entry)) x (self .«skip_reader» .block) (now (docs .exit)) (now (freqs .exit)) ⌝ }
+    {
+        if self.block_loaded {
+            return;
+        }
+        let skip_reader = self.skip_reader;
+        load_block(file, x, skip_reader, docs, freqs);
+    }
+
+    // The skip reader's block, loaded, and the first posting in it from the target on.
+    fn load_at(
+        self,
+        file: &[u8],
+        x: Part,
+        target: u32,
+        docs: &mut [u32; 128],
+        freqs: &mut [u32; 128],
+    ) -> SegmentPostings
+        requires { ⌜ ListIn (now file) x × Placed (now file) x self (now docs) (now freqs) × (target ≤ self .«skip_reader» .«last_doc_in_block») ⌝ }
+        ensures { λ r. ⌜ Moved (now (file .entry)) x (λ scoring. loadAt (listOf scoring (now (file .entry)) x) 128 target (self .«skip_reader» .block)) r (now (docs .exit)) (now (freqs .exit)) ⌝ }
+    {
+        self.load(file, x, docs, freqs);
+        let skip_reader = self.skip_reader;
+        let cur = search_block(docs, target);
+        SegmentPostings {
+            skip_reader,
+            block_loaded: true,
+            decoded: skip_reader.block,
+            cur,
+        }
+    }
+
+    // On to the first posting from the target on. The next one is tried before any block is.
+    pub fn seek(
+        self,
+        file: &[u8],
+        x: Part,
+        target: u32,
+        docs: &mut [u32; 128],
+        freqs: &mut [u32; 128],
+    ) -> SegmentPostings
+        requires { ⌜ ListIn (now file) x × Placed (now file) x self (now docs) (now freqs) × (target ≤ 2147483647) ⌝ }
+        ensures { λ r. ⌜ Moved (now (file .entry)) x (λ scoring. seekIn (listOf scoring (now (file .entry)) x) 128 target (cursorOf self)) r (now (docs .exit)) (now (freqs .exit)) ⌝ }
+    {
+        let cur = self.cur;
+        let doc = docs[cur];
+        if target <= doc {
+            return self;
+        }
+        let next = next_place(cur);
+        let next_doc = docs[next];
+        if target <= next_doc {
+            let mut p = self;
+            p.cur = next;
+            return p;
+        }
+        let p = self.seek_block(file, x, target);
+        p.load_at(file, x, target, docs, freqs)
+    }
+
+    // On to the next posting. Behind a block's last place the next block is loaded.
+    pub fn advance(
+        self,
+        file: &[u8],
+        x: Part,
+        docs: &mut [u32; 128],
+        freqs: &mut [u32; 128],
+    ) -> SegmentPostings
+        requires { ⌜ ListIn (now file) x × Placed (now file) x self (now docs) (now freqs) × (self .«skip_reader» .block ≤ fullBlocks x) ⌝ }
+        ensures { λ r. ⌜ Moved (now (file .entry)) x (λ scoring. advanceIn (listOf scoring (now (file .entry)) x) 128 (cursorOf self)) r (now (docs .exit)) (now (freqs .exit)) ⌝ }
+    {
+        let mut p = self;
+        if self.cur != 127 {
+            p.cur = self.cur + 1;
+            return p;
+        }
+        let reader = self.skip_reader;
+        let skip_reader = reader.advance(file, x);
+        load_block(file, x, skip_reader, docs, freqs);
+        SegmentPostings {
+            skip_reader,
+            block_loaded: true,
+            decoded: skip_reader.block,
+            cur: 0,
+        }
+    }
+}

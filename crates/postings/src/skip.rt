@@ -1,0 +1,123 @@
+// The skip reader: block by block over a list's skip entries, and behind its tail.
+ghost use mathlib.Core.Path.{_≡_};
+ghost use Prim.Native.Nat.{suc, _<_};
+ghost use Rattle.notefile.specs.Given.{BlocksIn};
+ghost use Rattle.postings.specs.Decoded.{ListIn};
+ghost use Rattle.postings.specs.Reader.{Sought, Stands, placeIn, previousIn, readerAt, remaining};
+use notefile::block::TERMINATED;
+use notefile::part::Part;
+use notefile::skip::read_skip_entry;
+
+// What the reader knows of its block: of a packed one the widths and the pair of codes of its bound, of the tail its count.
+pub enum BlockInfo {
+    BitPacked {
+        doc_num_bits: u32,
+        strict_delta_encoded: bool,
+        tf_num_bits: u32,
+        block_wand_fieldnorm_id: u8,
+        block_wand_max_tf: u8,
+    },
+    VInt {
+        num_docs: usize,
+    },
+}
+
+// The number of its block stands for the bytes that the Rust's reader has left; its place is one of the whole file.
+pub struct SkipReader {
+    pub last_doc_in_block: u32,
+    pub last_doc_in_previous_block: u32,
+    pub block: usize,
+    pub byte_offset: usize,
+    pub remaining_docs: usize,
+    pub block_info: BlockInfo,
+}
+
+// The reader on block b, whose documents are all in a tail where fewer than 128 are left.
+fn read_block_info(
+    file: &[u8],
+    x: Part,
+    b: usize,
+    byte_offset: usize,
+    previous: u32,
+    remaining_docs: usize,
+) -> SkipReader
+    requires { ⌜ BlocksIn (now file) x × («byte_offset» ≡ placeIn (now file) x b) × (previous ≡ previousIn (now file) x b) × («remaining_docs» ≡ remaining x b) ⌝ }
+    ensures { λ r. ⌜ r ≡ readerAt (now (file .entry)) x b ⌝ }
+{
+    if remaining_docs < 128 {
+        return SkipReader {
+            last_doc_in_block: TERMINATED,
+            last_doc_in_previous_block: previous,
+            block: b,
+            byte_offset,
+            remaining_docs,
+            block_info: BlockInfo::VInt {
+                num_docs: remaining_docs,
+            },
+        };
+    }
+    let e = read_skip_entry(file, x, b);
+    SkipReader {
+        last_doc_in_block: e.last,
+        last_doc_in_previous_block: previous,
+        block: b,
+        byte_offset,
+        remaining_docs,
+        block_info: BlockInfo::BitPacked {
+            doc_num_bits: e.width,
+            strict_delta_encoded: e.strict,
+            tf_num_bits: e.freqs,
+            block_wand_fieldnorm_id: e.norm,
+            block_wand_max_tf: e.freq,
+        },
+    }
+}
+
+impl SkipReader {
+    // The reader on a list's first block.
+    pub fn new(file: &[u8], x: Part) -> SkipReader
+        requires { ⌜ BlocksIn (now file) x ⌝ }
+        ensures { λ r. ⌜ r ≡ readerAt (now (file .entry)) x 0 ⌝ }
+    {
+        read_block_info(file, x, 0, x.postings, 0, x.count)
+    }
+
+    // On to the next block. A full one takes 16 bytes for each bit of width; a tail ends the postings.
+    pub fn advance(self, file: &[u8], x: Part) -> SkipReader
+        requires { ⌜ BlocksIn (now file) x × Stands (now file) x self × (self .block < 4294967296) ⌝ }
+        ensures { λ r. ⌜ r ≡ readerAt (now (file .entry)) x (suc (self .block)) ⌝ }
+    {
+        let info = self.block_info;
+        let b = self.block + 1;
+        let previous = self.last_doc_in_block;
+        match info {
+            BlockInfo::BitPacked {
+                doc_num_bits,
+                strict_delta_encoded: _,
+                tf_num_bits,
+                block_wand_fieldnorm_id: _,
+                block_wand_max_tf: _,
+            } => {
+                let next = self.byte_offset + 16 * ((doc_num_bits + tf_num_bits) as usize);
+                read_block_info(file, x, b, next, previous, self.remaining_docs - 128)
+            }
+            BlockInfo::VInt { num_docs: _ } => { read_block_info(file, x, b, x.end, previous, 0) }
+        }
+    }
+
+    // On to the first block that ends at the target or after it, and no further than the tail.
+    pub fn seek(self, file: &[u8], x: Part, target: u32) -> SkipReader
+        requires { ⌜ ListIn (now file) x × Stands (now file) x self × (self .block < 4294967296) ⌝ }
+        ensures { λ r. ⌜ Sought (now (file .entry)) x target (self .block) r ⌝ }
+    {
+        let blocks = x.count / 128;
+        let mut reader = self;
+        while reader.block < blocks {
+            if target <= reader.last_doc_in_block {
+                return reader;
+            }
+            reader = reader.advance(file, x);
+        }
+        reader
+    }
+}
