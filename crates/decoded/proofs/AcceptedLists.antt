@@ -21,7 +21,7 @@ use Rattle.route.specs.F32.{f32}
 use Rattle.route.specs.Postings.{start}
 use Rattle.route.proofs.ListLaws.{ListOk, ScoresOk}
 use Rattle.route.proofs.Stepped.{stepped-order, PartOf, SteppedList}
-use Rattle.decoded.specs.Lists.{Bytes, postingsOf}
+use Rattle.decoded.specs.Lists.{Bytes, listOf, postingsOf}
 use Rattle.decoded.proofs.Scores.{step-part, covers-stepped}
 
 max-tf-small : (code : ℕ) → code < 256 → maxTf code < 2 ^ 32
@@ -51,7 +51,7 @@ module _ (file : List ℕ) (bytes : Bytes file) (accepted : fileRefusal file ≡
   list-bound-in = score-in 255 2013265944 (lit< tt) (lit< tt)
 
   list-ok : ListOk 128 (documents file) (postingsOf Stepped file l)
-  unfolding postingsOf start
+  unfolding listOf start
   list-ok = record {
     rises = list-docs-rise file (partOf file l) (list-accepted file accepted l h);
     below = λ i k. list-doc-below file (partOf file l) (list-accepted file accepted l h) i k;
@@ -62,7 +62,7 @@ module _ (file : List ℕ) (bytes : Bytes file) (accepted : fileRefusal file ≡
   }
 
   scores-ok : ScoresOk 128 f32 stepped-order (PartOf 1) (postingsOf Stepped file l)
-  unfolding postingsOf start
+  unfolding listOf start
   scores-ok = record {
     score-ok = λ i k. step-part _ (list-score-in i k);
     bound-ok = λ b k. step-part _ (block-bound-in b);

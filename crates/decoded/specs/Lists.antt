@@ -7,27 +7,29 @@ use Rattle.bm25.specs.Scoring.{scored}
 use Rattle.bm25.specs.declared.Scoring.{Scoring}
 use Rattle.notefile.specs.Parts.{partOf}
 use Rattle.notefile.specs.Lists.{fullBlocks, listDoc, listScore, blockBound, listBound}
+use Rattle.notefile.specs.declared.part.Part.{Part}
 use Rattle.route.specs.Postings.{Postings}
 
 -- what a slice of bytes is as a list: each element is below 256
 abbrev pub Bytes : List ℕ → Type 0
 Bytes file = (i : ℕ) → getD file i 0 < 256
 
+-- a list by its part
+unfoldable pub listOf : Scoring → List ℕ → Part → Postings Float
+listOf scoring file x = record {
+  len = x .count;
+  full = fullBlocks x;
+  doc = listDoc file x;
+  score = λ k. scored scoring (listScore file x k);
+  bound = λ b. scored scoring (blockBound file x b);
+  top = scored scoring (listBound x);
+}
+
 -- list l of a file
-unfoldable pub postingsOf : Scoring → List ℕ → ℕ → Postings Float
-postingsOf scoring file l =
-    let x = partOf file l in
-    record {
-      len = x .count;
-      full = fullBlocks x;
-      doc = listDoc file x;
-      score = λ k. scored scoring (listScore file x k);
-      bound = λ b. scored scoring (blockBound file x b);
-      top = scored scoring (listBound x);
-    }
+abbrev pub postingsOf : Scoring → List ℕ → ℕ → Postings Float
+postingsOf scoring file l = listOf scoring file (partOf file l)
 
 -- the lists that a query names, in its order, a list as often as it is named
 unfoldable pub queried : Scoring → List ℕ → List ℕ → List (Postings Float)
-unfolding postingsOf
 queried scoring file [] = []
 queried scoring file (l ∷ ls) = postingsOf scoring file l ∷ queried scoring file ls

@@ -31,8 +31,9 @@ use Rattle.route.specs.F32.{f32}
 use Rattle.route.specs.Postings.{Postings, start}
 use Rattle.route.specs.Cursor.{maxFrom, tailMax, blockMax}
 use Rattle.arrays.proofs.Order.{lt-or-ge}
+use Rattle.decoded.specs.Lists.{listOf}
 use Rattle.postings.specs.Bounds.{mostFrom, mostOf}
-use Rattle.postings.specs.Decoded.{listOf, Decoded}
+use Rattle.postings.specs.Decoded.{Decoded}
 use Rattle.postings.specs.Reader.{remaining}
 use Rattle.postings.specs.Places.{cursorOf}
 use Rattle.postings.specs.declared.cursor.SegmentPostings.{SegmentPostings}

@@ -20,7 +20,8 @@ use Rattle.notefile.specs.declared.part.Part.{Part}
 use Rattle.notefile.proofs.ListLaws.{last-is}
 use Rattle.route.specs.Postings.{Postings, start, docAt, lastDoc as endOf}
 use Rattle.route.specs.Cursor.{Cursor, fresh, findIn, skipTo, seekBlockIn, loadAt, seekIn, advanceIn}
-use Rattle.postings.specs.Decoded.{docIn, listOf, doc-is, Decoded, ListIn}
+use Rattle.decoded.specs.Lists.{listOf}
+use Rattle.postings.specs.Decoded.{docIn, doc-is, Decoded, ListIn}
 use Rattle.postings.specs.Reader.{lastIn, readerAt, Stands, Sought}
 use Rattle.postings.specs.Places.{cursorOf, Placed, Moved, Shallow, Here}
 use Rattle.postings.specs.declared.skip.SkipReader.{SkipReader}

@@ -19,7 +19,8 @@ use Rattle.notefile.proofs.Judged.{packed-in}
 use Rattle.notefile.proofs.ListLaws.{last-is}
 use Rattle.route.specs.Postings.{start, lastDoc as endOf}
 use Rattle.route.specs.Cursor.{skipTo}
-use Rattle.postings.specs.Decoded.{listOf, ListIn}
+use Rattle.decoded.specs.Lists.{listOf}
+use Rattle.postings.specs.Decoded.{ListIn}
 use Rattle.postings.specs.Reader.{remaining, lastIn, previousIn, placeIn, infoIn, readerAt, Stands, Sought}
 use Rattle.postings.specs.declared.skip.BlockInfo.the-variants.{BitPacked, VInt}
 use Rattle.postings.specs.declared.skip.SkipReader.{SkipReader}

@@ -4,34 +4,15 @@ use mathlib.Core.Bool.{cond}
 use mathlib.Core.List.{List}
 use Prim.Native.Nat.{ℕ, _+_, _≤_}
 use lib.Dec.{ltb}
-use lib.Ieee.{Float}
 use Rattle.arrays.specs.Holds.{Holds}
-use Rattle.bm25.specs.Scoring.{scored}
 use Rattle.bm25.specs.declared.Scoring.{Scoring}
 use Rattle.notefile.specs.Header.{documents}
-use Rattle.notefile.specs.Parts.{partOf}
-use Rattle.notefile.specs.Lists.{fullBlocks, listDoc, listFreq, listScore, blockBound, listBound}
+use Rattle.notefile.specs.Lists.{listDoc, listFreq}
 use Rattle.notefile.specs.Given.{BlocksIn}
 use Rattle.notefile.specs.declared.part.Part.{Part}
 use Rattle.notefile.proofs.Accepted.{ListRight}
-use Rattle.decoded.specs.Lists.{postingsOf}
-use Rattle.route.specs.Postings.{Postings, start, docAt}
-
--- the list as the route takes it
-unfoldable pub listOf : Scoring → List ℕ → Part → Postings Float
-listOf scoring file x = record {
-  len = x .count;
-  full = fullBlocks x;
-  doc = listDoc file x;
-  score = λ k. scored scoring (listScore file x k);
-  bound = λ b. scored scoring (blockBound file x b);
-  top = scored scoring (listBound x);
-}
-
--- which is the list of the route's theorems
-pub postings-is : (scoring : Scoring) (file : List ℕ) (l : ℕ) → postingsOf scoring file l ≡ listOf scoring file (partOf file l)
-unfolding postingsOf listOf
-postings-is scoring file l = refl
+use Rattle.decoded.specs.Lists.{listOf}
+use Rattle.route.specs.Postings.{start, docAt}
 
 module _ (file : List ℕ) (x : Part) where
   -- the document and the frequency at place p; a decoded block is filled up with TERMINATED

@@ -8,7 +8,8 @@ use Rattle.notefile.specs.Lists.{fullBlocks}
 use Rattle.notefile.specs.declared.part.Part.{Part}
 use Rattle.route.specs.Postings.{start}
 use Rattle.route.specs.Cursor.{Cursor, docHere}
-use Rattle.postings.specs.Decoded.{listOf, Decoded}
+use Rattle.decoded.specs.Lists.{listOf}
+use Rattle.postings.specs.Decoded.{Decoded}
 use Rattle.postings.specs.Reader.{Stands}
 use Rattle.postings.specs.declared.cursor.SegmentPostings.{SegmentPostings}
 

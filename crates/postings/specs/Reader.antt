@@ -9,7 +9,7 @@ use Rattle.notefile.specs.Skips.{lastDoc, lastBefore, docWidth, strictBlock, fr
 use Rattle.notefile.specs.Lists.{fullBlocks, isFull, blockAt}
 use Rattle.notefile.specs.declared.part.Part.{Part}
 use Rattle.route.specs.Cursor.{skipTo}
-use Rattle.postings.specs.Decoded.{listOf}
+use Rattle.decoded.specs.Lists.{listOf}
 use Rattle.postings.specs.declared.skip.BlockInfo.{BlockInfo}
 use Rattle.postings.specs.declared.skip.BlockInfo.the-variants.{BitPacked, VInt}
 use Rattle.postings.specs.declared.skip.SkipReader.{SkipReader}
