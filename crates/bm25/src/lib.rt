@@ -82,6 +82,20 @@ pub fn decode_block_wand_max_tf(max_tf_code: u8) -> u32
     max_tf_code as u32
 }
 
+// One document's score from a list's norms in a lent array: `score` without a copy of its struct, for places that score one posting at a time.
+pub fn score_by(
+    cache: &[f32; 256],
+    weight: f32,
+    scoring: Scoring,
+    fieldnorm_id: u8,
+    term_freq: u32,
+) -> f32
+    ensures { λ r. ⌜ r ≡ scored scoring (scoreAt weight (getD (now (cache .entry)) «fieldnorm_id» nan) «term_freq») ⌝ }
+{
+    let i = fieldnorm_id as usize;
+    in_scoring(scoring, score_at(weight, cache[i], term_freq))
+}
+
 impl Bm25Weight {
     pub fn new(weight: f32, average: f32) -> Self
         ensures { λ r. ⌜ WeightOf weight average r ⌝ }

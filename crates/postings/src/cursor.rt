@@ -21,7 +21,7 @@ pub struct SegmentPostings {
 }
 
 // The place after a place of a block, or its last.
-fn next_place(cur: usize) -> usize
+pub fn next_place(cur: usize) -> usize
     requires { ⌜ cur < 128 ⌝ }
     ensures { λ r. ⌜ (r ≡ min (suc cur) 127) × (r < 128) ⌝ }
 {

@@ -82,6 +82,18 @@ impl SkipReader {
         read_block_info(file, x, 0, x.postings, 0, x.count)
     }
 
+    // The reader on block b, whose place and previous document are known.
+    pub fn on(file: &[u8], x: Part, b: usize, byte_offset: usize, previous: u32) -> SkipReader
+        requires { ⌜ BlocksIn (now file) x × («byte_offset» ≡ placeIn (now file) x b) × (previous ≡ previousIn (now file) x b) × (b < 4294967296) ⌝ }
+        ensures { λ r. ⌜ r ≡ readerAt (now (file .entry)) x b ⌝ }
+    {
+        let before = 128 * b;
+        if before <= x.count {
+            return read_block_info(file, x, b, byte_offset, previous, x.count - before);
+        }
+        read_block_info(file, x, b, byte_offset, previous, 0)
+    }
+
     // On to the next block. A full one takes 16 bytes for each bit of width; a tail ends the postings.
     pub fn advance(self, file: &[u8], x: Part) -> SkipReader
         requires { ⌜ BlocksIn (now file) x × Stands (now file) x self × (self .block < 4294967296) ⌝ }

@@ -1,0 +1,26 @@
+-- `score_by` meets its contract: the score at the norm that the lent array has for the code, as the scoring has it.
+use mathlib.Core.Path.{ap, _∙_}
+use borrow.Author.Needs.{needs}
+use Rattle.bm25.specs.Scoring.{scored}
+use Rattle.bm25.proofs.score_by.Statement.{statement}
+use Rattle.bm25.proofs.score_by.Tie as tie
+
+mul-score-at : tie.Need-mul-score-at
+mul-score-at c = search needs
+
+element-copy-out-score-at : tie.Need-element-copy-out-score-at
+element-copy-out-score-at c = search needs
+
+score-at-requires : tie.Need-score-at-requires
+score-at-requires c κs = search needs
+
+in-scoring-requires : tie.Need-in-scoring-requires
+in-scoring-requires c κs = search needs
+
+returns : tie.Need-returns
+returns c = c .in-scoring .ensures ∙ ap (scored (c .before .before .before .args .scoring)) (c .before .score-at .ensures)
+
+pub score-by-spec : {M : Type 1} → statement M
+score-by-spec =
+    tie.close
+    (tie.spec mul-score-at element-copy-out-score-at score-at-requires in-scoring-requires returns)

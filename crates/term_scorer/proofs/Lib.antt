@@ -1,0 +1,2 @@
+-- Laws of slots: rows and places, and a scorer's moves over them.
+pub mod Rows

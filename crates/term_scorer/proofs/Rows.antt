@@ -1,0 +1,239 @@
+-- A row and the place made of it are one, so that a move of the place is a move of the row.
+use mathlib.Core.Path.{_≡_, refl, sym, ap, _∙_, subst}
+use mathlib.Core.Bool.{Bool, true, false}
+use mathlib.Core.List.{List}
+use Prim.Native.Nat.{ℕ, suc, min, _+_, _≤_, _<_}
+use native.Mathlib.Omega.{arith}
+use lib.Dec.{eqb}
+use lib.ListN.{getD, set}
+use lib.Ieee.{Float}
+use mathlib.Core.Logic.{inl, inr}
+use borrow.Author.Tests.{lt-ltb, le-ltb}
+use Rattle.arrays.proofs.Order.{lt-or-ge}
+use Rattle.bm25.specs.declared.Scoring.{Scoring}
+use Rattle.bm25.specs.declared.Scoring.the-variants.{Unstepped}
+use Rattle.notefile.specs.Lists.{fullBlocks}
+use Rattle.notefile.specs.declared.part.Part.{Part}
+use Rattle.route.specs.Postings.{Postings, start, lastDoc}
+use Rattle.route.specs.Cursor.{Cursor, advanceIn, seekBlockIn, seekIn}
+use Rattle.decoded.specs.Lists.{listOf}
+use Rattle.postings.specs.Decoded.{docIn, doc-is, ListIn}
+use Rattle.postings.specs.Reader.{lastIn, placeIn, previousIn, readerAt, Stands}
+use Rattle.postings.specs.Places.{cursorOf, Placed, Moved, Shallow, Here}
+use Rattle.postings.specs.declared.skip.SkipReader.{SkipReader}
+use Rattle.postings.specs.declared.cursor.SegmentPostings.{SegmentPostings}
+use Rattle.postings.proofs.Readers.{block-is, stands-on}
+use Rattle.postings.proofs.Moves.{advanced-in, doc-here, sought-here, sought-next, stays}
+use Rattle.term_scorer.specs.Rows.{partIn, partRow, flag, placeRow, Narrow, cursorIn, postingsIn, Standing, PlaceIn, MovedRow, ShallowRow}
+
+flag-back : (b : Bool) → eqb (flag b) 1 ≡ b
+flag-back true = refl
+flag-back false = refl
+
+pub part-back : (x : Part) → partIn (partRow x) ≡ x
+unfolding partIn
+part-back x = refl
+
+module _ (file : List ℕ) (x : Part) where
+  pub cursor-is : (row : List ℕ) → cursorOf (postingsIn file x row) ≡ cursorIn row
+  unfolding cursorOf postingsIn cursorIn readerAt
+  cursor-is row = refl
+
+  module _ (row : List ℕ) (S : Standing file x row) where
+    pub previous-small : getD row 2 0 < 4294967296
+    previous-small = omega (arith, S .narrow .previous, ap (λ (z : List ℕ). getD z 2 0) (S .row-is))
+
+    pub last-small : getD row 3 0 < 4294967296
+    last-small = omega (arith, S .narrow .last, ap (λ (z : List ℕ). getD z 3 0) (S .row-is))
+
+    pub offset-is : getD row 1 0 ≡ placeIn file x (getD row 0 0)
+    unfolding postingsIn readerAt
+    offset-is = ap (λ (z : List ℕ). getD z 1 0) (S .row-is)
+
+    pub previous-is : getD row 2 0 ≡ previousIn file x (getD row 0 0)
+    unfolding postingsIn readerAt
+    previous-is = ap (λ (z : List ℕ). getD z 2 0) (S .row-is)
+
+    pub last-is : getD row 3 0 ≡ lastIn file x (getD row 0 0)
+    unfolding postingsIn readerAt
+    last-is = ap (λ (z : List ℕ). getD z 3 0) (S .row-is)
+
+  place-back : (p : SegmentPostings) (k : ℕ) → Stands file x (p .«skip_reader») → postingsIn file x (placeRow p k) ≡ p
+  unfolding postingsIn
+  place-back p k s =
+      ap (λ (r : SkipReader). record { «skip_reader» = r; «block_loaded» = eqb (flag (p .«block_loaded»)) 1; decoded = p .decoded; cur = p .cur }) (sym s)
+      ∙ ap (λ (b : Bool). record { «skip_reader» = p .«skip_reader»; «block_loaded» = b; decoded = p .decoded; cur = p .cur }) (flag-back (p .«block_loaded»))
+
+  -- the row of a place that the arrays hold
+  kept-in : (p : SegmentPostings) (k : ℕ) {docs freqs : List ℕ} → Narrow p → Placed file x p docs freqs → PlaceIn file x (placeRow p k) docs freqs
+  kept-in p k {docs} {freqs} n P =
+      let e = place-back p k (P .stands) in
+      record {
+        standing = record { row-is = ap (λ (q : SegmentPostings). placeRow q k) (sym e); narrow = subst Narrow (sym e) n; low = P .low };
+        placed = subst (λ (q : SegmentPostings). Placed file x q docs freqs) (sym e) P;
+      }
+
+  -- a row's document, whatever the scoring
+  here : (p : SegmentPostings) {docs freqs : List ℕ} → Placed file x p docs freqs → {doc : ℕ} → Here p docs doc → doc ≡ docIn file x (cursorOf p .at)
+  here p {docs} {freqs} P h = h file x freqs P Unstepped ∙ doc-is file x Unstepped (cursorOf p .at)
+
+  module _ (p : SegmentPostings) {docs freqs : List ℕ} (n : Narrow p) (to : Scoring → Cursor) (M : Moved file x to p docs freqs) where
+    -- a place that has moved, kept in a row
+    kept-row : {row row′ : List ℕ} (k : ℕ) → row′ ≡ placeRow p k → {doc : ℕ} → Here p docs doc
+        → (k ≡ 1 → (getD row 7 0 ≡ 1) × (cursorOf p .blk ≡ cursorIn row .blk) × (cursorOf p .loaded ≡ cursorIn row .loaded)) → MovedRow file x to row row′ docs freqs doc
+    kept-row {row} {row′} k e {doc} h known =
+        let P = M .placed in
+        let c : cursorIn row′ ≡ cursorOf p = ap cursorIn e ∙ sym (cursor-is (placeRow p k)) ∙ ap cursorOf (place-back p k (P .stands)) in
+        record {
+          place = subst (λ (z : List ℕ). PlaceIn file x z docs freqs) (sym e) (kept-in p k n P);
+          cursor-is = λ s. c ∙ M .cursor-is s;
+          doc-is = here p P h ∙ ap (λ (z : Cursor). docIn file x (z .at)) (sym c);
+          bound-is = λ b.
+              let w = known (sym (ap (λ (z : List ℕ). getD z 7 0) e) ∙ b) in
+              (w .0, ap (λ (z : Cursor). z .blk) c ∙ w .1, ap (λ (z : Cursor). z .loaded) c ∙ w .2);
+        }
+
+    pub moved-row : {row row′ : List ℕ} → row′ ≡ placeRow p 0 → {doc : ℕ} → Here p docs doc → MovedRow file x to row row′ docs freqs doc
+    moved-row e h = kept-row 0 e h (λ k. absurd (omega (arith, k)))
+
+-- what functions of a part ask of the one that a row stands for
+module _ (file list : List ℕ) {y : Part} (part-is : y ≡ partIn list) where
+  pub list-for : ListIn file (partIn list) → ListIn file y
+  list-for L = subst (ListIn file) (sym part-is) L
+
+  pub standing-for : (row : List ℕ) → Standing file (partIn list) row → Standing file y row
+  standing-for row S = subst (λ (z : Part). Standing file z row) (sym part-is) S
+
+-- a move of the place that a row stands for is a move of the row
+module _ (file list row : List ℕ) (move : Postings Float → Cursor → Cursor) where
+  abbrev x : Part
+  x = partIn list
+
+  abbrev To : Scoring → Cursor
+  To s = move (listOf s file x) (cursorIn row)
+
+  module _ {y : Part} (part-is : y ≡ partIn list) {q : SegmentPostings} (place-is : q ≡ postingsIn file y row) where
+    carried : (p : SegmentPostings) {docs freqs : List ℕ} → Moved file y (λ s. move (listOf s file y) (cursorOf q)) p docs freqs → Moved file x To p docs freqs
+    carried p {docs} {freqs} M =
+        let N = subst (λ (z : Part). Moved file z (λ s. move (listOf s file z) (cursorOf q)) p docs freqs) part-is M in
+        let e = subst (λ (z : Part). q ≡ postingsIn file z row) part-is place-is in
+        record { cursor-is = λ s. N .cursor-is s ∙ ap (move (listOf s file x)) (ap cursorOf e ∙ cursor-is file x row); placed = N .placed }
+
+    pub moves : (p : SegmentPostings) {docs freqs : List ℕ} → Moved file y (λ s. move (listOf s file y) (cursorOf q)) p docs freqs → {row′ : List ℕ} → (row′ ≡ placeRow p 0) × Narrow p → {doc : ℕ} → Here p docs doc → MovedRow file x To row row′ docs freqs doc
+    moves p M k h = moved-row file x p (k .1) To (carried p M) (k .0) h
+
+    -- what functions of a place ask of the one that a row stands for
+    reader-is : q .«skip_reader» ≡ readerAt file y (getD row 0 0)
+    unfolding postingsIn
+    reader-is = ap (λ (z : SegmentPostings). z .«skip_reader») place-is
+
+    pub stands-for : Stands file y (q .«skip_reader»)
+    stands-for = stands-on file y (getD row 0 0) reader-is
+
+    pub block-for : (q .«skip_reader» .block ≡ getD row 0 0) × (fullBlocks y ≡ fullBlocks x)
+    block-for = (block-is file y (getD row 0 0) reader-is, ap fullBlocks part-is)
+
+    pub placed-for : {docs freqs : List ℕ} → PlaceIn file x row docs freqs → Placed file y q docs freqs
+    placed-for {docs} {freqs} P =
+        subst (λ (z : Part). Placed file z q docs freqs) (sym part-is)
+        (subst (λ (z : SegmentPostings). Placed file x z docs freqs) (sym (subst (λ (z : Part). q ≡ postingsIn file z row) part-is place-is)) (P .placed))
+
+    -- a move of the reader alone, which keeps the place
+    module _ (same-at : (s : Scoring) → To s .at ≡ cursorIn row .at) where
+      pub moves-shallow : (p : SegmentPostings) → Shallow file y (λ s. move (listOf s file y) (cursorOf q)) q p → {row′ : List ℕ} → (row′ ≡ placeRow p 0) × Narrow p → ShallowRow file x To row row′
+      moves-shallow p M {row′} k docs freqs P =
+          let R = moves p (M docs freqs (placed-for P)) k (doc-here p docs) in
+          record {
+            place = R .place;
+            cursor-is = R .cursor-is;
+            doc-is = ap (docIn file x) (sym (ap (λ (c : Cursor). c .at) (R .cursor-is Unstepped) ∙ same-at Unstepped));
+            bound-is = R .bound-is;
+          }
+
+  -- moves within the block decoded last
+  module _ {docs freqs : List ℕ} (P : PlaceIn file x row docs freqs) where
+    abbrev p : SegmentPostings
+    p = postingsIn file x row
+
+    abbrev at-cur : ℕ → SegmentPostings
+    at-cur cur = record { «skip_reader» = p .«skip_reader»; «block_loaded» = p .«block_loaded»; decoded = p .decoded; cur = cur }
+
+    abbrev To-p : Scoring → Cursor
+    To-p s = move (listOf s file x) (cursorOf p)
+
+    to-row : (cur : ℕ) → Moved file x To-p (at-cur cur) docs freqs → Moved file x To (at-cur cur) docs freqs
+    to-row cur M = record { cursor-is = λ s. M .cursor-is s ∙ ap (move (listOf s file x)) (cursor-is file x row); placed = M .placed }
+
+    narrow-in : (cur : ℕ) → Narrow (at-cur cur)
+    narrow-in cur = record { previous = P .standing .narrow .previous; last = P .standing .narrow .last }
+
+    set-cur : (cur : ℕ) → set row 6 cur ≡ placeRow (at-cur cur) (getD row 7 0)
+    set-cur cur = ap (λ (z : List ℕ). set z 6 cur) (P .standing .row-is)
+
+    same-block : (cur : ℕ) → (cursorOf (at-cur cur) .blk ≡ cursorIn row .blk) × (cursorOf (at-cur cur) .loaded ≡ cursorIn row .loaded)
+    unfolding cursorOf cursorIn postingsIn readerAt
+    same-block cur = (refl, refl)
+
+    -- another posting of it
+    pub moves-in : (cur : ℕ) → Moved file x To-p (at-cur cur) docs freqs → {doc : ℕ} → doc ≡ getD docs cur 0 → MovedRow file x To row (set row 6 cur) docs freqs doc
+    moves-in cur M {doc} e =
+        kept-row file x (at-cur cur) (narrow-in cur) To (to-row cur M) (getD row 7 0) (set-cur cur) (subst (Here (at-cur cur) docs) (sym e) (doc-here (at-cur cur) docs))
+        (λ k. (k, same-block cur .0, same-block cur .1))
+
+    -- the same posting
+    pub stays-in : Moved file x To-p p docs freqs → {doc : ℕ} → doc ≡ docIn file x (cursorIn row .at) → MovedRow file x To row row docs freqs doc
+    stays-in M e = record {
+      place = P;
+      cursor-is = λ s. sym (cursor-is file x row) ∙ M .cursor-is s ∙ ap (move (listOf s file x)) (cursor-is file x row);
+      doc-is = e;
+      bound-is = λ k. (k, refl, refl);
+    }
+
+-- the fast moves of a row: no struct is made
+module _ (file list row : List ℕ) (L : ListIn file (partIn list)) {docs freqs : List ℕ} (P : PlaceIn file (partIn list) row docs freqs) where
+  pub cur-inside : getD row 6 0 < 128
+  unfolding postingsIn
+  cur-inside = P .placed .inside
+
+  -- the document that the scorer stands on is in the array
+  doc-in-array : docIn file (partIn list) (cursorIn row .at) ≡ getD docs (getD row 6 0) 0
+  unfolding postingsIn
+  doc-in-array =
+      sym (here file (partIn list) (postingsIn file (partIn list) row) (P .placed) (doc-here (postingsIn file (partIn list) row) docs)
+      ∙ ap (λ (c : Cursor). docIn file (partIn list) (c .at)) (cursor-is file (partIn list) row))
+
+  module _ (t : ℕ) {doc : ℕ} (doc-is : doc ≡ docIn file (partIn list) (cursorIn row .at)) where
+    abbrev Sought : (row′ : List ℕ) → ℕ → Type 0
+    Sought row′ d = MovedRow file (partIn list) (λ s. seekIn (listOf s file (partIn list)) 128 t (cursorIn row)) row row′ docs freqs d
+
+    pub seeks-here : t ≤ doc → Sought row doc
+    unfolding postingsIn
+    seeks-here h =
+        stays-in file list row (λ l c. seekIn l 128 t c) P
+        (sought-here L (postingsIn file (partIn list) row) (P .placed) t (omega (arith, h, doc-is, doc-in-array))) doc-is
+
+    pub seeks-next : doc < t → {next : ℕ} → (next ≡ min (suc (getD row 6 0)) 127) × (next < 128) → t ≤ getD docs next 0 → Sought (set row 6 next) (getD docs next 0)
+    unfolding postingsIn
+    seeks-next h {next} (e, i) k =
+        moves-in file list row (λ l c. seekIn l 128 t c) P next
+        (sought-next L (postingsIn file (partIn list) row) (P .placed) t (omega (arith, h, doc-is, doc-in-array)) e i k) refl
+
+  pub advances-in : (getD row 6 0 ≡ 127 → ⊥) → MovedRow file (partIn list) (λ s. advanceIn (listOf s file (partIn list)) 128 (cursorIn row)) row (set row 6 (getD row 6 0 + 1)) docs freqs (getD docs (getD row 6 0 + 1) 0)
+  unfolding postingsIn
+  advances-in h = moves-in file list row (λ l c. advanceIn l 128 c) P (getD row 6 0 + 1) (advanced-in L (postingsIn file (partIn list) row) (P .placed) h) refl
+
+-- within the reader's block nothing moves
+module _ (file list row : List ℕ) (L : ListIn file (partIn list)) (S : Standing file (partIn list) row) (t : ℕ) where
+  abbrev shallow : Postings Float → Cursor → Cursor
+  shallow l c = seekBlockIn l 128 t c
+
+  pub keeps-at : (l : Postings Float) (c : Cursor) → seekBlockIn l 128 t c .at ≡ c .at
+  keeps-at l c = elim (lt-or-ge (lastDoc l 128 (c .blk)) t) [
+    | inl h ↦ rw (lt-ltb (lastDoc l 128 (c .blk)) t h)
+    | inr h ↦ rw (le-ltb (lastDoc l 128 (c .blk)) t h)
+  ]
+
+  pub stays-shallow : t ≤ getD row 3 0 → ShallowRow file (partIn list) (λ s. seekBlockIn (listOf s file (partIn list)) 128 t (cursorIn row)) row row
+  stays-shallow h docs freqs P =
+      let r = ap (λ (z : List ℕ). getD z 3 0) (S .row-is) in
+      stays-in file list row shallow P (stays file (partIn list) L (postingsIn file (partIn list) row) (P .placed .stands) t (omega (arith, h, r)) docs freqs (P .placed)) refl

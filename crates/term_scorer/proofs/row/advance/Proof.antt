@@ -1,0 +1,53 @@
+-- `row::advance` meets its contract: the next place of the block, or the next block.
+use mathlib.Core.Path.{_≡_}
+use Prim.Native.Nat.{_+_, _<_}
+use mathlib.Core.Logic.{inl, inr}
+use native.Mathlib.Omega.{arith}
+use lib.ListN.{getD}
+use borrow.Author.Needs.{needs}
+use borrow.Author.Tests.{eqb-false}
+use Rattle.arrays.proofs.Order.{lt-or-ge}
+use Rattle.term_scorer.proofs.Rows.{cur-inside, advances-in}
+use Rattle.term_scorer.proofs.row.advance.Statement.{statement}
+use Rattle.term_scorer.proofs.row.advance.Tie as tie
+
+element-copy-out-cur : tie.Need-element-copy-out-cur
+element-copy-out-cur c = search needs
+
+next-inside : (c : tie.Then1) → getD (c .before .before .before .args .place .now) 6 0 + 1 < 128
+next-inside c =
+    let a = c .before .before .before in
+    let k = cur-inside (a .args .file .now) (a .args .list .now) (a .args .place .now) (a .pre .1) (a .pre .2) in
+    elim (lt-or-ge (getD (a .args .place .now) 6 0) 127) [
+      | inl h ↦ omega arith
+      | inr h ↦ absurd (c .if1 .taken (omega arith))
+    ]
+
+add-place : tie.Need-add-place
+add-place c = omega (arith, next-inside c)
+
+element-write-place : tie.Need-element-write-place
+element-write-place c = search needs
+
+add-result : tie.Need-add-result
+add-result c = omega (arith, next-inside c)
+
+mul-result : tie.Need-mul-result
+mul-result c = omega (arith, next-inside c)
+
+element-copy-out-result : tie.Need-element-copy-out-result
+element-copy-out-result c = next-inside c
+
+returns : tie.Need-returns
+returns c =
+    let a = c .before .before .before .before in
+    advances-in (a .args .file .now) (a .args .list .now) (a .args .place .now) (a .pre .1) (a .pre .2) (c .before .if1 .taken)
+
+advance-far-requires : tie.Need-advance-far-requires
+advance-far-requires c κs = c .before .before .before .before .before .before .pre
+
+returns-2 : tie.Need-returns-2
+returns-2 c = c .advance-far .ensures
+
+pub advance-spec : {M : Type 1} → statement M
+advance-spec = tie.close (tie.spec element-copy-out-cur add-place element-write-place add-result mul-result element-copy-out-result returns advance-far-requires returns-2)

@@ -1,0 +1,24 @@
+-- `row::open` meets its contract: the place opened is kept.
+use borrow.Author.Needs.{needs}
+use Rattle.term_scorer.proofs.Rows.{moved-row}
+use Rattle.term_scorer.proofs.row.open.Statement.{statement}
+use Rattle.term_scorer.proofs.row.open.Tie as tie
+
+open-requires : tie.Need-open-requires
+open-requires c κs = search needs
+
+keep-requires : tie.Need-keep-requires
+keep-requires c κs = search needs
+
+doc-requires : tie.Need-doc-requires
+doc-requires c κs = c .before .before .before .«open» .ensures .placed .inside
+
+returns : tie.Need-returns
+returns c =
+    let k = c .before .before in
+    let o = k .before .before in
+    let a = o .before .before .before .before in
+    moved-row (a .args .file .now) (a .args .x) (o .«open» .result) (k .keep .ensures .1) _ (o .«open» .ensures) (k .keep .ensures .0) (c .doc .ensures)
+
+pub open-spec : {M : Type 1} → statement M
+open-spec = tie.close (tie.spec open-requires keep-requires doc-requires returns)

@@ -1,0 +1,50 @@
+-- `row::seek_block` meets its contract: within the block the row stays, else the reader that moved is kept.
+use borrow.Author.Needs.{needs}
+use native.Mathlib.Omega.{arith}
+use Rattle.route.specs.Cursor.{seekBlockIn}
+use Rattle.decoded.specs.Lists.{listOf}
+use Rattle.term_scorer.specs.Rows.{cursorIn, partIn}
+use Rattle.term_scorer.proofs.Rows.{keeps-at, stays-shallow, moves-shallow, list-for, standing-for, stands-for, block-for}
+use Rattle.term_scorer.proofs.row.seek_block.Statement.{statement}
+use Rattle.term_scorer.proofs.row.seek_block.Tie as tie
+
+element-copy-out-if1 : tie.Need-element-copy-out-if1
+element-copy-out-if1 c = search needs
+
+returns : tie.Need-returns
+returns c = let a = c .before .before .before in stays-shallow (a .args .file .now) (a .args .list .now) (a .args .place .now) (a .pre .1) (a .pre .2) (a .args .target) (c .if1 .taken)
+
+part-of-requires : tie.Need-part-of-requires
+part-of-requires c κs = c .before .before .before .pre .0
+
+postings-of-requires : tie.Need-postings-of-requires
+postings-of-requires c κs =
+    let e = c .before in
+    let a = e .before .before .before .before in
+    (list-for (a .args .file .now) (a .args .list .now) (e .part-of .ensures) (a .pre .1) .blocks, standing-for (a .args .file .now) (a .args .list .now) (e .part-of .ensures) (a .args .place .now) (a .pre .2))
+
+seek-block-requires : tie.Need-seek-block-requires
+seek-block-requires c κs =
+    let e = c .before .before in
+    let a = e .before .before .before .before in
+    let file = a .args .file .now in (
+      list-for file (a .args .list .now) (e .part-of .ensures) (a .pre .1),
+      stands-for file (a .args .list .now) (a .args .place .now) (λ l k. k) (e .part-of .ensures) (c .postings-of .ensures),
+      omega (arith, block-for file (a .args .list .now) (a .args .place .now) (λ l k. k) (e .part-of .ensures) (c .postings-of .ensures), a .pre .2 .low),
+    )
+
+keep-requires : tie.Need-keep-requires
+keep-requires c κs = search needs
+
+returns-2 : tie.Need-returns-2
+returns-2 c =
+    let p = c .before .before .before in
+    let e = p .before .before in
+    let a = e .before .before .before .before in
+    let t = a .args .target in
+    moves-shallow (a .args .file .now) (a .args .list .now) (a .args .place .now) (λ l k. seekBlockIn l 128 t k) (e .part-of .ensures) (p .postings-of .ensures)
+    (λ s. keeps-at (a .args .file .now) (a .args .list .now) (a .args .place .now) (a .pre .1) (a .pre .2) t (listOf s (a .args .file .now) (partIn (a .args .list .now))) (cursorIn (a .args .place .now)))
+    (c .before .before .seek-block .result) (c .before .before .seek-block .ensures) (c .keep .ensures)
+
+pub seek-block-spec : {M : Type 1} → statement M
+seek-block-spec = tie.close (tie.spec element-copy-out-if1 returns part-of-requires postings-of-requires seek-block-requires keep-requires returns-2)

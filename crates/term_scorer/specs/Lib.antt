@@ -1,0 +1,2 @@
+-- What the contracts of `term_scorer` cite.
+pub mod Rows

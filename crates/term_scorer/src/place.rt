@@ -1,0 +1,94 @@
+// A slot's two rows of numbers: those of its list's part, and those of its place. Structs are made of them at a block change only.
+ghost use mathlib.Core.Path.{_≡_};
+ghost use Prim.Native.Nat.{_<_};
+ghost use lib.ListN.{getD};
+ghost use Rattle.notefile.specs.Given.{BlocksIn};
+ghost use Rattle.term_scorer.specs.Rows.{partIn, partRow, PartRow, postingsIn, placeRow, Narrow, Standing};
+use notefile::part::Part;
+use postings::cursor::SegmentPostings;
+use postings::skip::SkipReader;
+
+// Where a place's numbers stand in its row. The last is 1 where the block's bound is known, else 0.
+const BLOCK: usize = 0;
+
+const BYTE_OFFSET: usize = 1;
+
+const PREVIOUS: usize = 2;
+
+pub const LAST: usize = 3;
+
+const LOADED: usize = 4;
+
+const DECODED: usize = 5;
+
+pub const CUR: usize = 6;
+
+pub const BOUND: usize = 7;
+
+// A part's numbers, put into a row.
+pub fn keep_part(x: Part, list: &mut [usize; 8])
+    ensures { λ _. ⌜ (now (list .exit) ≡ partRow x) × PartRow (now (list .exit)) ⌝ }
+{
+    *list = [
+        x.weight as usize,
+        x.average as usize,
+        x.count,
+        x.entry,
+        x.skips,
+        x.postings,
+        x.end,
+        0,
+    ];
+}
+
+// The part of a row.
+pub fn part_of(list: &[usize; 8]) -> Part
+    requires { ⌜ PartRow (now list) ⌝ }
+    ensures { λ r. ⌜ r ≡ partIn (now (list .entry)) ⌝ }
+{
+    Part {
+        weight: list[0] as u32,
+        average: list[1] as u32,
+        count: list[2],
+        entry: list[3],
+        skips: list[4],
+        postings: list[5],
+        end: list[6],
+    }
+}
+
+// A place's numbers, put into a row, with a bound that is not known.
+pub fn keep(p: SegmentPostings, place: &mut [usize; 8])
+    ensures { λ _. ⌜ (now (place .exit) ≡ placeRow p 0) × Narrow p ⌝ }
+{
+    let reader = p.skip_reader;
+    let mut loaded = 0usize;
+    if p.block_loaded {
+        loaded = 1;
+    }
+    *place = [
+        reader.block,
+        reader.byte_offset,
+        reader.last_doc_in_previous_block as usize,
+        reader.last_doc_in_block as usize,
+        loaded,
+        p.decoded,
+        p.cur,
+        0,
+    ];
+}
+
+// The place of a row. Its skip reader reads the block's entry again.
+pub fn postings_of(file: &[u8], x: Part, place: &[usize; 8]) -> SegmentPostings
+    requires { ⌜ BlocksIn (now file) x × Standing (now file) x (now place) ⌝ }
+    ensures { λ r. ⌜ r ≡ postingsIn (now (file .entry)) x (now (place .entry)) ⌝ }
+{
+    let previous = place[PREVIOUS] as u32;
+    let skip_reader = SkipReader::on(file, x, place[BLOCK], place[BYTE_OFFSET], previous);
+    SegmentPostings {
+        skip_reader,
+        block_loaded: place[LOADED] == 1,
+        decoded: place[DECODED],
+        cur: place[CUR],
+    }
+}

@@ -1,0 +1,128 @@
+// A scorer's moves over its slot's rows and arrays. Within a block they change one number or none.
+ghost use mathlib.Core.Path.{_≡_};
+ghost use Prim.Native.Nat.{_≤_};
+ghost use lib.ListN.{getD};
+ghost use Rattle.notefile.specs.Lists.{fullBlocks};
+ghost use Rattle.route.specs.Cursor.{advanceIn, fresh, seekBlockIn, seekIn};
+ghost use Rattle.decoded.specs.Lists.{listOf};
+ghost use Rattle.postings.specs.Decoded.{docIn, ListIn};
+ghost use Rattle.term_scorer.specs.Rows.{cursorIn, partIn, MovedRow, PartRow, PlaceIn, ShallowRow, Standing};
+use crate::place::CUR;
+use crate::place::LAST;
+use crate::place::keep;
+use crate::place::part_of;
+use crate::place::postings_of;
+use notefile::part::Part;
+use postings::cursor::SegmentPostings;
+use postings::cursor::next_place;
+
+// On the list's first posting.
+pub fn open(
+    file: &[u8],
+    x: Part,
+    place: &mut [usize; 8],
+    docs: &mut [u32; 128],
+    freqs: &mut [u32; 128],
+) -> u32
+    requires { ⌜ ListIn (now file) x ⌝ }
+    ensures { λ r. ⌜ MovedRow (now (file .entry)) x (λ _. fresh) (now (place .entry)) (now (place .exit)) (now (docs .exit)) (now (freqs .exit)) r ⌝ }
+{
+    let p = SegmentPostings::open(file, x, docs, freqs);
+    keep(p, place);
+    p.doc(docs)
+}
+
+// The skip reader alone goes on; within its block nothing moves.
+pub fn seek_block(file: &[u8], list: &[usize; 8], target: u32, place: &mut [usize; 8])
+    requires { ⌜ PartRow (now list) × ListIn (now file) (partIn (now list)) × Standing (now file) (partIn (now list)) (now place) ⌝ }
+    ensures { λ _. ⌜ ShallowRow (now (file .entry)) (partIn (now (list .entry))) (λ s. seekBlockIn (listOf s (now (file .entry)) (partIn (now (list .entry)))) 128 target (cursorIn (now (place .entry)))) (now (place .entry)) (now (place .exit)) ⌝ }
+{
+    if target as usize <= place[LAST] {
+        return;
+    }
+    let x = part_of(list);
+    let p = postings_of(file, x, place);
+    let r = p.seek_block(file, x, target);
+    keep(r, place);
+}
+
+// To the block that may hold the target, and in it to the first posting from the target on.
+fn seek_far(
+    file: &[u8],
+    list: &[usize; 8],
+    target: u32,
+    place: &mut [usize; 8],
+    docs: &mut [u32; 128],
+    freqs: &mut [u32; 128],
+) -> u32
+    requires { ⌜ PartRow (now list) × ListIn (now file) (partIn (now list)) × PlaceIn (now file) (partIn (now list)) (now place) (now docs) (now freqs) × (target ≤ 2147483647) ⌝ }
+    ensures { λ r. ⌜ MovedRow (now (file .entry)) (partIn (now (list .entry))) (λ s. seekIn (listOf s (now (file .entry)) (partIn (now (list .entry)))) 128 target (cursorIn (now (place .entry)))) (now (place .entry)) (now (place .exit)) (now (docs .exit)) (now (freqs .exit)) r ⌝ }
+{
+    let x = part_of(list);
+    let p = postings_of(file, x, place);
+    let r = p.seek(file, x, target, docs, freqs);
+    keep(r, place);
+    r.doc(docs)
+}
+
+// On to the first posting from the target on: where the scorer stands, or the next one, or in another block.
+pub fn seek(
+    file: &[u8],
+    list: &[usize; 8],
+    doc: u32,
+    target: u32,
+    place: &mut [usize; 8],
+    docs: &mut [u32; 128],
+    freqs: &mut [u32; 128],
+) -> u32
+    requires { ⌜ PartRow (now list) × ListIn (now file) (partIn (now list)) × PlaceIn (now file) (partIn (now list)) (now place) (now docs) (now freqs) × (doc ≡ docIn (now file) (partIn (now list)) (cursorIn (now place) .at)) × (target ≤ 2147483647) ⌝ }
+    ensures { λ r. ⌜ MovedRow (now (file .entry)) (partIn (now (list .entry))) (λ s. seekIn (listOf s (now (file .entry)) (partIn (now (list .entry)))) 128 target (cursorIn (now (place .entry)))) (now (place .entry)) (now (place .exit)) (now (docs .exit)) (now (freqs .exit)) r ⌝ }
+{
+    if target <= doc {
+        return doc;
+    }
+    let next = next_place(place[CUR]);
+    let next_doc = docs[next];
+    if target <= next_doc {
+        place[CUR] = next;
+        return next_doc;
+    }
+    seek_far(file, list, target, place, docs, freqs)
+}
+
+// To the first posting of the next block.
+fn advance_far(
+    file: &[u8],
+    list: &[usize; 8],
+    place: &mut [usize; 8],
+    docs: &mut [u32; 128],
+    freqs: &mut [u32; 128],
+) -> u32
+    requires { ⌜ PartRow (now list) × ListIn (now file) (partIn (now list)) × PlaceIn (now file) (partIn (now list)) (now place) (now docs) (now freqs) × (getD (now place) 0 0 ≤ fullBlocks (partIn (now list))) ⌝ }
+    ensures { λ r. ⌜ MovedRow (now (file .entry)) (partIn (now (list .entry))) (λ s. advanceIn (listOf s (now (file .entry)) (partIn (now (list .entry)))) 128 (cursorIn (now (place .entry)))) (now (place .entry)) (now (place .exit)) (now (docs .exit)) (now (freqs .exit)) r ⌝ }
+{
+    let x = part_of(list);
+    let p = postings_of(file, x, place);
+    let r = p.advance(file, x, docs, freqs);
+    keep(r, place);
+    r.doc(docs)
+}
+
+// On to the next posting.
+pub fn advance(
+    file: &[u8],
+    list: &[usize; 8],
+    place: &mut [usize; 8],
+    docs: &mut [u32; 128],
+    freqs: &mut [u32; 128],
+) -> u32
+    requires { ⌜ PartRow (now list) × ListIn (now file) (partIn (now list)) × PlaceIn (now file) (partIn (now list)) (now place) (now docs) (now freqs) × (getD (now place) 0 0 ≤ fullBlocks (partIn (now list))) ⌝ }
+    ensures { λ r. ⌜ MovedRow (now (file .entry)) (partIn (now (list .entry))) (λ s. advanceIn (listOf s (now (file .entry)) (partIn (now (list .entry)))) 128 (cursorIn (now (place .entry)))) (now (place .entry)) (now (place .exit)) (now (docs .exit)) (now (freqs .exit)) r ⌝ }
+{
+    let cur = place[CUR];
+    if cur != 127 {
+        place[CUR] = cur + 1;
+        return docs[cur + 1];
+    }
+    advance_far(file, list, place, docs, freqs)
+}
