@@ -1,5 +1,6 @@
 -- Facts of norms and scores that belong to no one function.
 pub mod Bounds
 pub mod LimitBits
+pub mod Numbers
 pub mod WeightLaws
 pub mod Worked

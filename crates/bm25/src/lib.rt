@@ -16,9 +16,9 @@ const K1: f32 = 1.2;
 const B: f32 = 0.75;
 
 // The highest norm code and the highest frequency: the list bound's pair.
-const MAX_FIELDNORM_ID: u8 = 255;
+pub const MAX_FIELDNORM_ID: u8 = 255;
 
-const MAX_TERM_FREQ: u32 = 2013265944;
+pub const MAX_TERM_FREQ: u32 = 2013265944;
 
 // Whether scores and bounds are cut down to multiples of 1/1024.
 pub enum Scoring {

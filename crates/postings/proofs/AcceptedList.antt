@@ -5,7 +5,7 @@ use Prim.Native.Nat.{ℕ, _<_}
 use Rattle.notefile.specs.Header.{listCount}
 use Rattle.notefile.specs.Parts.{partOf}
 use Rattle.notefile.specs.Refusal.{fileRefusal}
-use Rattle.notefile.proofs.Accepted.{header-right, list-accepted, list-blocks}
+use Rattle.notefile.proofs.Accepted.{header-right, list-accepted, list-blocks, list-limits}
 use Rattle.notefile.proofs.Headers.{few-documents}
 use Rattle.postings.specs.Decoded.{ListIn}
 
@@ -13,5 +13,6 @@ pub list-in : (file : List ℕ) → fileRefusal file ≡ 0 → (l : ℕ) → l <
 list-in file accepted l h = record {
   blocks = list-blocks file accepted l h;
   right = list-accepted file accepted l h;
+  limits = list-limits file accepted l h;
   few = few-documents file (header-right file accepted);
 }

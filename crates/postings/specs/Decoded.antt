@@ -8,7 +8,7 @@ use Rattle.arrays.specs.Holds.{Holds}
 use Rattle.bm25.specs.declared.Scoring.{Scoring}
 use Rattle.notefile.specs.Header.{documents}
 use Rattle.notefile.specs.Lists.{listDoc, listFreq}
-use Rattle.notefile.specs.Given.{BlocksIn}
+use Rattle.notefile.specs.Given.{BlocksIn, Limits}
 use Rattle.notefile.specs.declared.part.Part.{Part}
 use Rattle.notefile.proofs.Accepted.{ListRight}
 use Rattle.decoded.specs.Lists.{listOf}
@@ -36,4 +36,5 @@ pub record Decoded (file : List ℕ) (x : Part) (b : ℕ) (docs freqs : List ℕ
 pub record ListIn (file : List ℕ) (x : Part) : Type 0 where
   pub blocks : BlocksIn file x
   pub right : ListRight file x
+  pub limits : Limits x
   pub few : documents file ≤ 1048576

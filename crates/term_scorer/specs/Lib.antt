@@ -1,2 +1,4 @@
 -- What the contracts of `term_scorer` cite.
 pub mod Rows
+pub mod Slots
+pub mod Weights

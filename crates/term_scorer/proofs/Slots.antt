@@ -1,0 +1,56 @@
+-- A move of one slot's rows, seen from all slots.
+use mathlib.Core.Path.{_≡_, refl, sym, ap, _∙_, subst}
+use mathlib.Core.List.{List, []}
+use Prim.Native.Nat.{ℕ, _≤_, _<_}
+use native.Mathlib.Omega.{arith}
+use lib.ListN.{getD, set, length-set}
+use lib.Seq.{getD-set-same}
+use Rattle.bm25.specs.declared.Scoring.{Scoring}
+use Rattle.notefile.specs.declared.part.Part.{Part}
+use Rattle.route.specs.Cursor.{Cursor, fresh}
+use Rattle.term_scorer.specs.Rows.{cursorIn, partIn, partRow, PartRow, MovedRow, ShallowRow}
+use Rattle.term_scorer.specs.Slots.{Sixteen, Held, cursorAt, held, partAt, MovedSlot, Shallowed, Opened}
+use Rattle.term_scorer.proofs.Rows.{part-back}
+
+-- the row that was put into a slot
+same-row : {A : Type 0} (xss : List (List A)) (q : ℕ) (xs : List A) → q < 16 → Sixteen xss → getD (set xss q xs) q [] ≡ xs
+same-row xss q xs h l = getD-set-same xss q xs [] (omega (arith, h, l))
+
+only-row : {A : Type 0} (xss : List (List A)) (q : ℕ) (xs : List A) → q < 16 → Sixteen xss → set xss q xs ≡ set xss q (getD (set xss q xs) q [])
+only-row xss q xs h l = ap (set xss q) (sym (same-row xss q xs h l))
+
+-- the block of a slot's cursor is its row's first number
+pub block-at : (places : List (List ℕ)) (q n : ℕ) → cursorAt places q .blk ≤ n → getD (getD places q []) 0 0 ≤ n
+unfolding cursorIn
+block-at places q n h = h
+
+module _ (file : List ℕ) (lists : List (List ℕ)) (q : ℕ) (h : q < 16) where
+  pub moved-slot : (to : Scoring → Cursor) {places docs freqs : List (List ℕ)} → Sixteen places × Sixteen docs × Sixteen freqs → {p d f : List ℕ} {doc : ℕ}
+      → MovedRow file (partAt lists q) to (getD places q []) p d f doc
+      → MovedSlot file lists q to (held places docs freqs) (held (set places q p) (set docs q d) (set freqs q f)) doc
+  moved-slot to {places} {docs} {freqs} (lp, ld, lf) {p} {d} {f} M = record {
+    places-only = only-row places q p h lp;
+    docs-only = only-row docs q d h ld;
+    freqs-only = only-row freqs q f h lf;
+    moved = rw (same-row places q p h lp, same-row docs q d h ld, same-row freqs q f h lf) M;
+  }
+
+  pub shallowed : (to : Scoring → Cursor) {places : List (List ℕ)} → Sixteen places → {p : List ℕ}
+      → ShallowRow file (partAt lists q) to (getD places q []) p → Shallowed file lists q to places (set places q p)
+  shallowed to {places} l {p} M = record { only = only-row places q p h l; moved = rw (same-row places q p h l) M }
+
+module _ (file : List ℕ) (x : Part) (q : ℕ) (h : q < 16) (lists : List (List ℕ)) (l : Sixteen lists) where
+  part-there : partAt (set lists q (partRow x)) q ≡ x
+  part-there = ap partIn (same-row lists q (partRow x) h l) ∙ part-back x
+
+  pub opened : {list : List ℕ} → (list ≡ partRow x) × PartRow list → {places docs freqs : List (List ℕ)} → Sixteen places × Sixteen docs × Sixteen freqs → {p d f : List ℕ} {doc : ℕ}
+      → MovedRow file x (λ _. fresh) (getD places q []) p d f doc
+      → Opened file x q lists (set lists q list) (held places docs freqs) (held (set places q p) (set docs q d) (set freqs q f)) doc
+  opened {list} (e, r) {places} {docs} {freqs} s {p} {d} {f} {doc} M =
+      subst (λ (z : List ℕ). Opened file x q lists (set lists q z) (held places docs freqs) (held (set places q p) (set docs q d) (set freqs q f)) doc) (sym e)
+      (record {
+        lists-only = refl;
+        part-row = subst PartRow e r;
+        opened = moved-slot file (set lists q (partRow x)) q h (λ _. fresh) s
+            (subst (λ (z : Part). MovedRow file z (λ _. fresh) (getD places q []) p d f doc) (sym part-there) M);
+      })

@@ -1,0 +1,52 @@
+-- `slot::seek` meets its contract: the row of its slot moves, and the other slots stay.
+use borrow.Author.Needs.{needs}
+use Rattle.term_scorer.proofs.Slots.{moved-slot}
+use Rattle.term_scorer.proofs.slot.seek.Statement.{statement}
+use Rattle.term_scorer.proofs.slot.seek.Tie as tie
+
+mul-seek : tie.Need-mul-seek
+mul-seek c = search needs
+
+index-1-seek : tie.Need-index-1-seek
+index-1-seek c = search needs
+
+mul-seek-2 : tie.Need-mul-seek-2
+mul-seek-2 c = search needs
+
+index-1-seek-2 : tie.Need-index-1-seek-2
+index-1-seek-2 c = search needs
+
+mul-seek-3 : tie.Need-mul-seek-3
+mul-seek-3 c = search needs
+
+index-1-seek-3 : tie.Need-index-1-seek-3
+index-1-seek-3 c = search needs
+
+mul-seek-4 : tie.Need-mul-seek-4
+mul-seek-4 c = search needs
+
+index-1-seek-4 : tie.Need-index-1-seek-4
+index-1-seek-4 c = search needs
+
+seek-requires : tie.Need-seek-requires
+seek-requires c κs = search needs
+
+returns : tie.Need-returns
+returns c =
+    let a = c .before .before .before .before .before .before in
+    moved-slot (a .args .file .now) (a .args .lists .now) (a .args .q) (a .pre .0) _ (a .pre .1 .sixteen) (c .seek .ensures)
+
+pub seek-spec : {M : Type 1} → statement M
+seek-spec =
+    tie.close
+    (tie.spec
+    mul-seek
+    index-1-seek
+    mul-seek-2
+    index-1-seek-2
+    mul-seek-3
+    index-1-seek-3
+    mul-seek-4
+    index-1-seek-4
+    seek-requires
+    returns)

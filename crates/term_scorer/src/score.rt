@@ -1,0 +1,137 @@
+// Scores and block bounds by slot. Norms and weights stand in lent arrays, so that one posting is scored without a copy of its list's norms.
+ghost use mathlib.Core.Path.{_≡_};
+ghost use Prim.Native.Nat.{_<_};
+ghost use lib.ListN.{getD};
+ghost use lib.Ieee.{nan};
+ghost use mathlib.Core.List.{[]};
+ghost use Rattle.notefile.specs.Header.{normReader};
+ghost use Rattle.route.specs.Cursor.{blockMax};
+ghost use Rattle.route.specs.F32.{f32};
+ghost use Rattle.decoded.specs.Lists.{listOf};
+ghost use Rattle.postings.specs.Decoded.{docIn, ListIn};
+ghost use Rattle.term_scorer.specs.Rows.{cursorIn, partIn, PartRow, PlaceIn};
+ghost use Rattle.term_scorer.specs.Slots.{cursorAt, held, listAt, partAt, Sixteen, SlotIn};
+ghost use Rattle.term_scorer.specs.Weights.{Bounded, BoundKept, Weighed, WeighedIn};
+use crate::place::BOUND;
+use crate::place::CUR;
+use crate::place::part_of;
+use crate::place::postings_of;
+use bm25::Bm25Weight;
+use bm25::MAX_FIELDNORM_ID;
+use bm25::MAX_TERM_FREQ;
+use bm25::Scoring;
+use fieldnorm::FieldNormReader;
+use postings::bound::block_max_score;
+use postings::skip::BlockInfo;
+
+// The frequency of the posting on which slot q's scorer stands.
+pub fn term_freq(q: usize, places: &[[usize; 8]; 16], freqs: &[[u32; 128]; 16]) -> u32
+    requires { ⌜ (q < 16) × (getD (getD (now places) q []) 6 0 < 128) ⌝ }
+    ensures { λ r. ⌜ r ≡ getD (getD (now (freqs .entry)) q []) (getD (getD (now (places .entry)) q []) 6 0) 0 ⌝ }
+{
+    let cur = places[q][CUR];
+    freqs[q][cur]
+}
+
+// The score of the posting on which slot q's scorer stands, which is document doc.
+pub fn score(
+    file: &[u8],
+    norms: FieldNormReader,
+    weights: &[f32; 16],
+    caches: &[[f32; 256]; 16],
+    scoring: Scoring,
+    lists: &[[usize; 8]; 16],
+    q: usize,
+    doc: u32,
+    places: &[[usize; 8]; 16],
+    docs: &[[u32; 128]; 16],
+    freqs: &[[u32; 128]; 16],
+) -> f32
+    requires { ⌜ (q < 16) × (norms ≡ normReader (now file)) × SlotIn (now file) (now lists) (held (now places) (now docs) (now freqs)) q × Weighed (now lists) (now weights) (now caches) q × (doc ≡ docIn (now file) (partAt (now lists) q) (cursorAt (now places) q .at)) × (doc < 2147483647) ⌝ }
+    ensures { λ r. ⌜ r ≡ listAt scoring (now (file .entry)) (now (lists .entry)) q .score (cursorAt (now (places .entry)) q .at) ⌝ }
+{
+    let id = norms.fieldnorm_id(file, doc);
+    let freq = term_freq(q, places, freqs);
+    bm25::score_by(&caches[q], weights[q], scoring, id, freq)
+}
+
+// The bound of the skip reader's block. Of a loaded tail it is the largest score, which its list's norms by value give at once.
+fn bound_of(
+    file: &[u8],
+    norms: FieldNormReader,
+    weight: f32,
+    cache: &[f32; 256],
+    scoring: Scoring,
+    list: &[usize; 8],
+    place: &[usize; 8],
+    docs: &[u32; 128],
+    freqs: &[u32; 128],
+) -> f32
+    requires { ⌜ (norms ≡ normReader (now file)) × PartRow (now list) × ListIn (now file) (partIn (now list)) × PlaceIn (now file) (partIn (now list)) (now place) (now docs) (now freqs) × WeighedIn (partIn (now list)) weight (now cache) ⌝ }
+    ensures { λ r. ⌜ r ≡ blockMax 128 f32 (listOf scoring (now (file .entry)) (partIn (now (list .entry)))) (cursorIn (now (place .entry))) ⌝ }
+{
+    let x = part_of(list);
+    let p = postings_of(file, x, place);
+    let reader = p.skip_reader;
+    let info = reader.block_info;
+    match info {
+        BlockInfo::BitPacked {
+            doc_num_bits: _,
+            strict_delta_encoded: _,
+            tf_num_bits: _,
+            block_wand_fieldnorm_id,
+            block_wand_max_tf,
+        } => {
+            let freq = bm25::decode_block_wand_max_tf(block_wand_max_tf);
+            bm25::score_by(cache, weight, scoring, block_wand_fieldnorm_id, freq)
+        }
+        BlockInfo::VInt { num_docs: _ } => {
+            if p.block_loaded {
+                let norms_of_list = *cache;
+                let w = Bm25Weight {
+                    weight,
+                    average: f32::from_bits(x.average),
+                    cache: norms_of_list,
+                };
+                return block_max_score(file, norms, x, w, scoring, p, docs, freqs);
+            }
+            bm25::score_by(cache, weight, scoring, MAX_FIELDNORM_ID, MAX_TERM_FREQ)
+        }
+    }
+}
+
+// The bound of slot q's block, worked out once for each block that its skip reader comes to or loads.
+pub fn block_max(
+    file: &[u8],
+    norms: FieldNormReader,
+    weights: &[f32; 16],
+    caches: &[[f32; 256]; 16],
+    scoring: Scoring,
+    lists: &[[usize; 8]; 16],
+    q: usize,
+    places: &mut [[usize; 8]; 16],
+    docs: &[[u32; 128]; 16],
+    freqs: &[[u32; 128]; 16],
+    bounds: &mut [f32; 16],
+) -> f32
+    requires { ⌜ (q < 16) × (norms ≡ normReader (now file)) × SlotIn (now file) (now lists) (held (now places) (now docs) (now freqs)) q × Weighed (now lists) (now weights) (now caches) q × BoundKept scoring (now file) (now lists) (now places) (now bounds) q × Sixteen (now bounds) ⌝ }
+    ensures { λ r. ⌜ Bounded scoring (now (file .entry)) (now (lists .entry)) q (now (places .entry)) (now (bounds .entry)) (now (places .exit)) (now (bounds .exit)) r ⌝ }
+{
+    if places[q][BOUND] == 1 {
+        return bounds[q];
+    }
+    let bound = bound_of(
+        file,
+        norms,
+        weights[q],
+        &caches[q],
+        scoring,
+        &lists[q],
+        &places[q],
+        &docs[q],
+        &freqs[q],
+    );
+    places[q][BOUND] = 1;
+    bounds[q] = bound;
+    bound
+}

@@ -1,0 +1,92 @@
+// A scorer's moves by its slot. The other slots stay as they are.
+ghost use mathlib.Core.Path.{_≡_};
+ghost use Prim.Native.Nat.{_≤_, _<_};
+ghost use Rattle.notefile.specs.Lists.{fullBlocks};
+ghost use Rattle.notefile.specs.declared.part.Part.{Part};
+ghost use Rattle.route.specs.Cursor.{advanceIn, fresh, seekBlockIn, seekIn};
+ghost use Rattle.decoded.specs.Lists.{listOf};
+ghost use Rattle.postings.specs.Decoded.{docIn, ListIn};
+ghost use Rattle.term_scorer.specs.Slots.{cursorAt, held, lastAt, listAt, partAt, MovedSlot, Opened, Shallowed, SlotIn, StandingIn, Sixteen};
+use crate::place::LAST;
+use crate::place::keep_part;
+use crate::row;
+use notefile::part::Part;
+
+// A list's scorer in slot q, on the list's first posting.
+pub fn open(
+    file: &[u8],
+    x: Part,
+    q: usize,
+    lists: &mut [[usize; 8]; 16],
+    places: &mut [[usize; 8]; 16],
+    docs: &mut [[u32; 128]; 16],
+    freqs: &mut [[u32; 128]; 16],
+) -> u32
+    requires { ⌜ (q < 16) × ListIn (now file) x × Sixteen (now lists) × Sixteen (now places) × Sixteen (now docs) × Sixteen (now freqs) ⌝ }
+    ensures { λ r. ⌜ Opened (now (file .entry)) x q (now (lists .entry)) (now (lists .exit)) (held (now (places .entry)) (now (docs .entry)) (now (freqs .entry))) (held (now (places .exit)) (now (docs .exit)) (now (freqs .exit))) r ⌝ }
+{
+    keep_part(x, &mut lists[q]);
+    row::open(file, x, &mut places[q], &mut docs[q], &mut freqs[q])
+}
+
+// The last document of the block on which the skip reader stands.
+pub fn last_doc_in_block(q: usize, places: &[[usize; 8]; 16]) -> u32
+    requires { ⌜ (q < 16) × (lastAt (now places) q < 4294967296) ⌝ }
+    ensures { λ r. ⌜ r ≡ lastAt (now (places .entry)) q ⌝ }
+{
+    places[q][LAST] as u32
+}
+
+// The skip reader alone goes on to the block that may hold the target.
+pub fn seek_block(
+    file: &[u8],
+    lists: &[[usize; 8]; 16],
+    q: usize,
+    target: u32,
+    places: &mut [[usize; 8]; 16],
+)
+    requires { ⌜ (q < 16) × StandingIn (now file) (now lists) (now places) q ⌝ }
+    ensures { λ _. ⌜ Shallowed (now (file .entry)) (now (lists .entry)) q (λ s. seekBlockIn (listAt s (now (file .entry)) (now (lists .entry)) q) 128 target (cursorAt (now (places .entry)) q)) (now (places .entry)) (now (places .exit)) ⌝ }
+{
+    row::seek_block(file, &lists[q], target, &mut places[q]);
+}
+
+// On to the first posting from the target on.
+pub fn seek(
+    file: &[u8],
+    lists: &[[usize; 8]; 16],
+    q: usize,
+    doc: u32,
+    target: u32,
+    places: &mut [[usize; 8]; 16],
+    docs: &mut [[u32; 128]; 16],
+    freqs: &mut [[u32; 128]; 16],
+) -> u32
+    requires { ⌜ (q < 16) × SlotIn (now file) (now lists) (held (now places) (now docs) (now freqs)) q × (doc ≡ docIn (now file) (partAt (now lists) q) (cursorAt (now places) q .at)) × (target ≤ 2147483647) ⌝ }
+    ensures { λ r. ⌜ MovedSlot (now (file .entry)) (now (lists .entry)) q (λ s. seekIn (listAt s (now (file .entry)) (now (lists .entry)) q) 128 target (cursorAt (now (places .entry)) q)) (held (now (places .entry)) (now (docs .entry)) (now (freqs .entry))) (held (now (places .exit)) (now (docs .exit)) (now (freqs .exit))) r ⌝ }
+{
+    row::seek(
+        file,
+        &lists[q],
+        doc,
+        target,
+        &mut places[q],
+        &mut docs[q],
+        &mut freqs[q],
+    )
+}
+
+// On to the next posting.
+pub fn advance(
+    file: &[u8],
+    lists: &[[usize; 8]; 16],
+    q: usize,
+    places: &mut [[usize; 8]; 16],
+    docs: &mut [[u32; 128]; 16],
+    freqs: &mut [[u32; 128]; 16],
+) -> u32
+    requires { ⌜ (q < 16) × SlotIn (now file) (now lists) (held (now places) (now docs) (now freqs)) q × (cursorAt (now places) q .blk ≤ fullBlocks (partAt (now lists) q)) ⌝ }
+    ensures { λ r. ⌜ MovedSlot (now (file .entry)) (now (lists .entry)) q (λ s. advanceIn (listAt s (now (file .entry)) (now (lists .entry)) q) 128 (cursorAt (now (places .entry)) q)) (held (now (places .entry)) (now (docs .entry)) (now (freqs .entry))) (held (now (places .exit)) (now (docs .exit)) (now (freqs .exit))) r ⌝ }
+{
+    row::advance(file, &lists[q], &mut places[q], &mut docs[q], &mut freqs[q])
+}
