@@ -5,7 +5,7 @@ ghost use Rattle.notefile.specs.Given.{FileIn};
 ghost use Rattle.notecheck.specs.Answers.{answerOf};
 use crate::entry::entries_right;
 use crate::header::header_right;
-use crate::list::check_list;
+use listcheck::list::check_list;
 use notefile::header::ENTRY_LENGTH;
 use notefile::header::HEADER_LENGTH;
 use notefile::header::Header;

@@ -1,7 +1,4 @@
-// Whether a note file is accepted: the table's conditions 1 to 9, and their order.
-pub mod bounds;
+// Whether a note file is accepted: the table's conditions 1 to 4, then the lists.
 pub mod check;
 pub mod entry;
 pub mod header;
-pub mod list;
-pub mod skip;

@@ -4,9 +4,9 @@ use borrow.Author.Needs.{needs}
 use borrow.Author.Tests.{not-true, not-false}
 use Rattle.notefile.specs.Lists.{fullBlocks}
 use Rattle.notefile.proofs.FullBlocks.{previous-same}
-use Rattle.notecheck.proofs.ListOrder.{skips-wrong, tail-is, skipped, postings-wrong, blocks-in, full-seven, docs-before, with-tail, top-is, weight-number, average-number}
-use Rattle.notecheck.proofs.list.check_list.Statement.{statement}
-use Rattle.notecheck.proofs.list.check_list.Tie as tie
+use Rattle.listcheck.proofs.ListOrder.{skips-wrong, tail-is, skipped, postings-wrong, blocks-in, full-seven, docs-before, with-tail, top-is, weight-number, average-number}
+use Rattle.listcheck.proofs.list.check_list.Statement.{statement}
+use Rattle.listcheck.proofs.list.check_list.Tie as tie
 
 tail-place-requires : tie.Need-tail-place-requires
 tail-place-requires c κs = search needs

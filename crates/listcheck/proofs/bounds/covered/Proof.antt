@@ -9,8 +9,8 @@ use lib.Ieee.{nan, lt}
 use borrow.Author.Needs.{needs}
 use Rattle.arrays.proofs.Every.{stays, lowered}
 use Rattle.notefile.specs.Reads.{allCovered}
-use Rattle.notecheck.proofs.bounds.covered.Statement.{statement}
-use Rattle.notecheck.proofs.bounds.covered.Tie as tie
+use Rattle.listcheck.proofs.bounds.covered.Statement.{statement}
+use Rattle.listcheck.proofs.bounds.covered.Tie as tie
 
 abbrev Inv-loop : tie.InvT-loop
 Inv-loop scores n bound right₀ i₀ right i = (i ≤ n) × (right ≡ allCovered bound i (λ k. getD scores k nan))

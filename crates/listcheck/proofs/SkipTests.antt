@@ -15,8 +15,8 @@ use Rattle.notefile.specs.Skips.{skipEntryAt}
 use Rattle.notefile.specs.Lists.{fullBlocks, tailAt, blockAt}
 use Rattle.notefile.specs.Conditions.{skipRight, skipsRight}
 use Rattle.notefile.specs.declared.part.Part.{Part}
-use Rattle.notecheck.specs.Answers.{tailOr}
-use Rattle.notecheck.specs.declared.skip.TailPlace.the-variants.{At, Wrong}
+use Rattle.listcheck.specs.Answers.{tailOr}
+use Rattle.listcheck.specs.declared.skip.TailPlace.the-variants.{At, Wrong}
 
 -- all of a list's skip entries are few bytes
 pub skips-small : (entry count : ℕ) → entry ≤ 12 → count < 2097152 → entry * (count / 128) ≤ 196608

@@ -2,8 +2,8 @@
 use mathlib.Core.Path.{sym}
 use Prim.Native.Nat.{_/_, _%_}
 use borrow.Author.Tests.{eq-eqb, ne-eqb}
-use Rattle.notecheck.proofs.skip.widths_right.Statement.{statement}
-use Rattle.notecheck.proofs.skip.widths_right.Tie as tie
+use Rattle.listcheck.proofs.skip.widths_right.Statement.{statement}
+use Rattle.listcheck.proofs.skip.widths_right.Tie as tie
 
 returns : tie.Need-returns
 returns c = let a = c .before .args in sym (simp (ne-eqb (a .byte / 32 % 2) 0 (c .if1 .taken)))

@@ -4,9 +4,9 @@ use native.Mathlib.Omega.{arith}
 use borrow.Author.Needs.{needs}
 use borrow.Author.Tests.{not-true, not-false}
 use Rattle.notefile.proofs.TailBlocks.{size-tail, docs-small, freqs-small, docs-tail, freqs-tail}
-use Rattle.notecheck.proofs.Judged.{docs-wrong, freqs-wrong, tail-bounds, bounds-wrong, all-right}
-use Rattle.notecheck.proofs.list.check_tail.Statement.{statement}
-use Rattle.notecheck.proofs.list.check_tail.Tie as tie
+use Rattle.listcheck.proofs.Judged.{docs-wrong, freqs-wrong, tail-bounds, bounds-wrong, all-right}
+use Rattle.listcheck.proofs.list.check_tail.Statement.{statement}
+use Rattle.listcheck.proofs.list.check_tail.Tie as tie
 
 last-before-requires : tie.Need-last-before-requires
 last-before-requires c κs = search needs

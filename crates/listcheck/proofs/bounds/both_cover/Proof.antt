@@ -1,8 +1,8 @@
 -- `bounds::both_cover` meets its contract: the scores are the list's, and each bound is tested against them.
 use borrow.Author.Needs.{needs}
-use Rattle.notecheck.proofs.Covers.{top-below, top-covers}
-use Rattle.notecheck.proofs.bounds.both_cover.Statement.{statement}
-use Rattle.notecheck.proofs.bounds.both_cover.Tie as tie
+use Rattle.listcheck.proofs.Covers.{top-below, top-covers}
+use Rattle.listcheck.proofs.bounds.both_cover.Statement.{statement}
+use Rattle.listcheck.proofs.bounds.both_cover.Tie as tie
 
 fieldnorm-ids-requires : tie.Need-fieldnorm-ids-requires
 fieldnorm-ids-requires c κs = search needs

@@ -1,8 +1,8 @@
 -- `list::lower_of` meets its contract: its tests are the definition's.
 use mathlib.Core.Path.{sym}
 use borrow.Author.Tests.{lt-ltb, le-ltb, eq-eqb, ne-eqb}
-use Rattle.notecheck.proofs.list.lower_of.Statement.{statement}
-use Rattle.notecheck.proofs.list.lower_of.Tie as tie
+use Rattle.listcheck.proofs.list.lower_of.Statement.{statement}
+use Rattle.listcheck.proofs.list.lower_of.Tie as tie
 
 returns : tie.Need-returns
 returns c = let a = c .before .args in sym (simp (eq-eqb (a .a) 0 (c .if1 .taken)))

@@ -3,9 +3,9 @@ use Prim.Native.Nat.{_-_}
 use native.Mathlib.Omega.{arith}
 use borrow.Author.Needs.{needs}
 use Rattle.notefile.proofs.FullBlocks.{docs-in, freqs-in, previous-same, packed-in}
-use Rattle.notecheck.proofs.Judged.{Judging, judging-begun, all-judged, seven-found, one-judged}
-use Rattle.notecheck.proofs.list.check_blocks.Statement.{statement}
-use Rattle.notecheck.proofs.list.check_blocks.Tie as tie
+use Rattle.listcheck.proofs.Judged.{Judging, judging-begun, all-judged, seven-found, one-judged}
+use Rattle.listcheck.proofs.list.check_blocks.Statement.{statement}
+use Rattle.listcheck.proofs.list.check_blocks.Tie as tie
 
 abbrev Inv-loop : tie.InvT-loop
 Inv-loop file limit reader x w top blocks lowest₀ at₀ b₀ lowest at b = Judging file x lowest at b

@@ -3,9 +3,9 @@ use Prim.Native.Nat.{_-_}
 use native.Mathlib.Omega.{arith}
 use borrow.Author.Needs.{needs}
 use borrow.Author.Tests.{not-true, not-false}
-use Rattle.notecheck.proofs.SkipTests.{skips-small, wrong-length, Passed, begun, all-passed, one-wrong, one-right}
-use Rattle.notecheck.proofs.skip.tail_place.Statement.{statement}
-use Rattle.notecheck.proofs.skip.tail_place.Tie as tie
+use Rattle.listcheck.proofs.SkipTests.{skips-small, wrong-length, Passed, begun, all-passed, one-wrong, one-right}
+use Rattle.listcheck.proofs.skip.tail_place.Statement.{statement}
+use Rattle.listcheck.proofs.skip.tail_place.Tie as tie
 
 abbrev Inv-loop : tie.InvT-loop
 Inv-loop file x blocks at₀ b₀ at b = Passed file x at b

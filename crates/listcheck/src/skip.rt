@@ -6,7 +6,7 @@ ghost use lib.Dec.{eqb, leb};
 ghost use Rattle.notefile.specs.Lists.{tailAt};
 ghost use Rattle.notefile.specs.Conditions.{skipsRight};
 ghost use Rattle.notefile.specs.Given.{Parted};
-ghost use Rattle.notecheck.specs.Answers.{tailOr};
+ghost use Rattle.listcheck.specs.Answers.{tailOr};
 use codec::bits::wide;
 use notefile::part::Part;
 use notefile::skip::skip_entry_at;

@@ -21,10 +21,10 @@ use Rattle.notefile.specs.Refusal.{unless, firstOf, blocksRefusal, listRefusal}
 use Rattle.notefile.specs.Given.{Parted, Skipped, BlocksIn, WeightIn}
 use Rattle.notefile.specs.Reads.{TailRead, blockRefusal, lower}
 use Rattle.notefile.specs.declared.part.Part.{Part}
-use Rattle.notecheck.specs.Answers.{tailOr}
-use Rattle.notecheck.specs.declared.skip.TailPlace.{TailPlace}
-use Rattle.notecheck.specs.declared.skip.TailPlace.the-variants.{At, Wrong}
-use Rattle.notecheck.proofs.Judged.{docs-right-unless, docs-wrong-if, one-block-more}
+use Rattle.listcheck.specs.Answers.{tailOr}
+use Rattle.listcheck.specs.declared.skip.TailPlace.{TailPlace}
+use Rattle.listcheck.specs.declared.skip.TailPlace.the-variants.{At, Wrong}
+use Rattle.listcheck.proofs.Judged.{docs-right-unless, docs-wrong-if, one-block-more}
 
 -- what an answer about the tail's place says
 is-wrong : (z : Bool) (p : ℕ) {r : TailPlace} → r ≡ tailOr z p → r ≡ Wrong → z ≡ false

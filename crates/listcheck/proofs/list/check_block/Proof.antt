@@ -3,9 +3,9 @@ use mathlib.Core.Path.{_∙_}
 use borrow.Author.Needs.{needs}
 use borrow.Author.Tests.{not-true, not-false}
 use Rattle.notefile.proofs.FullBlocks.{full-size}
-use Rattle.notecheck.proofs.Judged.{docs-wrong, freqs-wrong, full-bounds, bounds-wrong, all-right, bound-is}
-use Rattle.notecheck.proofs.list.check_block.Statement.{statement}
-use Rattle.notecheck.proofs.list.check_block.Tie as tie
+use Rattle.listcheck.proofs.Judged.{docs-wrong, freqs-wrong, full-bounds, bounds-wrong, all-right, bound-is}
+use Rattle.listcheck.proofs.list.check_block.Statement.{statement}
+use Rattle.listcheck.proofs.list.check_block.Tie as tie
 
 read-skip-entry-requires : tie.Need-read-skip-entry-requires
 read-skip-entry-requires c κs = search needs
