@@ -1,4 +1,4 @@
--- Entries and parts in the numbers that the code has, and that the parts of a file whose length is right lie in it.
+-- Entries and parts: where a list's parts end, that those of a file whose length is right lie in it, and the limits that right entries give.
 use mathlib.Core.Path.{_≡_, sym, ap}
 use mathlib.Core.Bool.{true}
 use mathlib.Core.List.{List}
@@ -46,7 +46,7 @@ parted file l n h e = record {
   inside = omega (arith, e, parts-rise file (suc l) n h);
 }
 
--- and of one whose average and entries are right
+-- and of one whose average and entries are right, the limits
 pub limits : (file : List ℕ) (l n : ℕ) → l < n → averageRight file ≡ true → every n (entryRight file) ≡ true → Limits (partOf file l)
 unfolding partOf averageRight entryRight
 limits file l n h a e = record {
