@@ -20,9 +20,8 @@ use Rattle.notefile.specs.Refusal.{unless, orElse, blocksRefusal, listRe
 use Rattle.notefile.specs.Given.{HeaderIn, Parted, BlocksIn, BlockRight, Limits}
 use Rattle.notefile.specs.declared.part.Part.{Part}
 use Rattle.notefile.proofs.Headers.{few-documents, header-in}
-use Rattle.notefile.proofs.Entries.{parted}
-use Rattle.notefile.proofs.Judged.{previous-same}
-use Rattle.notefile.proofs.FileOrder.{after1, after2, after3, limits}
+use Rattle.notefile.proofs.Entries.{parted, limits}
+use Rattle.notefile.proofs.FullBlocks.{previous-same}
 
 -- no number: the condition is clear, and so is what comes after it
 clear : (z : Bool) (n later : ℕ) → 0 < n → unless z n later ≡ 0 → z ≡ true
@@ -76,6 +75,17 @@ lists-none file (suc n) l e h = elim (eq-or-lt-of-le (le-of-suc-le-suc h)) [
   | inl q ↦ ap (λ (k : ℕ). listRefusal file (partOf file k)) q ∙ later-none (listsRefusal file n) (listRefusal file (partOf file n)) e
   | inr k ↦ lists-none file n l (first-none (listsRefusal file n) (listRefusal file (partOf file n)) e) k
 ]
+
+-- what is left after each condition
+module _ (file : List ℕ) where
+  abbrev pub after3 : ℕ
+  after3 = unless (every (listCount file) (entryRight file)) 4 (listsRefusal file (listCount file))
+
+  abbrev pub after2 : ℕ
+  after2 = unless (lengthRight file) 3 after3
+
+  abbrev pub after1 : ℕ
+  after1 = unless (averageRight file) 2 after2
 
 -- an accepted file
 module _ (file : List ℕ) (accepted : fileRefusal file ≡ 0) where

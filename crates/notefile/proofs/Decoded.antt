@@ -19,7 +19,11 @@ use Rattle.notefile.specs.Conditions.{docsRise, lastRight, blockDocsRigh
 use Rattle.notefile.specs.Given.{BlockRight}
 use Rattle.notefile.specs.Reads.{FreqsRead}
 use Rattle.notefile.specs.declared.part.Part.{Part}
-use Rattle.notefile.proofs.Covers.{every-same}
+
+-- tests that agree below n agree of all
+pub every-same : (P Q : ℕ → Bool) (n : ℕ) → ((i : ℕ) → i < n → P i ≡ Q i) → every n P ≡ every n Q
+every-same P Q zero h = refl
+every-same P Q (suc n) h = ap (λ (z : Bool). z && P n) (every-same P Q n (λ i l. h i (omega arith))) ∙ ap (λ (z : Bool). every n Q && z) (h n (omega arith))
 
 -- documents go by the values up to theirs
 module _ (v w : ℕ → ℕ) (strict first : Bool) (previous n : ℕ) (e : (i : ℕ) → i < n → v i ≡ w i) where

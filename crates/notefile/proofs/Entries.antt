@@ -1,39 +1,24 @@
--- Entries and parts in the numbers that the code has, and that the parts of a file whose length is right lie in it.
-use mathlib.Core.Path.{_≡_, refl, sym, ap, _∙_}
-use mathlib.Core.Bool.{Bool, true, false, _&&_}
+-- Entries and parts: where a list's parts end, that those of a file whose length is right lie in it, and the limits that right entries give.
+use mathlib.Core.Path.{_≡_, sym, ap}
+use mathlib.Core.Bool.{true}
 use mathlib.Core.List.{List}
-use Prim.Native.Nat.{ℕ, suc, _+_, _*_, _/_, _%_, _≤_, _<_}
+use Prim.Native.Nat.{ℕ, suc, _+_, _*_, _≤_, _<_}
 use native.Mathlib.Numerals.{add-one}
 use native.Mathlib.Omega.{arith}
 use lib.Dec.{leb}
 use lib.ListN.{length}
 use lib.Ieee.{binary32, ofBits}
-use Rattle.codec.specs.Bits.{bitsAt}
-use Rattle.arrays.proofs.Order.{climbs}
+use Rattle.arrays.specs.Every.{every}
 use Rattle.codec.proofs.BitFields.{bits-lt}
+use Rattle.arrays.proofs.Order.{climbs}
+use Rattle.arrays.proofs.Every.{first-true, each}
 use Rattle.bm25.specs.Limits.{weightOk}
 use Rattle.notefile.specs.Header.{documents}
-use Rattle.notefile.specs.Parts.{skipsAt, partOf}
-use Rattle.notefile.specs.Conditions.{entryRight}
-use Rattle.notefile.specs.Given.{Parted}
-use Rattle.notefile.proofs.Headers.{field}
+use Rattle.notefile.specs.Parts.{skipsAt, partOf, weightBits, documentCount}
+use Rattle.notefile.specs.Conditions.{entryRight, averageRight}
+use Rattle.notefile.specs.Given.{Parted, Limits}
 
 module _ (file : List ℕ) (l : ℕ) where
-  -- condition 4 in the numbers of an entry's first seven bytes, and in the answer about the weight
-  module _ (w c d : ℕ) (ew : w ≡ bitsAt file (8 * (9 + 13 * l)) 32) (ec : c ≡ bitsAt file (8 * (9 + 13 * l + 4)) 24) (ed : d ≡ documents file) (t : Bool) (et : t ≡ weightOk (ofBits binary32 w)) where
-    tests : t && leb (c / 8 % 2097152) d ≡ entryRight file l
-    unfolding entryRight
-    tests = rw (et, ew, ec, ed, ← field file (8 * (9 + 13 * l + 4)) (8 * (9 + 13 * l) + 32) 0 21 3 24 (place l) refl)
-      where
-        place : (l : ℕ) → 8 * (9 + 13 * l + 4) + 0 ≡ 8 * (9 + 13 * l) + 32
-        place l = omega arith
-
-    pub weight-fits : t ≡ true → leb (c / 8 % 2097152) d ≡ entryRight file l
-    weight-fits e = sym (ap (λ (z : Bool). z && leb (c / 8 % 2097152) d) e) ∙ tests
-
-    pub weight-wrong : t ≡ false → false ≡ entryRight file l
-    weight-wrong e = sym (ap (λ (z : Bool). z && leb (c / 8 % 2097152) d) e) ∙ tests
-
   pub next-place : partOf file l .end ≡ skipsAt file (l + 1)
   unfolding partOf
   next-place = ap (skipsAt file) (sym (add-one l))
@@ -59,4 +44,12 @@ parted file l n h e = record {
   skips-first = omega arith;
   then-postings = omega arith;
   inside = omega (arith, e, parts-rise file (suc l) n h);
+}
+
+-- and of one whose average and entries are right, the limits
+pub limits : (file : List ℕ) (l n : ℕ) → l < n → averageRight file ≡ true → every n (entryRight file) ≡ true → Limits (partOf file l)
+unfolding partOf averageRight entryRight
+limits file l n h a e = record {
+  weight = first-true (weightOk (ofBits binary32 (weightBits file l))) (leb (documentCount file l) (documents file)) (each (entryRight file) n l e h);
+  average = a;
 }

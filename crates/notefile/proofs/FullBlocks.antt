@@ -1,22 +1,25 @@
--- Full blocks: unpacked values are the block's, and what the readers leave of them.
-use mathlib.Core.Path.{_≡_, sym, ap, _∙_}
+-- Full blocks: they lie in the file, unpacked values are the block's, and what the readers leave of them.
+use mathlib.Core.Path.{_≡_, refl, sym, ap, _∙_}
 use mathlib.Core.Bool.{Bool, true, false, _&&_, cond, true≢false}
 use mathlib.Core.List.{List}
-use Prim.Native.Nat.{ℕ, _+_, _*_, _≤_, _<_}
+use Prim.Native.Nat.{ℕ, zero, suc, _+_, _*_, _/_, _%_, _≤_, _<_}
 use native.Mathlib.Nat.{mod-lt, lt-of-lt-of-le}
 use native.Mathlib.Omega.{arith}
-use lib.Dec.{eqb}
+use lib.Dec.{eqb, leb}
 use lib.ListN.{length, getD}
 use lib.Pow.{pow-pos, pow-mono}
-use borrow.Author.Tests.{lt-ltb}
+use borrow.Author.Tests.{lt-ltb, leb-true, eqb-true}
+use Rattle.arrays.specs.Every.{every}
 use Rattle.bitpacker.specs.Packed.{packedAt, Unpacked}
+use Rattle.arrays.proofs.Every.{second-true, each}
+use Rattle.arrays.proofs.Order.{climbs}
 use Rattle.compression.specs.Documents.{Summed, Checked}
 use Rattle.compression.specs.Frequencies.{Counted}
 use Rattle.notefile.specs.Header.{documents}
-use Rattle.notefile.specs.Skips.{lastDoc, docWidth, strictBlock, freqWidth, skipEntryOf}
-use Rattle.notefile.specs.Lists.{fullBlocks, tailSize, isFull, blockSize, docValue, freqValue, strictIn, previousDoc}
-use Rattle.notefile.specs.Conditions.{docsRise, lastRight, blockDocsRight}
-use Rattle.notefile.specs.Given.{PackedIn, BlockRight}
+use Rattle.notefile.specs.Skips.{lastDoc, docWidth, strictBlock, freqWidth, skipEntryOf, lastBefore, widthByte}
+use Rattle.notefile.specs.Lists.{fullBlocks, tailSize, isFull, blockSize, docValue, freqValue, strictIn, previousDoc, blockDoc, blockAt}
+use Rattle.notefile.specs.Conditions.{docsRise, lastRight, blockDocsRight, skipRight}
+use Rattle.notefile.specs.Given.{PackedIn, BlockRight, BlocksIn}
 use Rattle.notefile.specs.Reads.{DocsRead, FreqsRead, Loaded}
 use Rattle.notefile.specs.declared.part.Part.{Part}
 use Rattle.notefile.specs.declared.skip.SkipEntry.{SkipEntry}
@@ -24,6 +27,30 @@ use Rattle.notefile.proofs.Decoded.{rise-is, docs-are, docs-loaded, fre
 
 pub full-size : (x : Part) (b : ℕ) → b < fullBlocks x → 128 ≡ blockSize x b
 full-size x b h = sym (ap (λ (z : Bool). cond z 128 (tailSize x)) (lt-ltb b (fullBlocks x) h))
+
+module _ (file : List ℕ) (x : Part) where
+  -- where the documents of the blocks before are right, the skip entry's last document is the decoded previous one
+  pub previous-same : (b : ℕ) → b ≤ fullBlocks x → every b (blockDocsRight file x) ≡ true → lastBefore file x b ≡ previousDoc file x b
+  unfolding blockDocsRight lastRight
+  previous-same zero h e = refl
+  previous-same (suc b) h e =
+      let l : lastRight file x b ≡ true = second-true (docsRise file x b) (lastRight file x b) (second-true (every b (blockDocsRight file x)) (blockDocsRight file x b) e) in
+      sym (eqb-true (blockDoc file x b 127) (lastDoc file x b) (rw (lt-ltb b (fullBlocks x) h) at l))
+
+  -- a full block lies in the file
+  block-step : (b : ℕ) → blockAt file x b ≤ blockAt file x (suc b)
+  unfolding blockAt
+  block-step b = omega arith
+
+  pub packed-in : {b at : ℕ} → BlocksIn file x → b < fullBlocks x → at ≡ blockAt file x b → PackedIn file x b at
+  unfolding skipRight blockAt
+  packed-in {b} B h e = record {
+    skipped = B .skipped;
+    full = h;
+    place = e;
+    narrow = leb-true (freqWidth file x b) 32 (second-true (eqb (widthByte file x b / 128 % 2) 0) (leb (freqWidth file x b) 32) (second-true (eqb (widthByte file x b / 32 % 2) 0) (eqb (widthByte file x b / 128 % 2) 0 && leb (freqWidth file x b) 32) (each (skipRight file x) (fullBlocks x) b (B .right) h)));
+    inside = omega (arith, e, climbs (blockAt file x) (suc b) (fullBlocks x) h (λ k _. block-step k), B .inside, B .skipped .parted .inside);
+  }
 
 -- a full block
 module _ {file : List ℕ} {x : Part} {b at : ℕ} (P : PackedIn file x b at) (e : SkipEntry) (ee : e ≡ skipEntryOf file x b) where

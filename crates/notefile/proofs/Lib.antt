@@ -3,14 +3,10 @@ pub mod Worked
 pub mod Headers
 pub mod Entries
 pub mod SkipEntries
-pub mod Covers
 pub mod Padding
 pub mod Decoded
 pub mod FullBlocks
 pub mod TailBlocks
 pub mod Tails
-pub mod Judged
-pub mod ListOrder
-pub mod FileOrder
 pub mod Accepted
 pub mod ListLaws

@@ -1,6 +1,6 @@
 -- What the functions that read a file leave and answer.
 use mathlib.Core.Path.{_≡_}
-use mathlib.Core.Bool.{Bool, true, false, not, cond}
+use mathlib.Core.Bool.{Bool, true, not, cond}
 use mathlib.Core.List.{List}
 use Prim.Native.Nat.{ℕ, _≤_, _<_}
 use lib.Dec.{eqb, ltb}
@@ -12,13 +12,6 @@ use Rattle.notefile.specs.Lists.{fullBlocks, tailSize, blockSize, docVal
 use Rattle.notefile.specs.Conditions.{postingsRight, blockDocsRight, blockFreqsRight, boundsRight}
 use Rattle.notefile.specs.Refusal.{firstOf}
 use Rattle.notefile.specs.declared.part.Part.{Part}
-use Rattle.notefile.specs.declared.skip.TailPlace.{TailPlace}
-use Rattle.notefile.specs.declared.skip.TailPlace.the-variants.{At, Wrong}
-
--- where the tail starts, if the skip entries are right
-abbrev pub tailOr : Bool → ℕ → TailPlace
-tailOr true at = At at
-tailOr false at = Wrong
 
 -- whether a bound lies below none of n scores
 abbrev pub allCovered : Float → ℕ → (ℕ → Float) → Bool

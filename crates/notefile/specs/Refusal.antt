@@ -8,8 +8,6 @@ use Rattle.notefile.specs.Parts.{partOf}
 use Rattle.notefile.specs.Lists.{fullBlocks}
 use Rattle.notefile.specs.Conditions.{headerRight, averageRight, lengthRight, entryRight, skipsRight, postingsRight, blockDocsRight, blockFreqsRight, boundsRight}
 use Rattle.notefile.specs.declared.part.Part.{Part}
-use Rattle.notefile.specs.declared.check.Checked.{Checked}
-use Rattle.notefile.specs.declared.check.Checked.the-variants.{Accepted, Refused}
 
 -- the number of a condition that is met, and else what comes after it
 abbrev pub unless : Bool → ℕ → ℕ → ℕ
@@ -49,8 +47,3 @@ module _ (file : List ℕ) where
       (unless (lengthRight file) 3
       (unless (every (listCount file) (entryRight file)) 4
       (listsRefusal (listCount file)))))
-
--- the answer that stands for a number of the table
-abbrev pub answerOf : ℕ → Checked
-answerOf zero = Accepted
-answerOf (suc n) = Refused (suc n)

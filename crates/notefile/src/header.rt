@@ -3,7 +3,6 @@ ghost use mathlib.Core.Path.{_≡_};
 ghost use Prim.Native.Nat.{_≤_};
 ghost use lib.ListN.{length};
 ghost use Rattle.notefile.specs.Header.{averageBits, headerOf, normReader};
-ghost use Rattle.notefile.specs.Conditions.{headerRight};
 ghost use Rattle.notefile.specs.Given.{HeaderIn};
 use codec::bits::read_be;
 use fieldnorm::FieldNormReader;
@@ -11,12 +10,6 @@ use fieldnorm::FieldNormReader;
 pub const HEADER_LENGTH: usize = 9;
 
 pub const ENTRY_LENGTH: usize = 13;
-
-const VERSION: u32 = 1;
-
-const MAX_LISTS: usize = 16;
-
-const MAX_DOCUMENTS: u32 = 1048576;
 
 // The header's fields but the average.
 pub struct Header {
@@ -49,32 +42,6 @@ pub fn read_average(file: &[u8], l: usize) -> u32
     ensures { λ r. ⌜ r ≡ averageBits (now (file .entry)) l ⌝ }
 {
     read_be(file, 5, 4) as u32
-}
-
-// Whether condition 1 is not met.
-pub fn header_right(file: &[u8]) -> bool
-    ensures { λ r. ⌜ r ≡ headerRight (now (file .entry)) ⌝ }
-{
-    if file.len() < HEADER_LENGTH {
-        return false;
-    }
-    let h = read_header(file);
-    if h.version != VERSION {
-        return false;
-    }
-    if h.spare != 0 {
-        return false;
-    }
-    if h.lists > MAX_LISTS {
-        return false;
-    }
-    if h.documents > MAX_DOCUMENTS {
-        return false;
-    }
-    if h.kind == 0 {
-        return h.code == 0;
-    }
-    true
 }
 
 // Where the norm codes stand.

@@ -2,9 +2,7 @@
 ghost use mathlib.Core.Path.{_≡_};
 ghost use Prim.Native.Nat.{_+_, _*_, _≤_, _<_};
 ghost use lib.ListN.{length};
-ghost use Rattle.arrays.specs.Every.{every};
 ghost use Rattle.notefile.specs.Parts.{entryAt, skipsAt, partOf};
-ghost use Rattle.notefile.specs.Conditions.{entryRight};
 ghost use Rattle.notefile.specs.Given.{HeaderIn};
 use crate::header::ENTRY_LENGTH;
 use crate::header::HEADER_LENGTH;
@@ -70,35 +68,4 @@ pub fn read_part(file: &[u8], h: Header, l: usize) -> Part
     ensures { λ r. ⌜ r ≡ partOf (now (file .entry)) l ⌝ }
 {
     part_at(file, l, skips_at(file, h, l))
-}
-
-// Whether condition 4 is not met by list l.
-fn entry_right(file: &[u8], h: Header, l: usize) -> bool
-    requires { ⌜ HeaderIn (now file) h × (l < h .lists) ⌝ }
-    ensures { λ r. ⌜ r ≡ entryRight (now (file .entry)) l ⌝ }
-{
-    let e = HEADER_LENGTH + ENTRY_LENGTH * l;
-    let weight = read_be(file, e, 4) as u32;
-    let count = ((read_be(file, e + 4, 3) >> 3) % 2097152) as u32;
-    if bm25::weight_ok(weight) {
-        return count <= h.documents;
-    }
-    false
-}
-
-// Whether condition 4 is not met.
-pub fn entries_right(file: &[u8], h: Header) -> bool
-    requires { ⌜ HeaderIn (now file) h ⌝ }
-    ensures { λ r. ⌜ r ≡ every (h .lists) (entryRight (now (file .entry))) ⌝ }
-{
-    let lists = h.lists;
-    let mut right = true;
-    let mut l: usize = 0;
-    while l < lists {
-        if !entry_right(file, h, l) {
-            right = false;
-        }
-        l += 1;
-    }
-    right
 }

@@ -1,14 +1,10 @@
 // Skip entries: one for each full block of a list.
 ghost use mathlib.Core.Path.{_≡_};
-ghost use mathlib.Core.Bool.{_&&_};
-ghost use Prim.Native.Nat.{_+_, _*_, _/_, _%_, _≤_, _<_};
-ghost use lib.Dec.{eqb, leb};
+ghost use Prim.Native.Nat.{_+_, _≤_, _<_};
 ghost use lib.ListN.{length};
 ghost use Rattle.notefile.specs.Skips.{lastBefore, skipEntryAt, skipEntryOf};
-ghost use Rattle.notefile.specs.Lists.{fullBlocks, tailAt};
-ghost use Rattle.notefile.specs.Conditions.{skipsRight};
-ghost use Rattle.notefile.specs.Given.{Parted, Skipped};
-ghost use Rattle.notefile.specs.Reads.{tailOr};
+ghost use Rattle.notefile.specs.Lists.{fullBlocks};
+ghost use Rattle.notefile.specs.Given.{Skipped};
 use crate::part::Part;
 use codec::bits::read_u32;
 use codec::bits::wide;
@@ -23,13 +19,8 @@ pub struct SkipEntry {
     pub freq: u8,
 }
 
-// Where a list's tail starts, or that its skip entries are wrong.
-pub enum TailPlace {
-    At(usize),
-    Wrong,
-}
-
-fn skip_entry_at(file: &[u8], x: Part, b: usize) -> usize
+// Where block b's skip entry stands.
+pub fn skip_entry_at(file: &[u8], x: Part, b: usize) -> usize
     requires { ⌜ Skipped (now file) x × (b < fullBlocks x) ⌝ }
     ensures { λ r. ⌜ (r ≡ skipEntryAt x b) × (8 ≤ x .entry) × (r + x .entry ≤ length (now (file .entry))) ⌝ }
 {
@@ -62,41 +53,4 @@ pub fn last_before(file: &[u8], x: Part, b: usize) -> u32
         return 0;
     }
     read_u32(file, skip_entry_at(file, x, b - 1))
-}
-
-// Whether condition 5 is not met by a width byte and a frequency width.
-fn widths_right(byte: u32, freqs: u32) -> bool
-    ensures { λ r. ⌜ r ≡ eqb (byte / 32 % 2) 0 && (eqb (byte / 128 % 2) 0 && leb freqs 32) ⌝ }
-{
-    if byte / 32 % 2 != 0 {
-        return false;
-    }
-    if byte / 128 % 2 != 0 {
-        return false;
-    }
-    freqs <= 32
-}
-
-// Where the tail starts, if condition 5 is not met. The blocks before it may not lie in the file.
-pub fn tail_place(file: &[u8], x: Part) -> TailPlace
-    requires { ⌜ Parted (now file) x ⌝ }
-    ensures { λ r. ⌜ r ≡ tailOr (skipsRight (now (file .entry)) x) (tailAt (now (file .entry)) x) ⌝ }
-{
-    let blocks = x.count / 128;
-    if x.skips + x.entry * blocks != x.postings {
-        return TailPlace::Wrong;
-    }
-    let mut at = x.postings;
-    let mut b: usize = 0;
-    while b < blocks {
-        let e = skip_entry_at(file, x, b);
-        let byte = wide(file[e + 4]);
-        let freqs = wide(file[e + 5]);
-        if !widths_right(byte, freqs) {
-            return TailPlace::Wrong;
-        }
-        at += 16 * ((byte % 32 + freqs) as usize);
-        b += 1;
-    }
-    TailPlace::At(at)
 }

@@ -18,7 +18,7 @@ use Rattle.notefile.specs.Conditions.{blockDocsRight}
 use Rattle.notefile.specs.Given.{BlockRight, PackedIn}
 use Rattle.notefile.specs.Reads.{Loaded}
 use Rattle.notefile.specs.declared.part.Part.{Part}
-use Rattle.notefile.proofs.Judged.{packed-in, previous-same}
+use Rattle.notefile.proofs.FullBlocks.{packed-in, previous-same}
 use Rattle.notefile.proofs.ListLaws.{place-in, list-doc-below, list-docs-rise}
 use Rattle.route.specs.Postings.{start}
 use Rattle.postings.specs.Decoded.{docIn, freqIn, Decoded, ListIn}

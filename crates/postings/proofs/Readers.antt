@@ -15,7 +15,7 @@ use Rattle.notefile.specs.Given.{BlocksIn, PackedIn}
 use Rattle.notefile.specs.declared.part.Part.{Part}
 use Rattle.notefile.specs.declared.skip.SkipEntry.{SkipEntry}
 use Rattle.arrays.proofs.Order.{lt-or-ge}
-use Rattle.notefile.proofs.Judged.{packed-in}
+use Rattle.notefile.proofs.FullBlocks.{packed-in}
 use Rattle.notefile.proofs.ListLaws.{last-is}
 use Rattle.route.specs.Postings.{start, lastDoc as endOf}
 use Rattle.route.specs.Cursor.{skipTo}

@@ -1,0 +1,125 @@
+-- What a block and the blocks before it are refused for, out of what the readers answered.
+use mathlib.Core.Path.{_≡_, refl, sym, ap, _∙_}
+use mathlib.Core.Bool.{Bool, true, false, _&&_, cond}
+use mathlib.Core.List.{List}
+use Prim.Native.Nat.{ℕ, suc, _+_, _*_, _≤_, _<_}
+use native.Mathlib.Numerals.{add-one}
+use native.Mathlib.Omega.{arith}
+use lib.ListN.{getD}
+use lib.Ieee.{Float, binary32, ofBits}
+use borrow.Author.Tests.{lt-ltb, le-ltb}
+use Rattle.arrays.specs.Every.{every}
+use Rattle.arrays.proofs.Every.{fails, one-more}
+use Rattle.bm25.specs.Bound.{blockMaxScore}
+use Rattle.bm25.specs.declared.Bm25Weight.{Bm25Weight}
+use Rattle.bm25.proofs.WeightLaws.{block-max-score-is}
+use Rattle.notefile.specs.Skips.{maxNormCode, skipEntryOf}
+use Rattle.notefile.specs.Lists.{fullBlocks, blockSize, blockAt, scoreFor, blockScore, blockBound, listBound}
+use Rattle.notefile.specs.Conditions.{blockDocsRight, blockFreqsRight, covers, boundsRight}
+use Rattle.notefile.specs.Refusal.{firstOf, blocksRefusal}
+use Rattle.notefile.specs.Given.{WeightIn}
+use Rattle.notefile.specs.Reads.{DocsRead, FreqsRead, allCovered, scoreAmong, blockRefusal, lower}
+use Rattle.notefile.specs.declared.part.Part.{Part}
+use Rattle.notefile.specs.declared.skip.SkipEntry.{SkipEntry}
+use Rattle.notefile.proofs.Decoded.{every-same}
+
+-- one block
+module _ (file : List ℕ) (x : Part) (b : ℕ) {docs : List ℕ} {d : Bool} (D : DocsRead file x b d docs) where
+  pub docs-wrong : d ≡ false → 7 ≡ blockRefusal file x b
+  docs-wrong e = rw (sym (D .same) ∙ e)
+
+  module _ (d-right : d ≡ true) {freqs : List ℕ} {f : Bool} (F : FreqsRead file x b f freqs) where
+    pub freqs-wrong : f ≡ false → 8 ≡ blockRefusal file x b
+    freqs-wrong e = rw (sym (D .same) ∙ d-right, sym (F .same) ∙ e)
+
+    module _ (f-right : f ≡ true) where
+      covers-is : (bound : Float) {n : ℕ} → n ≡ blockSize x b → allCovered bound n (scoreAmong file x docs freqs) ≡ covers file x bound b
+      unfolding covers blockScore
+      covers-is bound {n} e = ap (λ n. allCovered bound n (scoreAmong file x docs freqs)) e ∙ every-same _ _ (blockSize x b) (λ i h. rw (D .at d-right i h, F .at f-right i h))
+
+      module _ {top : Float} {n : ℕ} (top-is : top ≡ listBound x) (size : n ≡ blockSize x b) where
+        pub full-bounds : {bound : Float} {r : Bool} → b < fullBlocks x → bound ≡ blockBound file x b → r ≡ allCovered top n (scoreAmong file x docs freqs) && allCovered bound n (scoreAmong file x docs freqs) → r ≡ boundsRight file x b
+        unfolding boundsRight
+        full-bounds {bound} full e er = er ∙ rw (covers-is top size, covers-is bound size, top-is, e, lt-ltb b (fullBlocks x) full)
+
+        pub tail-bounds : {r : Bool} → fullBlocks x ≤ b → r ≡ allCovered top n (scoreAmong file x docs freqs) && allCovered top n (scoreAmong file x docs freqs) → r ≡ boundsRight file x b
+        unfolding boundsRight
+        tail-bounds past er =
+            er ∙ ap (λ (z : Bool). z && z) (covers-is top size ∙ ap (λ (z : Float). covers file x z b) top-is) ∙ twice (covers file x (listBound x) b)
+            ∙ sym (ap (λ (z : Bool). covers file x (listBound x) b && cond z (covers file x (blockBound file x b) b) true) (le-ltb b (fullBlocks x) past))
+          where
+            twice : (z : Bool) → z && z ≡ z && true
+            twice true = refl
+            twice false = refl
+
+      module _ {r : Bool} (e : r ≡ boundsRight file x b) where
+        pub bounds-wrong : r ≡ false → 9 ≡ blockRefusal file x b
+        bounds-wrong f = rw (sym (D .same) ∙ d-right, sym (F .same) ∙ f-right, sym e ∙ f)
+
+        pub all-right : r ≡ true → 0 ≡ blockRefusal file x b
+        all-right f = rw (sym (D .same) ∙ d-right, sym (F .same) ∙ f-right, sym e ∙ f)
+
+-- a full block's bound, out of its entry
+pub bound-is : (file : List ℕ) (x : Part) (b : ℕ) → ((k : ℕ) → getD file k 0 < 256) → (w : Bm25Weight) → WeightIn x w → (e : SkipEntry) → e ≡ skipEntryOf file x b → {bound : Float} → bound ≡ blockMaxScore w (e .norm) (e .freq) → bound ≡ blockBound file x b
+unfolding blockBound scoreFor skipEntryOf
+bound-is file x b bytes w W e ee be = be ∙ rw ee (block-max-score-is (ofBits binary32 (x .weight)) (ofBits binary32 (x .average)) w W (maxNormCode file x b) _ (bytes _))
+
+-- the lower of two is the first condition over both
+joins : (d f c d2 f2 c2 : Bool) → lower (firstOf d f c) (firstOf d2 f2 c2) ≡ firstOf (d && d2) (f && f2) (c && c2)
+joins true true true d2 f2 c2 = refl
+joins false f c false f2 c2 = refl
+joins false f c true false c2 = refl
+joins false f c true true false = refl
+joins false f c true true true = refl
+joins true false c false f2 c2 = refl
+joins true false c true false c2 = refl
+joins true false c true true false = refl
+joins true false c true true true = refl
+joins true true false false f2 c2 = refl
+joins true true false true false c2 = refl
+joins true true false true true false = refl
+joins true true false true true true = refl
+
+pub docs-right-unless : (d f c : Bool) → (firstOf d f c ≡ 7 → ⊥) → d ≡ true
+docs-right-unless true f c n = refl
+docs-right-unless false f c n = absurd (n refl)
+
+pub docs-wrong-if : (d f c : Bool) → firstOf d f c ≡ 7 → d ≡ false
+docs-wrong-if true true true e = absurd (omega arith)
+docs-wrong-if true true false e = absurd (omega arith)
+docs-wrong-if true false c e = absurd (omega arith)
+docs-wrong-if false f c e = refl
+
+module _ (file : List ℕ) (x : Part) where
+  pub one-block-more : (b : ℕ) {lowest r : ℕ} → lowest ≡ blocksRefusal file x b → r ≡ blockRefusal file x b → lower lowest r ≡ blocksRefusal file x (suc b)
+  unfolding blocksRefusal
+  one-block-more b e g = rw (e, g) (joins (every b (blockDocsRight file x)) (every b (blockFreqsRight file x)) (every b (boundsRight file x)) (blockDocsRight file x b) (blockFreqsRight file x b) (boundsRight file x b))
+
+  -- b full blocks are tested, none of them with 7; the next stands at a place
+  pub record Judging (lowest at b : ℕ) : Type 0 where
+    pub within : b ≤ fullBlocks x
+    pub place : at ≡ blockAt file x b
+    pub lowest-is : lowest ≡ blocksRefusal file x b
+    pub right : every b (blockDocsRight file x) ≡ true
+
+  pub judging-begun : Judging 0 (x .postings) 0
+  unfolding blockAt blocksRefusal
+  judging-begun = record { within = omega arith; place = refl; lowest-is = refl; right = refl }
+
+  module _ {lowest at b : ℕ} (J : Judging lowest at b) where
+    pub all-judged : fullBlocks x ≤ b → lowest ≡ blocksRefusal file x (fullBlocks x)
+    all-judged h = J .lowest-is ∙ ap (blocksRefusal file x) (omega (arith, J .within))
+
+    module _ (h : b < fullBlocks x) {r : ℕ} (er : r ≡ blockRefusal file x b) where
+      pub seven-found : r ≡ 7 → 7 ≡ blocksRefusal file x (fullBlocks x)
+      unfolding blocksRefusal
+      seven-found e = rw (fails (blockDocsRight file x) (fullBlocks x) b h (docs-wrong-if (blockDocsRight file x b) (blockFreqsRight file x b) (boundsRight file x b) (sym er ∙ e)))
+
+      pub one-judged : (r ≡ 7 → ⊥) → (e : SkipEntry) → e ≡ skipEntryOf file x b → {q : ℕ} → q ≡ lower lowest r → Judging q (at + 16 * (e .width + e .freqs)) (b + 1)
+      unfolding blockAt skipEntryOf
+      one-judged n e ee {q} eq = record {
+        within = omega arith;
+        place = rw (add-one, J .place, ee);
+        lowest-is = rw add-one (eq ∙ one-block-more b (J .lowest-is) er);
+        right = one-more (blockDocsRight file x) b (J .right) (docs-right-unless (blockDocsRight file x b) (blockFreqsRight file x b) (boundsRight file x b) (λ q. n (er ∙ q)));
+      }

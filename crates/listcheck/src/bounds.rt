@@ -1,0 +1,55 @@
+// Bounds: whether a bound lies below no score that it covers.
+ghost use mathlib.Core.Path.{_≡_};
+ghost use mathlib.Core.Bool.{_&&_};
+ghost use Prim.Native.Nat.{_≤_};
+ghost use lib.ListN.{getD};
+ghost use lib.Ieee.{nan};
+ghost use Rattle.notefile.specs.Header.{normReader};
+ghost use Rattle.notefile.specs.Given.{WeightIn};
+ghost use Rattle.notefile.specs.Reads.{allCovered, scoreAmong};
+use bm25::Bm25Weight;
+use bm25::Scoring;
+use fieldnorm::FieldNormReader;
+use notefile::part::Part;
+
+// Whether the bound lies below none of the first n scores.
+fn covered(scores: &[f32; 128], n: usize, bound: f32) -> bool
+    requires { ⌜ n ≤ 128 ⌝ }
+    ensures { λ r. ⌜ r ≡ allCovered bound n (λ i. getD (now (scores .entry)) i nan) ⌝ }
+{
+    let mut right = true;
+    let mut i: usize = 0;
+    while i < n {
+        if bound < scores[i] {
+            right = false;
+        }
+        i += 1;
+    }
+    right
+}
+
+// Whether neither bound lies below a score of the first n postings. Norms are gathered and scores made for the whole block at once.
+pub fn both_cover(
+    file: &[u8],
+    reader: FieldNormReader,
+    x: Part,
+    w: Bm25Weight,
+    n: usize,
+    top: f32,
+    bound: f32,
+    docs: &[u32; 128],
+    freqs: &[u32; 128],
+) -> bool
+    requires { ⌜ (reader ≡ normReader (now file)) × WeightIn x w × (n ≤ 128) ⌝ }
+    ensures { λ r. ⌜ r ≡ allCovered top n (scoreAmong (now (file .entry)) x (now (docs .entry)) (now (freqs .entry)))
+        && allCovered bound n (scoreAmong (now (file .entry)) x (now (docs .entry)) (now (freqs .entry))) ⌝ }
+{
+    let mut ids = [0u8; 128];
+    let mut scores = [0.0f32; 128];
+    reader.fieldnorm_ids(file, docs, &mut ids);
+    bm25_block::score_block(w, Scoring::Unstepped, &ids, freqs, &mut scores);
+    if covered(&scores, n, top) {
+        return covered(&scores, n, bound);
+    }
+    false
+}

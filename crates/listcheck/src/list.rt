@@ -1,0 +1,155 @@
+// What one list is refused for: conditions 5 to 9, one pass over each block.
+ghost use mathlib.Core.Path.{_≡_};
+ghost use Prim.Native.Nat.{_≤_};
+ghost use Rattle.notefile.specs.Header.{documents, normReader};
+ghost use Rattle.notefile.specs.Skips.{lastBefore};
+ghost use Rattle.notefile.specs.Lists.{fullBlocks, previousDoc};
+ghost use Rattle.notefile.specs.Refusal.{blocksRefusal, listRefusal};
+ghost use Rattle.notefile.specs.Given.{Against, BlocksIn, Limits, PackedIn, Parted, Skipped};
+ghost use Rattle.notefile.specs.Reads.{TailValues, blockRefusal, lower};
+use crate::bounds::both_cover;
+use crate::skip::TailPlace;
+use crate::skip::tail_place;
+use bm25::Bm25Weight;
+use bm25::Scoring;
+use compression::documents::documents;
+use compression::frequencies::frequencies;
+use fieldnorm::FieldNormReader;
+use notefile::block::packed_docs;
+use notefile::block::packed_freqs;
+use notefile::block::read_tail;
+use notefile::part::Part;
+use notefile::skip::last_before;
+use notefile::skip::read_skip_entry;
+
+// What full block b is refused for: 7, 8, 9 or nothing.
+fn check_block(
+    file: &[u8],
+    limit: u32,
+    reader: FieldNormReader,
+    x: Part,
+    w: Bm25Weight,
+    top: f32,
+    b: usize,
+    at: usize,
+) -> u32
+    requires { ⌜ Against (now file) x limit reader w top × PackedIn (now file) x b at × (lastBefore (now file) x b ≡ previousDoc (now file) x b) ⌝ }
+    ensures { λ r. ⌜ r ≡ blockRefusal (now (file .entry)) x b ⌝ }
+{
+    let e = read_skip_entry(file, x, b);
+    let previous = last_before(file, x, b);
+    let mut docs = [0u32; 128];
+    let mut freqs = [0u32; 128];
+    if !packed_docs(file, x, b, at, e, previous, limit, &mut docs) {
+        return 7;
+    }
+    if !packed_freqs(file, x, b, at, e, &mut freqs) {
+        return 8;
+    }
+    let bound = w.block_max_score(Scoring::Unstepped, e.norm, e.freq);
+    if !both_cover(file, reader, x, w, 128, top, bound, &docs, &freqs) {
+        return 9;
+    }
+    0
+}
+
+// What the tail is refused for, of its VInts' values.
+fn check_tail(
+    file: &[u8],
+    limit: u32,
+    reader: FieldNormReader,
+    x: Part,
+    w: Bm25Weight,
+    top: f32,
+    docs: &mut [u32; 128],
+    freqs: &mut [u32; 128],
+) -> u32
+    requires { ⌜ Against (now file) x limit reader w top × Skipped (now file) x × TailValues (now file) x (now docs) (now freqs)
+        × (lastBefore (now file) x (fullBlocks x) ≡ previousDoc (now file) x (fullBlocks x)) ⌝ }
+    ensures { λ r. ⌜ r ≡ blockRefusal (now (file .entry)) x (fullBlocks x) ⌝ }
+{
+    let b = x.count / 128;
+    let n = x.count % 128;
+    let previous = last_before(file, x, b);
+    if !documents(docs, n, false, b == 0, previous, limit) {
+        return 7;
+    }
+    if !frequencies(freqs, n, false) {
+        return 8;
+    }
+    if !both_cover(file, reader, x, w, n, top, top, docs, freqs) {
+        return 9;
+    }
+    0
+}
+
+// The lower of two refusals, where 0 is none.
+fn lower_of(a: u32, b: u32) -> u32
+    ensures { λ r. ⌜ r ≡ lower a b ⌝ }
+{
+    if a == 0 {
+        return b;
+    }
+    if b == 0 {
+        return a;
+    }
+    if b < a {
+        return b;
+    }
+    a
+}
+
+// What the full blocks are refused for. After a 7 nothing lower can come, and the later blocks have no previous document.
+fn check_blocks(
+    file: &[u8],
+    limit: u32,
+    reader: FieldNormReader,
+    x: Part,
+    w: Bm25Weight,
+    top: f32,
+) -> u32
+    requires { ⌜ Against (now file) x limit reader w top × BlocksIn (now file) x ⌝ }
+    ensures { λ r. ⌜ r ≡ blocksRefusal (now (file .entry)) x (fullBlocks x) ⌝ }
+{
+    let blocks = x.count / 128;
+    let mut lowest: u32 = 0;
+    let mut at = x.postings;
+    let mut b: usize = 0;
+    while b < blocks {
+        let r = check_block(file, limit, reader, x, w, top, b, at);
+        if r == 7 {
+            return 7;
+        }
+        let e = read_skip_entry(file, x, b);
+        lowest = lower_of(lowest, r);
+        at += 16 * ((e.width + e.freqs) as usize);
+        b += 1;
+    }
+    lowest
+}
+
+// What a list is refused for: 5 to 9, or nothing.
+pub fn check_list(file: &[u8], limit: u32, reader: FieldNormReader, x: Part) -> u32
+    requires { ⌜ Parted (now file) x × Limits x × (limit ≡ documents (now file)) × (limit ≤ 1048576) × (reader ≡ normReader (now file)) ⌝ }
+    ensures { λ r. ⌜ r ≡ listRefusal (now (file .entry)) x ⌝ }
+{
+    let place = tail_place(file, x);
+    let TailPlace::At(at) = place else {
+        return 5;
+    };
+    let mut docs = [0u32; 128];
+    let mut freqs = [0u32; 128];
+    if !read_tail(file, x, at, &mut docs, &mut freqs) {
+        return 6;
+    }
+    let w = Bm25Weight::new(f32::from_bits(x.weight), f32::from_bits(x.average));
+    let top = w.max_score(Scoring::Unstepped);
+    let full = check_blocks(file, limit, reader, x, w, top);
+    if full == 7 {
+        return 7;
+    }
+    lower_of(
+        full,
+        check_tail(file, limit, reader, x, w, top, &mut docs, &mut freqs),
+    )
+}

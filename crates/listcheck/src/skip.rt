@@ -1,0 +1,55 @@
+// Condition 5: a list's skip entries.
+ghost use mathlib.Core.Path.{_≡_};
+ghost use mathlib.Core.Bool.{_&&_};
+ghost use Prim.Native.Nat.{_/_, _%_};
+ghost use lib.Dec.{eqb, leb};
+ghost use Rattle.notefile.specs.Lists.{tailAt};
+ghost use Rattle.notefile.specs.Conditions.{skipsRight};
+ghost use Rattle.notefile.specs.Given.{Parted};
+ghost use Rattle.listcheck.specs.Answers.{tailOr};
+use codec::bits::wide;
+use notefile::part::Part;
+use notefile::skip::skip_entry_at;
+
+// Where a list's tail starts, or that its skip entries are wrong.
+pub enum TailPlace {
+    At(usize),
+    Wrong,
+}
+
+// Whether condition 5 is not met by a width byte and a frequency width.
+fn widths_right(byte: u32, freqs: u32) -> bool
+    ensures { λ r. ⌜ r ≡ eqb (byte / 32 % 2) 0 && (eqb (byte / 128 % 2) 0 && leb freqs 32) ⌝ }
+{
+    if byte / 32 % 2 != 0 {
+        return false;
+    }
+    if byte / 128 % 2 != 0 {
+        return false;
+    }
+    freqs <= 32
+}
+
+// Where the tail starts, if condition 5 is not met. The blocks before it may not lie in the file.
+pub fn tail_place(file: &[u8], x: Part) -> TailPlace
+    requires { ⌜ Parted (now file) x ⌝ }
+    ensures { λ r. ⌜ r ≡ tailOr (skipsRight (now (file .entry)) x) (tailAt (now (file .entry)) x) ⌝ }
+{
+    let blocks = x.count / 128;
+    if x.skips + x.entry * blocks != x.postings {
+        return TailPlace::Wrong;
+    }
+    let mut at = x.postings;
+    let mut b: usize = 0;
+    while b < blocks {
+        let e = skip_entry_at(file, x, b);
+        let byte = wide(file[e + 4]);
+        let freqs = wide(file[e + 5]);
+        if !widths_right(byte, freqs) {
+            return TailPlace::Wrong;
+        }
+        at += 16 * ((byte % 32 + freqs) as usize);
+        b += 1;
+    }
+    TailPlace::At(at)
+}

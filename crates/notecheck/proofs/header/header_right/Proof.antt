@@ -1,0 +1,71 @@
+-- `header::header_right` meets its contract: the tests are those of condition 1, in its order.
+use mathlib.Core.Path.{sym, _∙_}
+use lib.ListN.{length}
+use borrow.Author.Needs.{needs}
+use borrow.Author.Tests.{le-leb, lt-leb, eq-eqb, ne-eqb}
+use Rattle.notefile.specs.Conditions.{headerRight}
+use Rattle.notefile.proofs.Headers.{header-tests}
+use Rattle.notecheck.proofs.header.header_right.Statement.{statement}
+use Rattle.notecheck.proofs.header.header_right.Tie as tie
+
+returns : tie.Need-returns
+unfolding headerRight
+returns c = let s = c .before .before .args .file .now in sym (simp (lt-leb 9 (length s) (c .if1 .taken)))
+
+read-header-requires : tie.Need-read-header-requires
+read-header-requires c κs = search needs
+
+returns-2 : tie.Need-returns-2
+returns-2 c =
+    let a = c .before .before in
+    let s = a .before .before .before .args .file .now in
+    let h = a .read-header .result in
+    sym (header-tests s h (a .read-header .ensures) ∙ simp (le-leb 9 (length s) (a .before .if1 .left), ne-eqb (h .version) 1 (c .if2 .taken)))
+
+returns-3 : tie.Need-returns-3
+returns-3 c =
+    let a = c .before .before .before .before in
+    let s = a .before .before .before .args .file .now in
+    let h = a .read-header .result in
+    sym (header-tests s h (a .read-header .ensures) ∙ simp (le-leb 9 (length s) (a .before .if1 .left), eq-eqb (h .version) 1 (c .before .before .if2 .left), ne-eqb (h .spare) 0 (c .if3 .taken)))
+
+returns-4 : tie.Need-returns-4
+returns-4 c =
+    let a = c .before .before .before .before .before .before in
+    let s = a .before .before .before .args .file .now in
+    let h = a .read-header .result in
+    sym (header-tests s h (a .read-header .ensures) ∙ simp (le-leb 9 (length s) (a .before .if1 .left), eq-eqb (h .version) 1 (c .before .before .before .before .if2 .left), eq-eqb (h .spare) 0 (c .before .before .if3 .left), lt-leb (h .lists) 16 (c .if4 .taken)))
+
+returns-5 : tie.Need-returns-5
+returns-5 c =
+    let a = c .before .before .before .before .before .before .before .before in
+    let s = a .before .before .before .args .file .now in
+    let h = a .read-header .result in
+    sym (header-tests s h (a .read-header .ensures) ∙ simp (le-leb 9 (length s) (a .before .if1 .left), eq-eqb (h .version) 1 (c .before .before .before .before .before .before .if2 .left), eq-eqb (h .spare) 0 (c .before .before .before .before .if3 .left), le-leb (h .lists) 16 (c .before .before .if4 .left), lt-leb (h .documents) 1048576 (c .if5 .taken)))
+
+returns-6 : tie.Need-returns-6
+returns-6 c =
+    let a = c .before .before .before .before .before .before .before .before .before .before .before in
+    let s = a .before .before .before .args .file .now in
+    let h = a .read-header .result in
+    sym (header-tests s h (a .read-header .ensures) ∙ simp (le-leb 9 (length s) (a .before .if1 .left), eq-eqb (h .version) 1 (c .before .before .before .before .before .before .before .before .before .if2 .left), eq-eqb (h .spare) 0 (c .before .before .before .before .before .before .before .if3 .left), le-leb (h .lists) 16 (c .before .before .before .before .before .if4 .left), le-leb (h .documents) 1048576 (c .before .before .before .if5 .left), eq-eqb (h .kind) 0 (c .before .if6 .taken)))
+
+returns-7 : tie.Need-returns-7
+returns-7 c =
+    let a = c .before .before .before .before .before .before .before .before .before .before in
+    let s = a .before .before .before .args .file .now in
+    let h = a .read-header .result in
+    sym (header-tests s h (a .read-header .ensures) ∙ simp (le-leb 9 (length s) (a .before .if1 .left), eq-eqb (h .version) 1 (c .before .before .before .before .before .before .before .before .if2 .left), eq-eqb (h .spare) 0 (c .before .before .before .before .before .before .if3 .left), le-leb (h .lists) 16 (c .before .before .before .before .if4 .left), le-leb (h .documents) 1048576 (c .before .before .if5 .left), ne-eqb (h .kind) 0 (c .if6 .left)))
+
+pub header-right-spec : {M : Type 1} → statement M
+header-right-spec =
+    tie.close
+    (tie.spec
+    returns
+    read-header-requires
+    returns-2
+    returns-3
+    returns-4
+    returns-5
+    returns-6
+    returns-7)

@@ -1,0 +1,2 @@
+-- What the judge of a note file answers; the table itself is `notefile`'s.
+pub mod Answers
