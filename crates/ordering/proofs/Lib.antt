@@ -1,0 +1,9 @@
+-- Laws of orders that belong to no one function.
+pub mod Places
+pub mod Restoring
+pub mod Sorting
+pub mod Retaining
+pub mod Sweeping
+pub mod Returning
+pub mod Pivoting
+pub mod Seeking
