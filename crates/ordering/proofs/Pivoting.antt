@@ -7,7 +7,7 @@ use native.Mathlib.Nat.{zero-add}
 use native.Mathlib.Numerals.{add-one}
 use native.Mathlib.Omega.{arith}
 use lib.ListN.{drop, getD, length, take}
-use lib.Ieee.{Float}
+use lib.Ieee.{Float, nan}
 use borrow.Author.Tests.{eq-eqb, ne-eqb}
 use Rattle.route.specs.F32.{f32}
 use Rattle.route.specs.Postings.{TERMINATED}
@@ -27,7 +27,7 @@ module _ (maxScores : List Float) (t : Float) (l : List TermScorer) (n : ℕ) wh
   summing = record { inside = omega arith; whole = rw zero-add }
 
   module _ (long : n ≤ length l) {i : ℕ} {acc : Float} (S : Summing i acc) where
-    pub exceeds : {m : Float} → i < n → m ≡ maxOf maxScores (getD l i noScorer) → f32 .above (f32 .add acc m) t ≡ true
+    pub exceeds : {slot : ℕ} → i < n → slot ≡ getD l i noScorer .slot → f32 .above (f32 .add acc (getD maxScores slot nan)) t ≡ true
         → i ≡ beforePivot maxScores t (f32 .nil) (take n l)
     exceeds h e b =
         let b′ = rw e at b in
@@ -35,8 +35,8 @@ module _ (maxScores : List Float) (t : Float) (l : List TermScorer) (n : ℕ) wh
         let w = S .whole in
         omega arith
 
-    pub adds : {m : Float} → i < n → m ≡ maxOf maxScores (getD l i noScorer) → f32 .above (f32 .add acc m) t ≡ false
-        → Summing (i + 1) (f32 .add acc m)
+    pub adds : {slot : ℕ} → i < n → slot ≡ getD l i noScorer .slot → f32 .above (f32 .add acc (getD maxScores slot nan)) t ≡ false
+        → Summing (i + 1) (f32 .add acc (getD maxScores slot nan))
     adds h e b =
         let b′ = rw e at b in
         let w = S .whole in
@@ -80,6 +80,7 @@ module _ (d : ℕ) (l : List TermScorer) (n from : ℕ) where
 
 module _ (maxScores : List Float) (t : Float) (l : List TermScorer) (n b : ℕ) (e : b ≡ beforePivot maxScores t (f32 .nil) (take n l)) where
   there : pivotAt b (drop b (take n l)) ≡ pivotOf maxScores t (take n l)
+  unfolding pivotOf
   there = ap (λ (k : ℕ). pivotAt k (drop k (take n l))) e
 
   pub none-exceeds : n ≤ b → Nowhere ≡ pivotOf maxScores t (take n l)

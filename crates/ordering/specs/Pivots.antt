@@ -33,7 +33,7 @@ module _ (maxScores : List Float) where
       cond (f32 .above (f32 .add acc (maxOf s)) t) 0 (suc (beforePivot t (f32 .add acc (maxOf s)) ss))
 
   -- `find_pivot_doc`
-  abbrev pub pivotOf : Float → List TermScorer → Pivot
+  unfoldable pub pivotOf : Float → List TermScorer → Pivot
   pivotOf t ss = let b = beforePivot t (f32 .nil) ss in pivotAt b (drop b ss)
 
   -- the highest list bound of x ∷ xs
