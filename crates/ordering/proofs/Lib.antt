@@ -7,3 +7,8 @@ pub mod Sweeping
 pub mod Returning
 pub mod Pivoting
 pub mod Seeking
+pub mod Kept
+pub mod Carried
+pub mod OnRoute
+pub mod Found
+pub mod Turns
