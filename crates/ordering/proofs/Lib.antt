@@ -12,3 +12,4 @@ pub mod Carried
 pub mod OnRoute
 pub mod Found
 pub mod Turns
+pub mod Moving

@@ -24,7 +24,7 @@ use Rattle.ordering.proofs.OnRoute.{Fair, SameDoc, around, fair-docs, l
 
 -- ---- one scorer is replaced
 
-all-off : (P Q : TermScorer → Type 0) (q : ℕ) → ((s : TermScorer) → Off q s → P s → Q s) → (l : List TermScorer) → All (Off q) l → All P l → All Q l
+pub all-off : (P Q : TermScorer → Type 0) (q : ℕ) → ((s : TermScorer) → Off q s → P s → Q s) → (l : List TermScorer) → All (Off q) l → All P l → All Q l
 all-off P Q q h [] o a = tt
 all-off P Q q h (x ∷ l) o a = (h x (o .0) (a .0), all-off P Q q h l (o .1) (a .1))
 
