@@ -7,7 +7,7 @@ use native.Mathlib.Nat.{zero-add}
 use native.Mathlib.Numerals.{add-one}
 use native.Mathlib.Omega.{arith}
 use lib.ListN.{drop, getD, length, take}
-use lib.Ieee.{Float, nan}
+use lib.Ieee.{Float}
 use borrow.Author.Tests.{eq-eqb, ne-eqb}
 use Rattle.route.specs.F32.{f32}
 use Rattle.route.specs.Postings.{TERMINATED}
@@ -27,23 +27,21 @@ module _ (maxScores : List Float) (t : Float) (l : List TermScorer) (n : ℕ) wh
   summing = record { inside = omega arith; whole = rw zero-add }
 
   module _ (long : n ≤ length l) {i : ℕ} {acc : Float} (S : Summing i acc) where
-    pub exceeds : {slot : ℕ} → i < n → slot ≡ getD l i noScorer .slot → f32 .above (f32 .add acc (getD maxScores slot nan)) t ≡ true
+    pub exceeds : i < n → f32 .above (f32 .add acc (maxOf maxScores (getD l i noScorer))) t ≡ true
         → i ≡ beforePivot maxScores t (f32 .nil) (take n l)
-    exceeds h e b =
-        let b′ = rw e at b in
-        let q : beforePivot maxScores t acc (drop i (take n l)) ≡ 0 = rw (drop-take-cons l n i noScorer h long, b′) in
+    exceeds h b =
+        let q : beforePivot maxScores t acc (drop i (take n l)) ≡ 0 = rw (drop-take-cons l n i noScorer h long, b) in
         let w = S .whole in
         omega arith
 
-    pub adds : {slot : ℕ} → i < n → slot ≡ getD l i noScorer .slot → f32 .above (f32 .add acc (getD maxScores slot nan)) t ≡ false
-        → Summing (i + 1) (f32 .add acc (getD maxScores slot nan))
-    adds h e b =
-        let b′ = rw e at b in
+    pub adds : i < n → f32 .above (f32 .add acc (maxOf maxScores (getD l i noScorer))) t ≡ false
+        → Summing (i + 1) (f32 .add acc (maxOf maxScores (getD l i noScorer)))
+    adds h b =
         let w = S .whole in
         let q : beforePivot maxScores t acc (drop i (take n l))
                 ≡ suc (beforePivot maxScores t (f32 .add acc (maxOf maxScores (getD l i noScorer))) (drop (i + 1) (take n l))) =
-            rw (drop-take-cons l n i noScorer h long, b′, add-one) in
-        record { inside = omega arith; whole = rw e (omega arith) }
+            rw (drop-take-cons l n i noScorer h long, b, add-one) in
+        record { inside = omega arith; whole = omega arith }
 
     pub never : n ≤ i → i ≡ beforePivot maxScores t (f32 .nil) (take n l)
     never h =

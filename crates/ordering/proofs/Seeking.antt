@@ -7,11 +7,11 @@ use native.Mathlib.Nat.{add-zero, zero-add}
 use native.Mathlib.Numerals.{add-one}
 use native.Mathlib.Omega.{arith}
 use lib.ListN.{drop, getD, length, take}
-use lib.Ieee.{Float, nan}
+use lib.Ieee.{Float}
 use Rattle.route.specs.F32.{f32}
 use Rattle.ordering.specs.declared.TermScorer.{TermScorer}
 use Rattle.ordering.specs.Scorers.{leastDocOf, noScorer}
-use Rattle.ordering.specs.Pivots.{highest, placeOfHighest, placeToSeek}
+use Rattle.ordering.specs.Pivots.{highest, maxOf, placeOfHighest, placeToSeek}
 use Rattle.ordering.proofs.Places.{drop-take-cons, drop-take-nil}
 
 module _ (maxScores : List Float) (l : List TermScorer) (n : ℕ) where
@@ -28,10 +28,10 @@ module _ (maxScores : List Float) (l : List TermScorer) (n : ℕ) where
     pub at-is : at ≡ i + placeOfHighest maxScores (scorer i) (behind i)
 
   module _ (long : n ≤ length l) where
-    pub begun : {slot : ℕ} → 0 < n → slot ≡ scorer (n - 1) .slot → Seeking (n - 1) (getD maxScores slot nan) (n - 1)
-    begun h e =
+    pub begun : 0 < n → Seeking (n - 1) (maxOf maxScores (scorer (n - 1))) (n - 1)
+    begun h =
         let x = drop-take-nil l n (suc (n - 1)) (omega arith) in
-        record { inside = omega arith; top-is = rw (x, e); at-is = rw (x, add-zero) }
+        record { inside = omega arith; top-is = rw x; at-is = rw (x, add-zero) }
 
     module _ {at : ℕ} {top : Float} {i : ℕ} (S : Seeking at top i) (h : 0 < i) where
       abbrev j : ℕ
@@ -43,16 +43,16 @@ module _ (maxScores : List Float) (l : List TermScorer) (n : ℕ) where
           let k = S .inside in
           ap (λ (z : ℕ). drop z (take n l)) e ∙ drop-take-cons l n i noScorer k long
 
-      pub higher : {slot : ℕ} → slot ≡ scorer j .slot → f32 .above (getD maxScores slot nan) top ≡ true → Seeking j (getD maxScores slot nan) j
-      higher e b =
+      pub higher : f32 .above (maxOf maxScores (scorer j)) top ≡ true → Seeking j (maxOf maxScores (scorer j)) j
+      higher b =
           let k = S .inside in
-          let b′ = rw (e, S .top-is) at b in
-          record { inside = omega arith; top-is = rw (next, b′, e); at-is = rw (next, b′, add-zero) }
+          let b′ = rw (S .top-is) at b in
+          record { inside = omega arith; top-is = rw (next, b′); at-is = rw (next, b′, add-zero) }
 
-      pub lower : {slot : ℕ} → slot ≡ scorer j .slot → f32 .above (getD maxScores slot nan) top ≡ false → Seeking at top j
-      lower e b =
+      pub lower : f32 .above (maxOf maxScores (scorer j)) top ≡ false → Seeking at top j
+      lower b =
           let k = S .inside in
-          let b′ = rw (e, S .top-is) at b in
+          let b′ = rw (S .top-is) at b in
           record { inside = omega arith; top-is = rw (next, b′) (S .top-is); at-is = rw (next, b′) (let q = S .at-is in omega arith) }
 
     pub ended : {at : ℕ} {top : Float} {i : ℕ} → Seeking at top i → i ≤ 0 → at ≡ placeToSeek maxScores (take n l)
