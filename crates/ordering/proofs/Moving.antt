@@ -1,23 +1,25 @@
 -- Loops that move one scorer after the other, each in its own slot: through the first len, and onto the pivot from the last to the first.
 use mathlib.Core.List.{List, append-nil, map, [], _++_, _∷_}
 use mathlib.Core.Path.{ap, refl, sym, _∙_, _≡_}
-use Prim.Native.Nat.{suc, zero, ℕ, _+_, _-_, _<_, _≤_}
+use Prim.Native.Nat.{suc, ℕ, _+_, _-_, _<_, _≤_}
 use native.Mathlib.Nat.{add-zero}
 use native.Mathlib.Numerals.{add-one}
 use native.Mathlib.Omega.{arith}
 use lib.Dec.{eqb}
 use lib.ListN.{drop, getD, length, length-map, length-set, set, take, take-append-drop}
-use lib.Seq.{drop-cons, drop-drop, drop-set-lt, getD-drop, getD-set-same, getD-take, take-set-le, take-set-lt, take-suc, take-suc-set, take-take}
+use lib.Seq.{drop-cons, drop-drop, drop-set-lt, getD-drop, getD-set-same, getD-take, set-getD, take-set-le, take-set-lt, take-suc, take-suc-set, take-take}
 use lib.Ieee.{Float}
 use borrow.Author.Tests.{eq-eqb, ne-eqb}
 use Rattle.route.specs.Lists.{All}
+use Rattle.route.specs.F32.{f32}
 use Rattle.route.specs.Scorer.{Scorer, docOf, seek}
-use Rattle.route.specs.Union.{Aligned, Around, alignOn, alignScorers, aligned, missed}
+use Rattle.route.specs.Route.{quiet}
+use Rattle.route.specs.Union.{Around, afterAlign, alignOn, alignScorers, aligned, goOn, missed, missedOn}
 use Rattle.ordering.specs.declared.TermScorer.{TermScorer}
-use Rattle.ordering.specs.Scorers.{Apart, noScorer}
+use Rattle.ordering.specs.Scorers.{Apart, noScorer, returned}
 use Rattle.ordering.proofs.Places.{all-drop, all-first, all-take, drop-take, drop-take-cons, drop-take-nil}
 use Rattle.ordering.proofs.Kept.{Off, others-apart, slotOf, slots-apart}
-use Rattle.ordering.proofs.OnRoute.{map-append}
+use Rattle.ordering.proofs.OnRoute.{SameDoc, map-append, missed-on-route}
 use Rattle.ordering.proofs.Turns.{SameOff, all-off, replaced-slots, same-map}
 
 -- g says of s what f says
@@ -73,6 +75,11 @@ module _ (m : Scorer Float → Scorer Float) (f : TermScorer → Scorer Float) (
               (sym (rw add-one at (drop-drop 1 i l′)) ∙ ap (drop 1) (S .rest) ∙ rw add-one at (drop-drop 1 i l));
           same = rw add-one (all-off (Same f g) (Same f g′) (y .slot) (λ t q w. off′ t q ∙ w) (drop (suc i) l) (o .1) (same .1));
         }
+
+    -- a scorer that stays on its document
+    pub moves-on-doc : (g′ : TermScorer → Scorer Float) → i < length l → Apart l → SameOff (getD l′ i noScorer .slot) g g′
+        → g′ (getD l′ i noScorer) ≡ m (g (getD l′ i noScorer)) → Moving m f l (i + 1) g′ l′
+    moves-on-doc g′ h apart off s = rw (set-getD l′ i noScorer) at (moves g′ (getD l′ i noScorer) h apart refl off s)
 
     pub moved-all : map g l′ ≡ map m (map f (take i l)) ++ map f (drop i l)
     moved-all =
@@ -243,3 +250,15 @@ module _ (B p : ℕ) where
                   ∙ (rw (left, put, i-is, right-is));
               rest = ap (map g′) rest-is ∙ all-same f g′ (drop before l) rest-still;
             }
+
+    -- the turn that a miss ends
+    pub missed-turn : {j : ℕ} {g : TermScorer → Scorer Float} {l′ : List TermScorer} (t : Float) (piv post : List (Scorer Float)) → Missed f l before j g l′
+        → before ≤ length l → All (SameDoc g) l′ → piv ++ post ≡ map f (drop before l)
+        → afterAlign B f32 t (alignScorers B p (map f (take before l))) p piv post ≡ quiet (goOn (map g (returned l′ j)))
+    missed-turn {j} {g} {l′} t piv post M fits docs e =
+        let h = M .inside in
+        let long = slots-length l l′ (M .slots) in
+        let m : Around Float = record { left = map g (take j l′); one = g (getD l′ j noScorer); right = map g (drop (suc j) (take before l′)) } in
+        ap (λ a. afterAlign B f32 t a p piv post) (M .answer)
+        ∙ ap (λ z. quiet (goOn (missedOn m z))) (e ∙ sym (M .rest))
+        ∙ ap (λ z. quiet (goOn z)) (sym (missed-on-route g l′ j before h (omega arith) docs))

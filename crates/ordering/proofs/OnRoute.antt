@@ -1,15 +1,13 @@
 -- From scorers in their order to the route's scorers: f takes a scorer to the route's, which stands on its document and has its slot's list bound.
-use mathlib.Core.Bool.{cond}
 use mathlib.Core.List.{List, map, [], _++_, _∷_}
 use mathlib.Core.Option.{Option, none, some}
 use mathlib.Core.Path.{ap, refl, sym, _∙_, _≡_}
-use Prim.Native.Nat.{min, suc, zero, ℕ, _+_, _-_, _<_, _≤_}
+use Prim.Native.Nat.{min, suc, ℕ, _+_, _-_, _<_}
 use native.Mathlib.Omega.{arith}
 use lib.Dec.{eqb}
 use lib.ListN.{drop, getD, length, take}
 use lib.Seq.{drop-drop}
 use lib.Ieee.{Float}
-use borrow.Author.Tests.{eqb-false, eqb-true}
 use Rattle.route.specs.Lists.{All}
 use Rattle.route.specs.F32.{f32}
 use Rattle.route.specs.Postings.{TERMINATED}
@@ -22,7 +20,7 @@ use Rattle.ordering.specs.declared.TermScorer.{TermScorer}
 use Rattle.ordering.specs.declared.Pivot as code
 use Rattle.ordering.specs.declared.Pivot.the-variants.{At, Nowhere}
 use Rattle.ordering.specs.Scorers.{byDoc, leastDocOf, moved, noScorer, returned}
-use Rattle.ordering.specs.Pivots.{beforePivot, countOn, highest, maxOf, pivotAt, pivotOf, placeOfHighest, placeToSeek}
+use Rattle.ordering.specs.Pivots.{beforePivot, countOn, highest, maxOf, pivotAt, pivotOf, placeToSeek}
 use Rattle.ordering.proofs.Places.{all-at, all-drop, drop-take, fromPlace-split, join}
 use Rattle.ordering.proofs.Carried as carried
 

@@ -1,10 +1,10 @@
 -- Lists of which the first n count, place by place.
-use mathlib.Core.List.{List, [], map, _++_, _∷_}
+use mathlib.Core.List.{List, [], _++_, _∷_}
 use mathlib.Core.Path.{ap, refl, sym, _∙_, _≡_}
 use Prim.Native.Nat.{suc, zero, ℕ, _+_, _-_, _<_, _≤_}
 use native.Mathlib.Omega.{arith}
 use lib.ListN.{drop, getD, length, length-take, take, take-append-drop}
-use lib.Seq.{drop-cons, getD-take, take-nil, take-take}
+use lib.Seq.{drop-cons, getD-take, take-nil}
 use Rattle.route.specs.Lists.{All}
 use Rattle.ordering.specs.Scorers.{fromPlace}
 

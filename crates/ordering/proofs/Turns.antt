@@ -1,18 +1,17 @@
 -- The order parts of a union's turn: a run moves one scorer, or several, each in its own slot, puts them in order, and has the route's next scorers.
-use mathlib.Core.List.{List, append-assoc, map, [], _++_, _∷_}
+use mathlib.Core.List.{List, map, [], _++_, _∷_}
 use mathlib.Core.Path.{ap, refl, sym, _∙_, _≡_}
-use Prim.Native.Nat.{suc, zero, ℕ, _+_, _-_, _<_, _≤_}
-use native.Mathlib.Numerals.{add-one}
+use Prim.Native.Nat.{suc, ℕ, _<_, _≤_}
 use native.Mathlib.Omega.{arith}
-use lib.ListN.{drop, getD, length, length-map, length-set, length-take, set, take, take-append-drop}
-use lib.Seq.{drop-cons, drop-set-lt, getD-set-same, getD-take, map-set-same, set-split, take-set-le, take-suc, take-suc-set, take-take}
+use lib.ListN.{drop, getD, length, length-map, length-set, length-take, set, take}
+use lib.Seq.{drop-set-lt, getD-set-same, getD-take, map-set-same, set-split, take-set-le, take-take}
 use lib.Ieee.{Float}
 use Rattle.route.specs.Lists.{All}
 use Rattle.route.specs.F32.{f32}
 use Rattle.route.specs.Postings.{TERMINATED}
 use Rattle.route.specs.Ordering.{restoreOrdering, sortBy, sweep}
 use Rattle.route.specs.Scorer.{Scorer, advance, docOf, seek}
-use Rattle.route.specs.Union.{advanceAllScorersOnPivot, behind, blockMaxWasTooLow, leastDoc, leastLastDoc, scorerToSeek}
+use Rattle.route.specs.Union.{advanceAllScorersOnPivot, behind, blockMaxWasTooLow, leastDoc, leastLastDoc}
 use Rattle.route.proofs.Lists.{all-append}
 use Rattle.ordering.specs.declared.TermScorer.{TermScorer}
 use Rattle.ordering.specs.Scorers.{Apart, byDoc, leastDocOf, moved, noScorer}
