@@ -13,3 +13,5 @@ pub mod OnRoute
 pub mod Found
 pub mod Turns
 pub mod Moving
+pub mod Aligning
+pub mod PivotTurns

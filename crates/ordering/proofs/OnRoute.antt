@@ -21,7 +21,7 @@ use Rattle.ordering.specs.declared.Pivot as code
 use Rattle.ordering.specs.declared.Pivot.the-variants.{At, Nowhere}
 use Rattle.ordering.specs.Scorers.{byDoc, leastDocOf, moved, noScorer, returned}
 use Rattle.ordering.specs.Pivots.{beforePivot, countOn, highest, maxOf, pivotAt, pivotOf, placeToSeek}
-use Rattle.ordering.proofs.Places.{all-at, all-drop, drop-take, fromPlace-split, join}
+use Rattle.ordering.proofs.Places.{all-at, all-drop, drop-take, fromPlace-split, join, map-append}
 use Rattle.ordering.proofs.Carried as carried
 
 -- the route's scorer stands on the same document
@@ -35,10 +35,6 @@ pub record Fair (maxScores : List Float) (f : TermScorer → Scorer Float) (s : 
 
 pub fair-docs : (maxScores : List Float) (f : TermScorer → Scorer Float) (l : List TermScorer) → All (Fair maxScores f) l → All (SameDoc f) l
 fair-docs maxScores f l a = all-imp (Fair maxScores f) (SameDoc f) l (λ s h. h .doc-is) a
-
-pub map-append : {A B : Type 0} (f : A → B) (l m : List A) → map f (l ++ m) ≡ map f l ++ map f m
-map-append f [] m = refl
-map-append f (x ∷ l) m = ap (λ z. f x ∷ z) (map-append f l m)
 
 module _ (f : TermScorer → Scorer Float) where
   -- the scorers around place i
@@ -133,8 +129,8 @@ module _ (f : TermScorer → Scorer Float) where
         let b′ = beforePivot maxScores t acc′ xs in
         let test : f32 .above (f32 .add acc (maxScore (f x))) t ≡ f32 .above acc′ t = rw m in
         let later =
-            ap (λ (z : Float). pushPre (f x) (pivotFrom f32 t (f32 .add acc z) (map f xs))) m
-            ∙ ap (pushPre (f x)) (cut-is t acc′ xs (a .1)) ∙ cut-push (f x) (map f (take b′ xs)) (drop b′ xs) in
+        ap (λ (z : Float). pushPre (f x) (pivotFrom f32 t (f32 .add acc z) (map f xs))) m
+        ∙ ap (pushPre (f x)) (cut-is t acc′ xs (a .1)) ∙ cut-push (f x) (map f (take b′ xs)) (drop b′ xs) in
         on-test (f32 .above acc′ t) (λ b. rw (test, b, e, on, off)) (λ b. rw (test, b) later)
 
     -- the pivot's document, and its places from the start

@@ -39,8 +39,8 @@ module _ (maxScores : List Float) (t : Float) (l : List TermScorer) (n : ℕ) wh
     adds h b =
         let w = S .whole in
         let q : beforePivot maxScores t acc (drop i (take n l))
-                ≡ suc (beforePivot maxScores t (f32 .add acc (maxOf maxScores (getD l i noScorer))) (drop (i + 1) (take n l))) =
-            rw (drop-take-cons l n i noScorer h long, b, add-one) in
+        ≡ suc (beforePivot maxScores t (f32 .add acc (maxOf maxScores (getD l i noScorer))) (drop (i + 1) (take n l))) =
+        rw (drop-take-cons l n i noScorer h long, b, add-one) in
         record { inside = omega arith; whole = omega arith }
 
     pub never : n ≤ i → i ≡ beforePivot maxScores t (f32 .nil) (take n l)

@@ -1,5 +1,5 @@
 -- Lists of which the first n count, place by place.
-use mathlib.Core.List.{List, [], _++_, _∷_}
+use mathlib.Core.List.{List, map, [], _++_, _∷_}
 use mathlib.Core.Path.{ap, refl, sym, _∙_, _≡_}
 use Prim.Native.Nat.{suc, zero, ℕ, _+_, _-_, _<_, _≤_}
 use native.Mathlib.Omega.{arith}
@@ -70,3 +70,18 @@ module _ {A : Type 0} where
     fromPlace-split [] i d h = absurd (omega arith)
     fromPlace-split (x ∷ l) zero d h = refl
     fromPlace-split (x ∷ l) (suc i) d h = ap (λ z. x ∷ z) (fromPlace-split l i d (omega arith))
+
+module _ {A B : Type 0} (g : A → B) where
+  pub map-append : (l m : List A) → map g (l ++ m) ≡ map g l ++ map g m
+  map-append [] m = refl
+  map-append (x ∷ l) m = ap (λ z. g x ∷ z) (map-append l m)
+
+  pub map-take : (n : ℕ) (l : List A) → map g (take n l) ≡ take n (map g l)
+  map-take zero l = refl
+  map-take (suc n) [] = refl
+  map-take (suc n) (x ∷ l) = ap (λ z. g x ∷ z) (map-take n l)
+
+  pub map-drop : (n : ℕ) (l : List A) → map g (drop n l) ≡ drop n (map g l)
+  map-drop zero l = refl
+  map-drop (suc n) [] = refl
+  map-drop (suc n) (x ∷ l) = map-drop n l

@@ -73,7 +73,7 @@ module _ (l : List TermScorer) (n goal : ℕ) where
     pub lowers : {least′ : ℕ} → i < n → least′ ≡ min (getD l i noScorer .doc) least → Lowering least′ (i + 1)
     lowers {least′} h e =
         let q : leastDocOf least (drop i (take n l)) ≡ leastDocOf (min (getD l i noScorer .doc) least) (drop (i + 1) (take n l)) =
-            rw (drop-take-cons l n i noScorer h long, add-one) in
+        rw (drop-take-cons l n i noScorer h long, add-one) in
         record { inside = omega arith; whole = ap (λ (z : ℕ). leastDocOf z (drop (i + 1) (take n l))) e ∙ sym q ∙ S .whole }
 
     pub lowest : n ≤ i → least ≡ goal

@@ -16,10 +16,10 @@ use Rattle.route.proofs.Lists.{all-append}
 use Rattle.ordering.specs.declared.TermScorer.{TermScorer}
 use Rattle.ordering.specs.Scorers.{Apart, byDoc, leastDocOf, moved, noScorer}
 use Rattle.ordering.specs.Pivots.{placeToSeek}
-use Rattle.ordering.proofs.Places.{all-drop, all-take, join}
+use Rattle.ordering.proofs.Places.{all-drop, all-take, join, map-append}
 use Rattle.ordering.proofs.Kept.{Off, kept-all, others-apart, slotOf, sweep-kept}
 use Rattle.ordering.proofs.Found.{seek-inside}
-use Rattle.ordering.proofs.OnRoute.{Fair, SameDoc, around, fair-docs, least-on-route, map-append, restored-on-route, seek-on-route, sorted-on-route, swept-on-route}
+use Rattle.ordering.proofs.OnRoute.{Fair, SameDoc, around, fair-docs, least-on-route, restored-on-route, seek-on-route, sorted-on-route, swept-on-route}
 
 -- ---- one scorer is replaced
 
@@ -95,11 +95,11 @@ module _ (B : ℕ) (maxScores : List Float) (f g : TermScorer → Scorer Float) 
       let front₂ : take at (take len l) ≡ take at l = take-take at len l (omega arith) in
       let one₂ : getD (take len l) at noScorer ≡ getD l at noScorer = getD-take len l at noScorer al in
       let back₂ : map f (drop (suc at) (take len l)) ++ post ≡ map f (drop (suc at) l) =
-          sym (map-append f (drop (suc at) (take len l)) (drop len l)) ∙ ap (map f) (join (suc at) len l al) in
+      sym (map-append f (drop (suc at) (take len l)) (drop len l)) ∙ ap (map f) (join (suc at) len l al) in
       let next : List (Scorer Float) = map f (take at l) ++ restoreOrdering docOf (seek B d (f (getD l at noScorer))) (map f (drop (suc at) l)) in
       let run : map g (moved l′ at) ≡ next = rw (front, one, back) at (restored-on-route g l′ at (rw (length-set l at x′) h) docs′) in
       let route : blockMaxWasTooLow B f32 (map f (take len l)) post ≡ next =
-          rw (q′, front₂, one₂, back₂) at (low-is (take len l) post at (omega arith) (all-take (Fair maxScores f) len l a) e) in
+      rw (q′, front₂, one₂, back₂) at (low-is (take len l) post at (omega arith) (all-take (Fair maxScores f) len l a) e) in
       run ∙ sym route
 
 -- ---- a hit: the scorers on the pivot have advanced
