@@ -1,4 +1,4 @@
--- Laws of orders that belong to no one function.
+-- Laws of orders that belong to no one function, from the bottom: lists by places, each loop, what an order keeps, and what carries it to the route's turns.
 pub mod Places
 pub mod Restoring
 pub mod Sorting

@@ -1,5 +1,5 @@
 -- The body of the union's loop at a pivot, in the words of the scorers in their order.
-use mathlib.Core.Bool.{cond}
+use mathlib.Core.Bool.{cond, false}
 use mathlib.Core.List.{List, map, _++_}
 use mathlib.Core.Path.{ap, sym, _∙_, _≡_}
 use Prim.Native.Nat.{suc, ℕ, _+_, _-_, _≤_}
@@ -13,11 +13,13 @@ use Rattle.route.specs.F32.{f32}
 use Rattle.route.specs.Report.{dueAt}
 use Rattle.route.specs.Scorer.{Scorer, blockMaxScore, scoreHere, seekBlock}
 use Rattle.route.specs.Route.{Turn, quiet}
-use Rattle.route.specs.Union.{Around, UnionPlace, advanceAllScorersOnPivot, afterAlign, alignScorers, blockMaxWasTooLow, goOn, missedOn, onPivot}
+use Rattle.route.specs.Union.{Around, UnionPlace, advanceAllScorersOnPivot, afterAlign, afterPivot, alignScorers, blockMaxWasTooLow, goOn, missedOn, onPivot, unionTurn}
 use Rattle.ordering.specs.declared.TermScorer.{TermScorer}
+use Rattle.ordering.specs.declared.Pivot.the-variants.{At, Nowhere}
 use Rattle.ordering.specs.Scorers.{noScorer, returned}
+use Rattle.ordering.specs.Pivots.{pivotOf}
 use Rattle.ordering.proofs.Places.{all-drop, all-take, drop-take, join, map-append, map-drop, map-take}
-use Rattle.ordering.proofs.OnRoute.{SameDoc, missed-on-route}
+use Rattle.ordering.proofs.OnRoute.{Fair, SameDoc, missed-on-route, pivot-on-route, pivotIn}
 use Rattle.ordering.proofs.Moving.{Moving, Same, all-same, slots-length}
 use Rattle.ordering.proofs.Aligning.{Aligning, Missed, all-aligned}
 
@@ -53,6 +55,13 @@ module _ (B : ℕ) (t : Float) (l : List TermScorer) (before len p : ℕ) (first
       let piv₁ = map g (drop before (take len l)) in
       ap (λ z. turned z piv₀ (z ++ piv₀) (map f (drop len l))) pre ∙ ap (λ z. turned pre₁ z (pre₁ ++ z) (map f (drop len l))) piv
       ∙ ap (λ z. turned pre₁ piv₁ z (map f (drop len l))) (whole g l) ∙ ap (turned pre₁ piv₁ (map g (take len l))) post
+
+  -- the whole turn, where the pivot is what `find_pivot_doc` found
+  pub found-turn : (maxScores : List Float) {f g : TermScorer → Scorer Float} → All (Fair maxScores f) l → At before len p ≡ pivotOf maxScores t l
+      → Moving (seekBlock B p) f l len g l
+      → unionTurn B f32 t (goOn (map f l)) ≡ turned (map g (take before l)) (map g (drop before (take len l))) (map g (take len l)) (map g (drop len l))
+  found-turn maxScores {f} fair e S =
+      ap (λ o. afterPivot B f32 t o (map f l)) (pivot-on-route f maxScores t l fair ∙ ap (pivotIn f l) (sym e)) ∙ pivot-turn S
 
   module _ {f g : TermScorer → Scorer Float} {l′ : List TermScorer} where
     -- the turn that a miss at place j ends
@@ -90,3 +99,9 @@ module _ (B : ℕ) (t : Float) (l : List TermScorer) (before len p : ℕ) (first
         let on = map g (take before l′) in
         ap (λ a. afterAlign B f32 t a p (map f (drop before (take len l))) (map f (drop len l))) (all-aligned B p f l before S h)
         ∙ ap (λ z. next (on ++ z) (map f (drop len l))) piv ∙ ap (λ z. next z (map f (drop len l))) (whole g l′) ∙ ap (next (map g (take len l′))) post
+
+-- no pivot ends the loop
+pub nowhere-turn : (B : ℕ) (t : Float) (l : List TermScorer) (maxScores : List Float) (f : TermScorer → Scorer Float) → All (Fair maxScores f) l
+    → Nowhere ≡ pivotOf maxScores t l → unionTurn B f32 t (goOn (map f l)) ≡ quiet (record { more = false; scorers = map f l })
+nowhere-turn B t l maxScores f fair e =
+    ap (λ o. afterPivot B f32 t o (map f l)) (pivot-on-route f maxScores t l fair ∙ ap (pivotIn f l) (sym e))
