@@ -14,4 +14,4 @@ pub mod Found
 pub mod Turns
 pub mod Moving
 pub mod Aligning
-pub mod PivotTurns
+pub mod UnionTurns

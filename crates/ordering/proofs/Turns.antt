@@ -61,22 +61,23 @@ module _ (f g : TermScorer → Scorer Float) where
       (same-map q s (take i l) (o .0), same-map q s (drop (suc i) l) (o .1))
 
 -- ---- blocks too low: one scorer seeks
-module _ (B : ℕ) (maxScores : List Float) (f g : TermScorer → Scorer Float) where
-  -- the least last document of the present blocks
-  abbrev pub leastLast : List TermScorer → ℕ
-  leastLast [] = TERMINATED
-  leastLast (x ∷ xs) = leastLastDoc B (f x) (map f xs)
 
+-- the least last document of the present blocks
+abbrev pub leastLast : ℕ → (TermScorer → Scorer Float) → List TermScorer → ℕ
+leastLast B f [] = TERMINATED
+leastLast B f (x ∷ xs) = leastLastDoc B (f x) (map f xs)
+
+module _ (B : ℕ) (maxScores : List Float) (f g : TermScorer → Scorer Float) where
   low-is : (xs : List TermScorer) (post : List (Scorer Float)) (at : ℕ) → 0 < length xs → All (Fair maxScores f) xs → at ≡ placeToSeek maxScores xs
       → blockMaxWasTooLow B f32 (map f xs) post
-      ≡ map f (take at xs) ++ restoreOrdering docOf (seek B (leastDoc (behind (leastLast xs)) post) (f (getD xs at noScorer))) (map f (drop (suc at) xs) ++ post)
+      ≡ map f (take at xs) ++ restoreOrdering docOf (seek B (leastDoc (behind (leastLast B f xs)) post) (f (getD xs at noScorer))) (map f (drop (suc at) xs) ++ post)
   low-is [] post at h a e = absurd (omega arith)
   low-is (x ∷ xs) post at h a e =
       let p = seek-on-route f maxScores x xs a ∙ ap (around f (x ∷ xs)) (sym e) in
       rw p
 
   pub too-low-on-route : (l : List TermScorer) (len at d : ℕ) (x′ : TermScorer) → 0 < len → len ≤ length l → All (Fair maxScores f) l → Apart l
-      → at ≡ placeToSeek maxScores (take len l) → d ≡ leastDocOf (behind (leastLast (take len l))) (drop len l)
+      → at ≡ placeToSeek maxScores (take len l) → d ≡ leastDocOf (behind (leastLast B f (take len l))) (drop len l)
       → SameOff (getD l at noScorer .slot) f g → g x′ ≡ seek B d (f (getD l at noScorer)) → SameDoc g x′
       → map g (moved (set l at x′) at) ≡ blockMaxWasTooLow B f32 (map f (take len l)) (map f (drop len l))
   too-low-on-route l len at d x′ pos k a apart e q same s doc =
@@ -91,7 +92,7 @@ module _ (B : ℕ) (maxScores : List Float) (f g : TermScorer → Scorer Float) 
       let one : g (getD l′ at noScorer) ≡ seek B d (f (getD l at noScorer)) = ap g (getD-set-same l at x′ noScorer h) ∙ s in
       let back : map g (drop (suc at) l′) ≡ map f (drop (suc at) l) = ap (map g) (drop-set-lt (suc at) l at x′ (omega arith)) ∙ o .1 in
       let post = map f (drop len l) in
-      let q′ : leastDoc (behind (leastLast (take len l))) post ≡ d = least-on-route f (behind (leastLast (take len l))) (drop len l) (all-drop (SameDoc f) len l docs) ∙ sym q in
+      let q′ : leastDoc (behind (leastLast B f (take len l))) post ≡ d = least-on-route f (behind (leastLast B f (take len l))) (drop len l) (all-drop (SameDoc f) len l docs) ∙ sym q in
       let front₂ : take at (take len l) ≡ take at l = take-take at len l (omega arith) in
       let one₂ : getD (take len l) at noScorer ≡ getD l at noScorer = getD-take len l at noScorer al in
       let back₂ : map f (drop (suc at) (take len l)) ++ post ≡ map f (drop (suc at) l) =
