@@ -93,14 +93,14 @@ module _ (B : ℕ) (maxScores : List Float) (f g : TermScorer → Scorer Float) 
       let back : map g (drop (suc at) l′) ≡ map f (drop (suc at) l) = ap (map g) (drop-set-lt (suc at) l at x′ (omega arith)) ∙ o .1 in
       let post = map f (drop len l) in
       let q′ : leastDoc (behind (leastLast B f (take len l))) post ≡ d = least-on-route f (behind (leastLast B f (take len l))) (drop len l) (all-drop (SameDoc f) len l docs) ∙ sym q in
-      let front₂ : take at (take len l) ≡ take at l = take-take at len l (omega arith) in
-      let one₂ : getD (take len l) at noScorer ≡ getD l at noScorer = getD-take len l at noScorer al in
-      let back₂ : map f (drop (suc at) (take len l)) ++ post ≡ map f (drop (suc at) l) =
+      let front-cut : take at (take len l) ≡ take at l = take-take at len l (omega arith) in
+      let one-cut : getD (take len l) at noScorer ≡ getD l at noScorer = getD-take len l at noScorer al in
+      let back-cut : map f (drop (suc at) (take len l)) ++ post ≡ map f (drop (suc at) l) =
       sym (map-append f (drop (suc at) (take len l)) (drop len l)) ∙ ap (map f) (join (suc at) len l al) in
       let next : List (Scorer Float) = map f (take at l) ++ restoreOrdering docOf (seek B d (f (getD l at noScorer))) (map f (drop (suc at) l)) in
       let run : map g (moved l′ at) ≡ next = rw (front, one, back) at (restored-on-route g l′ at (rw (length-set l at x′) h) docs′) in
       let route : blockMaxWasTooLow B f32 (map f (take len l)) post ≡ next =
-      rw (q′, front₂, one₂, back₂) at (low-is (take len l) post at (omega arith) (all-take (Fair maxScores f) len l a) e) in
+      rw (q′, front-cut, one-cut, back-cut) at (low-is (take len l) post at (omega arith) (all-take (Fair maxScores f) len l a) e) in
       run ∙ sym route
 
 -- ---- a hit: the scorers on the pivot have advanced

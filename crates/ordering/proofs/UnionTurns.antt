@@ -52,12 +52,12 @@ module _ (B : ℕ) (t : Float) (l : List TermScorer) (before len p : ℕ) (first
       ap (map m) (map-drop f before (take len l)) ∙ map-drop m before (map f (take len l)) ∙ ap (drop before) (sym (S .front))
       ∙ sym (map-drop g before (take len l)) in
       let post : map f (drop len l) ≡ map g (drop len l) = sym (all-same f g (drop len l) (S .same)) in
-      let pre₀ = map m (map f (take before l)) in
-      let piv₀ = map m (map f (drop before (take len l))) in
-      let pre₁ = map g (take before l) in
-      let piv₁ = map g (drop before (take len l)) in
-      ap (λ z. turned z piv₀ (z ++ piv₀) (map f (drop len l))) pre ∙ ap (λ z. turned pre₁ z (pre₁ ++ z) (map f (drop len l))) piv
-      ∙ ap (λ z. turned pre₁ piv₁ z (map f (drop len l))) (whole g l) ∙ ap (turned pre₁ piv₁ (map g (take len l))) post
+      let pre-was = map m (map f (take before l)) in
+      let piv-was = map m (map f (drop before (take len l))) in
+      let pre-now = map g (take before l) in
+      let piv-now = map g (drop before (take len l)) in
+      ap (λ z. turned z piv-was (z ++ piv-was) (map f (drop len l))) pre ∙ ap (λ z. turned pre-now z (pre-now ++ z) (map f (drop len l))) piv
+      ∙ ap (λ z. turned pre-now piv-now z (map f (drop len l))) (whole g l) ∙ ap (turned pre-now piv-now (map g (take len l))) post
 
   -- from the pivot that `find_pivot_doc` found
   found-turn : (maxScores : List Float) {f g : TermScorer → Scorer Float} → All (Fair maxScores f) l → At before len p ≡ pivotOf maxScores t l
