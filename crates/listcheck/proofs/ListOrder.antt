@@ -1,17 +1,13 @@
 -- What a list is refused for, out of what its readers answered.
-use mathlib.Core.Path.{_≡_, refl, sym, ap, _∙_, subst}
-use mathlib.Core.Bool.{Bool, true, false, _&&_, not, true≢false}
+use mathlib.Core.Path.{_≡_, refl, sym, ap, _∙_}
+use mathlib.Core.Bool.{Bool, true, false, _&&_}
 use mathlib.Core.List.{List}
 use Prim.Native.Nat.{ℕ, suc, _+_, _*_}
-use lib.Dec.{T, eqb, leb}
-use lib.Ieee.{Float, nan, inf, fin, binary32, ofBits, isNan, nanBits, le, round}
-use lib.Ieee.Bits.{nanBits-is}
+use lib.Dec.{eqb, leb}
+use lib.Ieee.{Float, binary32, ofBits}
 use borrow.Author.Tests.{eqb-true, leb-true}
-use Rattle.floats.specs.Step.{within}
-use Rattle.floats.proofs.Pattern.{within-not-nan}
 use Rattle.arrays.specs.Every.{every}
 use Rattle.arrays.proofs.Every.{first-true, second-true}
-use Rattle.bm25.specs.Limits.{weightOk, averageOk}
 use Rattle.bm25.specs.Bound.{maxScore}
 use Rattle.bm25.specs.declared.Bm25Weight.{Bm25Weight}
 use Rattle.bm25.proofs.WeightLaws.{max-score-is}
@@ -95,19 +91,3 @@ module _ (file : List ℕ) (x : Part) {place : TailPlace} (ep : place ≡ tailOr
 pub top-is : (x : Part) (w : Bm25Weight) → WeightIn x w → {top : Float} → top ≡ maxScore w → top ≡ listBound x
 unfolding listBound scoreFor
 top-is x w W e = e ∙ max-score-is (ofBits binary32 (x .weight)) (ofBits binary32 (x .average)) w W
-
--- the limits let no NaN through
-holds : (b : Bool) → b ≡ true → T b
-holds b e = subst (λ (z : Bool). T z) (sym e) tt
-
-pub weight-number : (n : ℕ) → weightOk (ofBits binary32 n) ≡ true → T (not (nanBits binary32 n))
-weight-number n e = rw (nanBits-is binary32 n) (within-not-nan 1000 (ofBits binary32 n) (holds (within 1000 (ofBits binary32 n)) e))
-
-average-not-nan : (y : Float) → averageOk y ≡ true → T (not (isNan y))
-unfolding averageOk le isNan round
-average-not-nan nan e = absurd (true≢false (sym e))
-average-not-nan (inf t) e = tt
-average-not-nan (fin t m k) e = tt
-
-pub average-number : (n : ℕ) → averageOk (ofBits binary32 n) ≡ true → T (not (nanBits binary32 n))
-average-number n e = rw (nanBits-is binary32 n) (average-not-nan (ofBits binary32 n) e)

@@ -14,7 +14,7 @@ use Rattle.bm25.specs.declared.Scoring.{Scoring}
 use Rattle.bm25.specs.declared.Scoring.the-variants.{Unstepped}
 use Rattle.notefile.specs.Lists.{fullBlocks}
 use Rattle.notefile.specs.declared.part.Part.{Part}
-use Rattle.route.specs.Postings.{Postings, start, lastDoc}
+use Rattle.route.specs.Postings.{Postings, lastDoc}
 use Rattle.route.specs.Cursor.{Cursor, advanceIn, seekBlockIn, seekIn}
 use Rattle.decoded.specs.Lists.{listOf}
 use Rattle.postings.specs.Decoded.{docIn, doc-is, ListIn}

@@ -1,16 +1,16 @@
 -- Scores and bounds by slot are the route's.
 use mathlib.Core.Path.{_≡_, refl, sym, ap, _∙_, subst}
-use mathlib.Core.Bool.{Bool, true, false}
-use mathlib.Core.List.{List, [], _∷_}
+use mathlib.Core.Bool.{Bool, false}
+use mathlib.Core.List.{List, _∷_}
 use mathlib.Core.Logic.{inl, inr}
-use Prim.Native.Nat.{ℕ, zero, suc, _+_, _<_}
+use Prim.Native.Nat.{ℕ, zero, suc, _<_}
 use native.Mathlib.Omega.{arith}
-use lib.ListN.{length, getD, set}
+use lib.ListN.{getD, set}
 use lib.Ieee.{Float, nan, binary32, ofBits}
 use borrow.Author.Tests.{lt-ltb, le-ltb}
 use Rattle.arrays.proofs.Order.{lt-or-ge}
 use Rattle.fieldnorm.specs.Reader.{fieldnormId}
-use Rattle.bm25.specs.Score.{scoreAt, scoreOf}
+use Rattle.bm25.specs.Score.{scoreAt}
 use Rattle.bm25.specs.Scoring.{scored}
 use Rattle.bm25.specs.Weight.{scoreIn}
 use Rattle.bm25.specs.Bound.{maxTf, maxScore, blockMaxScore}
@@ -18,11 +18,10 @@ use Rattle.bm25.specs.declared.Bm25Weight.{Bm25Weight}
 use Rattle.bm25.specs.declared.Scoring.{Scoring}
 use Rattle.bm25.proofs.WeightLaws.{score-in}
 use Rattle.notefile.specs.Header.{normCodeOf, normReader}
-use Rattle.notefile.specs.Lists.{blockScore, listScore, scoreFor}
+use Rattle.notefile.specs.Lists.{blockScore, scoreFor}
 use Rattle.notefile.specs.declared.part.Part.{Part}
 use Rattle.fieldnorm.specs.declared.FieldNormReader.{FieldNormReader}
 use Rattle.notefile.proofs.Headers.{norm-code-small}
-use Rattle.route.specs.Postings.{start}
 use Rattle.route.specs.Cursor.{blockMax}
 use Rattle.route.specs.F32.{f32}
 use Rattle.decoded.specs.Lists.{listOf}
@@ -34,7 +33,7 @@ use Rattle.postings.specs.declared.cursor.SegmentPostings.{SegmentPostings}
 use Rattle.postings.proofs.Readers.{packed-info, tail-info}
 use Rattle.postings.proofs.BlockBounds.{full-bound, unloaded-bound}
 use Rattle.term_scorer.specs.Rows.{cursorIn, partIn, postingsIn, PlaceIn}
-use Rattle.term_scorer.specs.Slots.{Sixteen, listAt, cursorAt}
+use Rattle.term_scorer.specs.Slots.{listAt, cursorAt}
 use Rattle.term_scorer.proofs.Rows.{cursor-is}
 use Rattle.term_scorer.specs.Weights.{weightOf, WeighedIn, Bounded, BoundKept}
 

@@ -1,15 +1,15 @@
 -- A move of one slot's rows, seen from all slots.
 use mathlib.Core.Path.{_≡_, refl, sym, ap, _∙_, subst}
-use mathlib.Core.List.{List, []}
+use mathlib.Core.List.{List}
 use Prim.Native.Nat.{ℕ, _≤_, _<_}
 use native.Mathlib.Omega.{arith}
-use lib.ListN.{getD, set, length-set}
+use lib.ListN.{getD, set}
 use lib.Seq.{getD-set-same}
 use Rattle.bm25.specs.declared.Scoring.{Scoring}
 use Rattle.notefile.specs.declared.part.Part.{Part}
 use Rattle.route.specs.Cursor.{Cursor, fresh}
 use Rattle.term_scorer.specs.Rows.{cursorIn, partIn, partRow, PartRow, MovedRow, ShallowRow}
-use Rattle.term_scorer.specs.Slots.{Sixteen, Held, cursorAt, held, partAt, MovedSlot, Shallowed, Opened}
+use Rattle.term_scorer.specs.Slots.{Sixteen, cursorAt, held, partAt, MovedSlot, Shallowed, Opened}
 use Rattle.term_scorer.proofs.Rows.{part-back}
 
 -- the row that was put into a slot

@@ -1,6 +1,5 @@
 -- `place::part_of` meets its contract: each field is read off the row.
 use borrow.Author.Needs.{needs}
-use native.Mathlib.Omega.{arith}
 use Rattle.term_scorer.specs.Rows.{partIn}
 use Rattle.term_scorer.proofs.place.part_of.Statement.{statement}
 use Rattle.term_scorer.proofs.place.part_of.Tie as tie

@@ -1,6 +1,6 @@
 -- `place::postings_of` meets its contract: the row's block, its place and its previous document make the skip reader.
 use borrow.Author.Needs.{needs}
-use mathlib.Core.Path.{_≡_, ap}
+use mathlib.Core.Path.{ap}
 use native.Mathlib.Omega.{arith}
 use lib.Dec.{eqb}
 use lib.ListN.{getD}

@@ -1,11 +1,9 @@
 -- `row::advance` meets its contract: the next place of the block, or the next block.
-use mathlib.Core.Path.{_≡_}
 use Prim.Native.Nat.{_+_, _<_}
 use mathlib.Core.Logic.{inl, inr}
 use native.Mathlib.Omega.{arith}
 use lib.ListN.{getD}
 use borrow.Author.Needs.{needs}
-use borrow.Author.Tests.{eqb-false}
 use Rattle.arrays.proofs.Order.{lt-or-ge}
 use Rattle.term_scorer.proofs.Rows.{cur-inside, advances-in}
 use Rattle.term_scorer.proofs.row.advance.Statement.{statement}

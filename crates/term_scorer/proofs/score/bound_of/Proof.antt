@@ -1,5 +1,4 @@
 -- `score::bound_of` meets its contract: the pair of a full block, the scores of a loaded tail, the list bound of one that is not loaded.
-use mathlib.Core.Path.{ap, _∙_}
 use borrow.Author.Needs.{needs}
 use Rattle.bm25.proofs.Numbers.{average-number}
 use Rattle.term_scorer.proofs.Rows.{list-for, standing-for, stands-for, placed-for}

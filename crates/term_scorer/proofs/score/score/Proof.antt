@@ -3,7 +3,6 @@ use borrow.Author.Needs.{needs}
 use Rattle.term_scorer.proofs.Rows.{cur-inside}
 use Rattle.term_scorer.proofs.Scores.{score-here}
 use Rattle.term_scorer.specs.Slots.{partAt}
-use mathlib.Core.List.{[]}
 use lib.ListN.{getD}
 use lib.Ieee.{nan}
 use Rattle.term_scorer.proofs.score.score.Statement.{statement}
