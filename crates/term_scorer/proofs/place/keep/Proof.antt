@@ -1,4 +1,5 @@
 -- `place::keep` meets its contract: the row is written whole.
+use mathlib.Core.List.{[]}
 use mathlib.Core.Path.{_≡_, ap, _∙_, sym}
 use mathlib.Core.List.{_∷_}
 use mathlib.Core.Logic.{⊎-elim}

@@ -1,4 +1,5 @@
 -- `score::score` meets its contract: the document's norm and the frequency at the scorer's place, by its list's weight and norms.
+use mathlib.Core.List.{[]}
 use borrow.Author.Needs.{needs}
 use Rattle.term_scorer.proofs.Rows.{cur-inside}
 use Rattle.term_scorer.proofs.Scores.{score-here}
