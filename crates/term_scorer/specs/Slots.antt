@@ -71,3 +71,4 @@ pub record Opened (file : List ℕ) (x : Part) (q : ℕ) (lists lists′ : List 
   pub lists-only : lists′ ≡ set lists q (partRow x)
   pub part-row : PartRow (partRow x)
   pub opened : MovedSlot file lists′ q (λ _. fresh) before after doc
+  pub unknown : getD (getD (after .places) q []) 7 0 ≡ 0

@@ -25,7 +25,7 @@ pub fn open(
     freqs: &mut [u32; 128],
 ) -> u32
     requires { ⌜ ListIn (now file) x ⌝ }
-    ensures { λ r. ⌜ MovedRow (now (file .entry)) x (λ _. fresh) (now (place .entry)) (now (place .exit)) (now (docs .exit)) (now (freqs .exit)) r ⌝ }
+    ensures { λ r. ⌜ MovedRow (now (file .entry)) x (λ _. fresh) (now (place .entry)) (now (place .exit)) (now (docs .exit)) (now (freqs .exit)) r × (getD (now (place .exit)) 7 0 ≡ 0) ⌝ }
 {
     let p = SegmentPostings::open(file, x, docs, freqs);
     keep(p, place);

@@ -1,4 +1,8 @@
 -- `row::open` meets its contract: the place opened is kept.
+use mathlib.Core.Path.{ap}
+use mathlib.Core.List.{List}
+use Prim.Native.Nat.{ℕ}
+use lib.ListN.{getD}
 use borrow.Author.Needs.{needs}
 use Rattle.term_scorer.proofs.Rows.{moved-row}
 use Rattle.term_scorer.proofs.row.open.Statement.{statement}
@@ -17,8 +21,10 @@ returns : tie.Need-returns
 returns c =
     let k = c .before .before in
     let o = k .before .before in
-    let a = o .before .before .before .before in
-    moved-row (a .args .file .now) (a .args .x) (o .«open» .result) (k .keep .ensures .1) _ (o .«open» .ensures) (k .keep .ensures .0) (c .doc .ensures)
+    let a = o .before .before .before .before in (
+      moved-row (a .args .file .now) (a .args .x) (o .«open» .result) (k .keep .ensures .1) _ (o .«open» .ensures) (k .keep .ensures .0) (c .doc .ensures),
+      ap (λ (z : List ℕ). getD z 7 0) (k .keep .ensures .0),
+    )
 
 pub open-spec : {M : Type 1} → statement M
 open-spec = tie.close (tie.spec open-requires keep-requires doc-requires returns)

@@ -1,0 +1,2 @@
+-- Laws of slots as a run begins with them.
+pub mod Opening

@@ -1,0 +1,164 @@
+-- A list that is opened in a slot leaves a fresh slot, and the others as they were.
+use mathlib.Core.Path.{_≡_, refl, sym, ap, _∙_, subst}
+use mathlib.Core.List.{List, []}
+use Prim.Native.Nat.{ℕ, _+_, _≤_, _<_}
+use mathlib.Core.Logic.{inl, inr}
+use Rattle.arrays.proofs.Order.{lt-or-ge}
+use Rattle.ordering.specs.declared.TermScorer.{TermScorer}
+use Rattle.ordering.specs.Scorers.{noScorer}
+use native.Mathlib.Omega.{arith}
+use lib.ListN.{length, getD, set, length-set}
+use lib.Seq.{getD-set-same, getD-set-other}
+use lib.Ieee.{Float, nan, binary32, ofBits}
+use Rattle.bm25.specs.Bound.{maxScore}
+use Rattle.bm25.specs.Scoring.{scored}
+use Rattle.bm25.specs.Weight.{WeightOf}
+use Rattle.bm25.specs.declared.Bm25Weight.{Bm25Weight}
+use Rattle.bm25.specs.declared.Scoring.{Scoring}
+use Rattle.bm25.specs.declared.Scoring.the-variants.{Unstepped}
+use Rattle.bm25.proofs.WeightLaws.{max-score-is}
+use Rattle.notefile.specs.Header.{headerOf, listCount}
+use Rattle.notefile.specs.Parts.{partOf}
+use Rattle.notefile.specs.Lists.{listBound, scoreFor}
+use Rattle.notefile.specs.Given.{WeightIn}
+use Rattle.notefile.specs.declared.header.Header.{Header}
+use Rattle.notefile.specs.declared.part.Part.{Part}
+use Rattle.route.specs.Cursor.{Cursor, fresh}
+use Rattle.decoded.specs.Lists.{listOf}
+use Rattle.postings.specs.Decoded.{docIn, ListIn}
+use Rattle.term_scorer.specs.Rows.{partIn, partRow, PartRow}
+use Rattle.term_scorer.specs.Slots.{Held, Sixteen, SlotIn, Opened, partAt, listAt, cursorAt}
+use Rattle.term_scorer.specs.Weights.{weightOf, Weighed}
+use Rattle.term_scorer.proofs.Rows.{part-back}
+use Rattle.query.specs.Fresh.{Arrays, Room, FreshSlot, OnlySlot, OneOpened, QueryOpened}
+
+-- a list's number is below the header's
+pub listed : (file : List ℕ) (h : Header) → h ≡ headerOf file → (l : ℕ) → l < listCount file → l < h .lists
+unfolding headerOf
+listed file h e l k = subst (λ (z : Header). l < z .lists) (sym e) k
+
+-- an array in which one slot has changed has as many as before
+same-long : {A : Type 0} (xs : List A) (q : ℕ) (y : A) {ys : List A} → ys ≡ set xs q y → Sixteen xs → Sixteen ys
+same-long xs q y e l = ap length e ∙ length-set xs q y ∙ l
+
+there : {A : Type 0} (xs : List A) (q : ℕ) (x d : A) → q < 16 → Sixteen xs → getD (set xs q x) q d ≡ x
+there xs q x d h l = getD-set-same xs q x d (omega (arith, h, l))
+
+put : {A : Type 0} (xs : List A) (q : ℕ) (x d : A) → q < 16 → Sixteen xs → set xs q x ≡ set xs q (getD (set xs q x) q d)
+put xs q x d h l = ap (set xs q) (sym (there xs q x d h l))
+
+module _ (scoring : Scoring) (file : List ℕ) (l q : ℕ) (h : q < 16) {x : Part} (part-is : x ≡ partOf file l) (L : ListIn file x) {w : Bm25Weight} (W : WeightIn x w) {top : Float} (top-is : top ≡ scored scoring (maxScore w))
+    (a : Arrays) (R : Room a) {lists′ : List (List ℕ)} {held′ : Held} {doc : ℕ} (O : Opened file x q (a .lists) lists′ (a .held) held′ doc) where
+  abbrev b : Arrays
+  b = record { lists = lists′; held = held′; weights = set (a .weights) q (w .weight); caches = set (a .caches) q (w .cache); max-scores = set (a .max-scores) q top }
+
+  row-is : getD lists′ q [] ≡ partRow x
+  row-is = ap (λ (z : List (List ℕ)). getD z q []) (O .lists-only) ∙ there (a .lists) q (partRow x) [] h (R .lists)
+
+  part-there : partAt lists′ q ≡ x
+  part-there = ap partIn row-is ∙ part-back x
+
+  same-weight : WeightIn x (weightOf x (w .weight) (w .cache))
+  same-weight = record { weight-is = W .weight-is; average-is = refl; norms = W .norms }
+
+  weight-there : Weighed lists′ (b .weights) (b .caches) q
+  weight-there =
+      rw (there (a .weights) q (w .weight) nan h (R .weights), there (a .caches) q (w .cache) [] h (R .caches))
+      (subst (λ (z : Part). WeightIn z (weightOf z (w .weight) (w .cache))) (sym part-there) same-weight)
+
+  top-there : getD (b .max-scores) q nan ≡ listAt scoring file lists′ q .top
+  unfolding listOf listBound scoreFor
+  top-there =
+      there (a .max-scores) q top nan h (R .max-scores) ∙ top-is ∙ ap (scored scoring) (max-score-is (ofBits binary32 (x .weight)) (ofBits binary32 (x .average)) w W)
+      ∙ ap (λ (z : Part). listOf scoring file z .top) (sym part-there)
+
+  pub one-opened : OneOpened scoring file l q a b doc
+  one-opened = record {
+    fresh-slot = record {
+      slot = record {
+        sixteen = (same-long (a .held .places) q _ (O .opened .places-only) (R .places), same-long (a .held .docs) q _ (O .opened .docs-only) (R .docs), same-long (a .held .freqs) q _ (O .opened .freqs-only) (R .freqs));
+        part-row = subst PartRow (sym row-is) (O .part-row);
+        list = subst (ListIn file) (sym part-there) L;
+        place = O .opened .moved .place;
+      };
+      part-is = part-there ∙ part-is;
+      cursor-is = O .opened .moved .cursor-is Unstepped;
+      unknown = O .unknown;
+      weighed = weight-there;
+      max-is = top-there;
+    };
+    only = record {
+      lists = O .lists-only ∙ ap (set (a .lists) q) (sym row-is);
+      places = O .opened .places-only;
+      docs = O .opened .docs-only;
+      freqs = O .opened .freqs-only;
+      weights = put (a .weights) q (w .weight) nan h (R .weights);
+      caches = put (a .caches) q (w .cache) [] h (R .caches);
+      max-scores = put (a .max-scores) q top nan h (R .max-scores);
+    };
+    doc-is =
+        O .opened .moved .doc-is ∙ ap (λ (z : Part). docIn file z (cursorAt (held′ .places) q .at)) (part-there ∙ part-is)
+        ∙ ap (λ (c : Cursor). docIn file (partOf file l) (c .at)) (O .opened .moved .cursor-is Unstepped);
+  }
+
+-- ---- slot by slot
+
+other : {A : Type 0} (xs : List A) (q n : ℕ) (x d : A) {ys : List A} → ys ≡ set xs n x → (q ≡ n → ⊥) → getD ys q d ≡ getD xs q d
+other xs q n x d e ne = ap (λ zs. getD zs q d) e ∙ getD-set-other xs n q x d ne
+
+module _ (scoring : Scoring) (file : List ℕ) (a b : Arrays) (n : ℕ) (O : OnlySlot n a b) where
+  -- the arrays are as long as before
+  room-stays : Room a → Room b
+  room-stays R = record {
+    lists = same-long (a .lists) n _ (O .lists) (R .lists);
+    places = same-long (a .held .places) n _ (O .places) (R .places);
+    docs = same-long (a .held .docs) n _ (O .docs) (R .docs);
+    freqs = same-long (a .held .freqs) n _ (O .freqs) (R .freqs);
+    weights = same-long (a .weights) n _ (O .weights) (R .weights);
+    caches = same-long (a .caches) n _ (O .caches) (R .caches);
+    max-scores = same-long (a .max-scores) n _ (O .max-scores) (R .max-scores);
+  }
+
+  -- another slot is as it was
+  slot-stays : (l q : ℕ) → (q ≡ n → ⊥) → Room b → FreshSlot scoring file a l q → FreshSlot scoring file b l q
+  slot-stays l q ne R F =
+      let el = other (a .lists) q n _ [] (O .lists) ne in
+      let ep = other (a .held .places) q n _ [] (O .places) ne in
+      let ed = other (a .held .docs) q n _ [] (O .docs) ne in
+      let ef = other (a .held .freqs) q n _ [] (O .freqs) ne in
+      let ew = other (a .weights) q n _ nan (O .weights) ne in
+      let ec = other (a .caches) q n _ [] (O .caches) ne in
+      let em = other (a .max-scores) q n _ nan (O .max-scores) ne in
+      record {
+        slot = record { sixteen = (R .places, R .docs, R .freqs); part-row = rw el (F .slot .part-row); list = rw el (F .slot .list); place = rw (el, ep, ed, ef) (F .slot .place) };
+        part-is = rw el (F .part-is);
+        cursor-is = rw ep (F .cursor-is);
+        unknown = rw ep (F .unknown);
+        weighed = rw (el, ew, ec) (F .weighed);
+        max-is = rw (el, em) (F .max-is);
+      }
+
+module _ (scoring : Scoring) (file query : List ℕ) where
+  pub none-opened : (a : Arrays) (scorers : List TermScorer) → Room a → length scorers ≡ 16 → QueryOpened scoring file query 0 a scorers
+  none-opened a scorers R k = record { room = R; fresh-slots = λ q h. absurd (omega (arith, h)); long = k; scorers-are = λ q h. absurd (omega (arith, h)) }
+
+  pub one-more : (n : ℕ) (a b : Arrays) (scorers : List TermScorer) {doc : ℕ} → n < 16 → QueryOpened scoring file query n a scorers → OneOpened scoring file (getD query n 0) n a b doc
+      → QueryOpened scoring file query (n + 1) b (set scorers n (record { doc = doc; slot = n }))
+  one-more n a b scorers {doc} h Q O =
+      let R = room-stays scoring file a b n (O .only) (Q .room) in
+      record {
+        room = R;
+        fresh-slots = λ q k. elim (lt-or-ge q n) [
+          | inl l ↦ slot-stays scoring file a b n (O .only) (getD query q 0) q (λ e. omega (arith, e, l)) R (Q .fresh-slots q l)
+          | inr g ↦ subst (λ (z : ℕ). FreshSlot scoring file b (getD query z 0) z) (only-n q n g k) (O .fresh-slot)
+        ];
+        long = length-set scorers n _ ∙ Q .long;
+        scorers-are = λ q k. elim (lt-or-ge q n) [
+          | inl l ↦ getD-set-other scorers n q _ noScorer (λ e. omega (arith, e, l)) ∙ Q .scorers-are q l
+          | inr g ↦ subst (λ (z : ℕ). getD (set scorers n (record { doc = doc; slot = n })) z noScorer ≡ record { doc = docIn file (partOf file (getD query z 0)) 0; slot = z }) (only-n q n g k)
+              (getD-set-same scorers n _ noScorer (omega (arith, h, Q .long)) ∙ ap (λ (d : ℕ). record { doc = d; slot = n }) (O .doc-is))
+        ];
+      }
+    where
+      only-n : (q m : ℕ) → m ≤ q → q < m + 1 → m ≡ q
+      only-n q m g k = omega arith

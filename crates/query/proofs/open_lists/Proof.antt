@@ -1,0 +1,91 @@
+-- `open_lists` meets its contract: after q turns the first q numbers of the query stand in their slots.
+use mathlib.Core.Path.{_≡_, subst, sym}
+use Prim.Native.Nat.{ℕ, _-_, _≤_, _<_}
+use native.Mathlib.Omega.{arith}
+use lib.ListN.{length}
+use borrow.Author.Needs.{needs}
+use Rattle.query.specs.Fresh.{arrays, QueryOpened}
+use Rattle.query.proofs.Opening.{none-opened, one-more}
+use Rattle.query.proofs.open_lists.Statement.{statement}
+use Rattle.query.proofs.open_lists.Tie as tie
+
+abbrev Inv-loop : tie.InvT-loop
+Inv-loop file h scoring query lists₀ places₀ docs₀ freqs₀ weights₀ caches₀ max-scores₀ scorers₀ q₀ lists places docs freqs weights caches max-scores scorers q =
+    QueryOpened scoring file query q (arrays lists places docs freqs weights caches max-scores) scorers × (q ≤ length query)
+
+abbrev μ-loop : tie.MeasureT-loop
+μ-loop file h scoring query lists₀ places₀ docs₀ freqs₀ weights₀ caches₀ max-scores₀ scorers₀ q₀ lists places docs freqs weights caches max-scores scorers q =
+    length query - q
+
+loop-holds : tie.Need-loop-holds Inv-loop μ-loop
+loop-holds c = let a = c .before .before in (none-opened (a .args .scoring) (a .args .file .now) (a .args .query .now) _ _ (a .pre .4) (search needs), omega arith)
+
+mul-l : tie.Need-mul-l Inv-loop μ-loop
+mul-l c = search needs
+
+shared-slice-read-l : tie.Need-shared-slice-read-l Inv-loop μ-loop
+shared-slice-read-l c = search needs
+
+cast-l : tie.Need-cast-l Inv-loop μ-loop
+cast-l c = omega (arith, c .shared-slice-known3 .given (c .before .before .loop .q))
+
+open-list-requires : tie.Need-open-list-requires Inv-loop μ-loop
+open-list-requires c κs =
+    let i = c .before .before .before .before .before .before .before .before in
+    let l = i .before in
+    let a = l .before .before .before in
+    (a .pre .0, a .pre .1, a .pre .3 (l .loop .q) (i .loop-test .taken), omega (arith, i .loop-test .taken, a .pre .2), l .loop .inv .0 .room)
+
+small : (c : tie.After-open-list Inv-loop μ-loop) → c .before .before .before .before .before .before .before .before .before .before .loop .q < 16
+small c =
+    let i = c .before .before .before .before .before .before .before .before .before in
+    let a = i .before .before .before .before in
+    omega (arith, i .loop-test .taken, a .pre .2)
+
+cast-t20 : tie.Need-cast-t20 Inv-loop μ-loop
+cast-t20 c = omega (arith, small c)
+
+mul-scorers : tie.Need-mul-scorers Inv-loop μ-loop
+mul-scorers c = omega (arith, small c)
+
+array-set-from-scorers : tie.Need-array-set-from-scorers Inv-loop μ-loop
+array-set-from-scorers c = omega (arith, small c)
+
+add-q : tie.Need-add-q Inv-loop μ-loop
+add-q c = omega (arith, small c)
+
+loop-less : tie.Need-loop-less Inv-loop μ-loop
+loop-less c = let i = c .before .before .before .before .before .before .before .before .before in omega (arith, i .loop-test .taken)
+
+loop-again : tie.Need-loop-again Inv-loop μ-loop
+loop-again c =
+    let i = c .before .before .before .before .before .before .before .before .before in
+    let l = i .before in
+    let a = l .before .before .before in
+    (one-more (a .args .scoring) (a .args .file .now) (a .args .query .now) (l .loop .q) _ _ (l .loop .scorers) (small c) (l .loop .inv .0) (c .open-list .ensures), omega (arith, i .loop-test .taken))
+
+returns : tie.Need-returns Inv-loop μ-loop
+returns c =
+    let l = c .before in
+    let a = l .before .before .before in
+    let e : l .loop .q ≡ length (a .args .query .now) = omega (arith, l .loop .inv .1, c .loop-test .left) in
+    subst (λ (n : ℕ). QueryOpened (a .args .scoring) (a .args .file .now) (a .args .query .now) n (arrays (l .loop .lists) (l .loop .places) (l .loop .docs) (l .loop .freqs) (l .loop .weights) (l .loop .caches) (l .loop .max-scores)) (l .loop .scorers)) e (l .loop .inv .0)
+
+pub open-lists-spec : {M : Type 1} → statement M
+open-lists-spec =
+    tie.close
+    (tie.spec
+    Inv-loop
+    μ-loop
+    loop-holds
+    mul-l
+    shared-slice-read-l
+    cast-l
+    open-list-requires
+    cast-t20
+    mul-scorers
+    array-set-from-scorers
+    add-q
+    loop-less
+    loop-again
+    returns)

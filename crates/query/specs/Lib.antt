@@ -1,0 +1,2 @@
+-- What the contracts of `query` cite.
+pub mod Fresh
