@@ -12,7 +12,6 @@ use lib.Seq.{getD-set-same, getD-set-other}
 use lib.Ieee.{Float, nan, binary32, ofBits}
 use Rattle.bm25.specs.Bound.{maxScore}
 use Rattle.bm25.specs.Scoring.{scored}
-use Rattle.bm25.specs.Weight.{WeightOf}
 use Rattle.bm25.specs.declared.Bm25Weight.{Bm25Weight}
 use Rattle.bm25.specs.declared.Scoring.{Scoring}
 use Rattle.bm25.specs.declared.Scoring.the-variants.{Unstepped}
@@ -23,11 +22,11 @@ use Rattle.notefile.specs.Lists.{listBound, scoreFor}
 use Rattle.notefile.specs.Given.{WeightIn}
 use Rattle.notefile.specs.declared.header.Header.{Header}
 use Rattle.notefile.specs.declared.part.Part.{Part}
-use Rattle.route.specs.Cursor.{Cursor, fresh}
+use Rattle.route.specs.Cursor.{Cursor}
 use Rattle.decoded.specs.Lists.{listOf}
 use Rattle.postings.specs.Decoded.{docIn, ListIn}
 use Rattle.term_scorer.specs.Rows.{partIn, partRow, PartRow}
-use Rattle.term_scorer.specs.Slots.{Held, Sixteen, SlotIn, Opened, partAt, listAt, cursorAt}
+use Rattle.term_scorer.specs.Slots.{Held, Sixteen, Opened, partAt, listAt, cursorAt}
 use Rattle.term_scorer.specs.Weights.{weightOf, Weighed}
 use Rattle.term_scorer.proofs.Rows.{part-back}
 use Rattle.query.specs.Fresh.{Arrays, Room, FreshSlot, OnlySlot, OneOpened, QueryOpened}

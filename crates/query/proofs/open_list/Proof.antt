@@ -1,13 +1,11 @@
 -- `open_list` meets its contract: the list's part is read, its weight made, and its first block loaded.
-use mathlib.Core.Path.{_≡_, sym, subst, ap}
-use Prim.Native.Nat.{_<_}
+use mathlib.Core.Path.{sym, subst}
 use borrow.Author.Needs.{needs}
 use Rattle.bm25.proofs.Numbers.{weight-number, average-number}
 use Rattle.notefile.specs.Given.{HeaderIn, Limits}
 use Rattle.notefile.proofs.Accepted.{header-inside, list-limits}
 use Rattle.postings.specs.Decoded.{ListIn}
 use Rattle.postings.proofs.AcceptedList.{list-in}
-use Rattle.query.specs.Fresh.{arrays}
 use Rattle.query.proofs.Opening.{listed, one-opened}
 use Rattle.query.proofs.open_list.Statement.{statement}
 use Rattle.query.proofs.open_list.Tie as tie

@@ -1,5 +1,5 @@
 -- `open_lists` meets its contract: after q turns the first q numbers of the query stand in their slots.
-use mathlib.Core.Path.{_≡_, subst, sym}
+use mathlib.Core.Path.{_≡_, subst}
 use Prim.Native.Nat.{ℕ, _-_, _≤_, _<_}
 use native.Mathlib.Omega.{arith}
 use lib.ListN.{length}

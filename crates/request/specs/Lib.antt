@@ -1,0 +1,2 @@
+-- What the contracts of `request` cite.
+pub mod Request
