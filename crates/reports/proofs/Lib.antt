@@ -1,0 +1,3 @@
+-- Laws of rows and runs that belong to no one function.
+pub mod RowLaws
+pub mod RunLaws

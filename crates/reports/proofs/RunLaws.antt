@@ -1,0 +1,88 @@
+-- A run goes its route: begun, on by a quiet turn or by one that reports, and its two ends; what it leaves is 01's outcome of its list.
+use mathlib.Core.Path.{_≡_, refl, sym, ap, _∙_}
+use mathlib.Core.Bool.{Bool, true, false}
+use mathlib.Core.List.{List, []}
+use mathlib.Core.Option.{some}
+use Prim.Native.Nat.{ℕ, suc, _<_}
+use lib.ListN.{length}
+use lib.Ieee.{Float}
+use borrow.Author.Tests.{le-leb}
+use Rattle.route.specs.Report.{Report}
+use Rattle.route.specs.Rule.{limited}
+use Rattle.route.specs.Route.{Route, Turn, Ends, quiet}
+use Rattle.route.proofs.Ending.{Stays, one-end}
+use Rattle.route.proofs.Rows.{route-full}
+use Rattle.rule.specs.Follows.{Follows, ruleOf, startOf}
+use Rattle.rule.specs.declared.Rule.{Rule}
+use Rattle.rule.specs.declared.Threshold.{Threshold}
+use Rattle.route.specs.F32.{f32}
+use Rattle.reports.specs.Rows.{rowsOf, Reported}
+use Rattle.reports.specs.Runs.{callbackOf, runAfter, Going, Ran, outcomeOf}
+use Rattle.reports.proofs.RowLaws.{begun, threshold-is, count-is, one-more}
+
+module _ (W : Route Float) (rule : Rule) (script : List Float) (documents₀ : List ℕ) (scores₀ : List Float) where
+  -- no step yet
+  pub run-begun : {t : Threshold} → Follows rule script [] t → Going W rule script documents₀ scores₀ t documents₀ scores₀ (W .first)
+  run-begun f = record { steps = 0; place-is = refl; kept = begun documents₀ scores₀ f }
+
+  module _ {t : Threshold} {documents : List ℕ} {values : List Float} {p : W .Place} (G : Going W rule script documents₀ scores₀ t documents values p) where
+    -- the turn that the route takes next
+    turn-is : W .turn (callbackOf rule script .threshold (runAfter W rule script (G .steps) .state)) (runAfter W rule script (G .steps) .place) ≡ W .turn (t .now) p
+    turn-is = ap (λ (z : W .Place). W .turn (callbackOf rule script .threshold (runAfter W rule script (G .steps) .state)) z) (G .place-is) ∙ ap (λ (z : Float). W .turn z p) (sym (threshold-is (G .kept)))
+
+    -- a turn without a report
+    pub run-quiet : {q : W .Place} → W .turn (t .now) p ≡ quiet q → Going W rule script documents₀ scores₀ t documents values q
+    run-quiet {q} e = record {
+      steps = suc (G .steps);
+      place-is = ap (λ (z : Turn (W .Place) Float). z .next) (turn-is ∙ e);
+      kept = rw (turn-is, e) (G .kept);
+    }
+
+    -- a turn whose report is written and told
+    pub run-reports : {q : W .Place} {doc : ℕ} {score : Float} {r : Threshold} {documents′ : List ℕ} {values′ : List Float}
+        → W .turn (t .now) p ≡ record { next = q; due = some (record { doc = doc; score = score }) } → t .reports < rowsOf documents₀ scores₀
+        → Reported rule script t doc score documents values r documents′ values′ → Going W rule script documents₀ scores₀ r documents′ values′ q
+    run-reports e h R = record {
+      steps = suc (G .steps);
+      place-is = ap (λ (z : Turn (W .Place) Float). z .next) (turn-is ∙ e);
+      kept = rw (turn-is, e) (one-more (G .kept) h R);
+    }
+
+    -- at the route's end
+    pub run-ends : W .ended p ≡ true → Ran W rule script documents₀ scores₀ false (t .reports) documents values p
+    run-ends e = record {
+      steps = G .steps;
+      place-is = G .place-is;
+      written = G .kept .written;
+      count-is = count-is (G .kept);
+      stopped = ap (W .ended) (G .place-is) ∙ e;
+    }
+
+    -- a report is due, and every row is full
+    pub run-full : {x : Report Float} → W .turn (t .now) p .due ≡ some x → t .reports ≡ rowsOf documents₀ scores₀
+        → Ran W rule script documents₀ scores₀ true (t .reports) documents values p
+    run-full {x} e h = record {
+      steps = G .steps;
+      place-is = G .place-is;
+      written = G .kept .written;
+      count-is = count-is (G .kept);
+      stopped = (sym (count-is (G .kept)) ∙ h, (x, ap (λ (z : Turn (W .Place) Float). z .due) turn-is ∙ e));
+    }
+
+  -- ---- what a run leaves
+
+  module _ {count : ℕ} {documents : List ℕ} {values : List Float} {p : W .Place} where
+    -- a run that was not full has its list
+    pub whole-list : (R : Ran W rule script documents₀ scores₀ false count documents values p) → Ends (callbackOf rule script) W [] (runAfter W rule script (R .steps) .state)
+    whole-list R = record { steps = R .steps; ended = R .stopped; leaves = refl }
+
+    -- AS 01'S TABLE SAYS: 0 with the whole list, or 12 with its first rows
+    pub ran-limited : Stays W → {full : Bool} (R : Ran W rule script documents₀ scores₀ full count documents values p) (list : List (Report Float)) → Ends (callbackOf rule script) W [] list
+        → outcomeOf full (runAfter W rule script (R .steps) .state) ≡ limited (rowsOf documents₀ scores₀) list
+    ran-limited stays {full = true} R list e =
+        let s = R .stopped in
+        sym (ap (λ (n : ℕ). limited n list) (sym (s .0)) ∙ route-full f32 (ruleOf rule script) (startOf rule) W stays list e (R .steps) (s .1 .0) (s .1 .1))
+    ran-limited stays {full = false} R list e =
+        let rs = runAfter W rule script (R .steps) .state in
+        sym (ap (limited (rowsOf documents₀ scores₀)) (one-end W (callbackOf rule script) stays [] list rs e (whole-list R))
+        ∙ rw (le-leb (length rs) (rowsOf documents₀ scores₀) (R .written .fit)))

@@ -1,0 +1,37 @@
+// A run's rows: two lent buffers. A report goes to the next row and moves the threshold.
+use rule::Rule;
+use rule::Threshold;
+ghost use mathlib.Core.Path.{_≡_};
+ghost use Prim.Native.Nat.{_<_};
+ghost use lib.ListN.{length};
+ghost use Rattle.rule.specs.Follows.{Keeps};
+ghost use Rattle.reports.specs.Rows.{rowsOf, Reported};
+
+// How many rows there are: as many as the shorter buffer has.
+pub fn rows(documents: &[u32], scores: &[f32]) -> usize
+    ensures { λ r. ⌜ r ≡ rowsOf (now (documents .entry)) (now (scores .entry)) ⌝ }
+{
+    if documents.len() < scores.len() {
+        return documents.len();
+    }
+    scores.len()
+}
+
+// The next row is written, and the rule is told the score.
+pub fn report(
+    rule: Rule,
+    script: &[f32],
+    t: Threshold,
+    doc: u32,
+    score: f32,
+    documents: &mut [u32],
+    scores: &mut [f32],
+) -> Threshold
+    requires { ⌜ Keeps rule × (t .reports < length (now documents)) × (t .reports < length (now scores)) ⌝ }
+    ensures { λ r. ⌜ Reported rule (now (script .entry)) t doc score (now (documents .entry)) (now (scores .entry)) r (now (documents .exit)) (now (scores .exit)) ⌝ }
+{
+    let row = t.reports;
+    documents[row] = doc;
+    scores[row] = score;
+    t.after(rule, script, score)
+}
