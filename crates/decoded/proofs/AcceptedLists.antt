@@ -2,11 +2,12 @@
 use mathlib.Core.Path.{_≡_, sym, subst}
 use mathlib.Core.Bool.{Bool, true, false, cond}
 use mathlib.Core.List.{List}
-use Prim.Native.Nat.{ℕ, _/_, _^_, _<_}
+use Prim.Native.Nat.{ℕ, _/_, _^_, _≤_, _<_}
 use native.Mathlib.Omega.{arith}
 use lib.Dec.{T, eqb, lit<}
 use lib.Ieee.{lt}
 use Rattle.floats.specs.Step.{within}
+use Rattle.bm25.specs.declared.Scoring.{Scoring}
 use Rattle.bm25.specs.declared.Scoring.the-variants.{Stepped}
 use Rattle.bm25.specs.Bound.{maxTf}
 use Rattle.bm25.proofs.Bounds.{score-within}
@@ -14,7 +15,8 @@ use Rattle.notefile.specs.Header.{listCount, documents}
 use Rattle.notefile.specs.Parts.{partOf}
 use Rattle.notefile.specs.Lists.{fullBlocks, scoreFor, listScore, blockScore, blockBound, listBound}
 use Rattle.notefile.specs.Refusal.{fileRefusal}
-use Rattle.notefile.proofs.Accepted.{list-accepted, list-limits, header-right}
+use Rattle.notefile.specs.declared.part.Part.{Part}
+use Rattle.notefile.proofs.Accepted.{ListRight, list-accepted, list-limits, header-right}
 use Rattle.notefile.proofs.Headers.{few-documents, norm-code-small}
 use Rattle.notefile.proofs.ListLaws.{list-docs-rise, list-doc-below, list-freq-right, list-score-covered, block-score-covered}
 use Rattle.route.specs.F32.{f32}
@@ -30,6 +32,18 @@ max-tf-small code h = go (eqb code 255)
     go : (b : Bool) → cond b 4294967295 code < 2 ^ 32
     go true = lit< tt
     go false = omega arith
+
+-- right documents are what a run over the list needs, in either scoring
+pub list-ok : (scoring : Scoring) (file : List ℕ) (x : Part) → ListRight file x → documents file ≤ 1048576 → ListOk 128 (documents file) (listOf scoring file x)
+unfolding listOf start
+list-ok scoring file x right d = record {
+  rises = list-docs-rise file x right;
+  below = λ i k. list-doc-below file x right i k;
+  few = omega arith;
+  wide = lit< tt;
+  blocks = omega arith;
+  tail = omega arith;
+}
 
 module _ (file : List ℕ) (bytes : Bytes file) (accepted : fileRefusal file ≡ 0) (l : ℕ) (h : l < listCount file) where
   score-in : (code freq : ℕ) → code < 256 → freq < 2 ^ 32 → T (within 1000 (scoreFor (partOf file l) code freq))
@@ -50,17 +64,6 @@ module _ (file : List ℕ) (bytes : Bytes file) (accepted : fileRefusal file ≡
   unfolding listBound
   list-bound-in = score-in 255 2013265944 (lit< tt) (lit< tt)
 
-  list-ok : ListOk 128 (documents file) (postingsOf Stepped file l)
-  unfolding listOf start
-  list-ok = record {
-    rises = list-docs-rise file (partOf file l) (list-accepted file accepted l h);
-    below = λ i k. list-doc-below file (partOf file l) (list-accepted file accepted l h) i k;
-    few = let d = few-documents file (header-right file accepted) in omega arith;
-    wide = lit< tt;
-    blocks = omega arith;
-    tail = omega arith;
-  }
-
   scores-ok : ScoresOk 128 f32 stepped-order (PartOf 1) (postingsOf Stepped file l)
   unfolding listOf start
   scores-ok = record {
@@ -78,4 +81,4 @@ module _ (file : List ℕ) (bytes : Bytes file) (accepted : fileRefusal file ≡
   }
 
   pub accepted-list : SteppedList 128 (documents file) (postingsOf Stepped file l)
-  accepted-list = record { ok = list-ok; vals = scores-ok }
+  accepted-list = record { ok = list-ok Stepped file (partOf file l) (list-accepted file accepted l h) (few-documents file (header-right file accepted)); vals = scores-ok }

@@ -83,7 +83,7 @@ module _ (scoring : Scoring) {file : List ℕ} {x : Part} {b : ℕ} {docs freqs 
   abbrev score : ℕ → Float
   score i = scored scoring (scoreAmong file x docs freqs i)
 
-  score-at : (i : ℕ) → i < 128 → start 128 b + i < x .count → score i ≡ scored scoring (listScore file x (start 128 b + i))
+  pub score-at : (i : ℕ) → i < 128 → start 128 b + i < x .count → score i ≡ scored scoring (listScore file x (start 128 b + i))
   unfolding blockScore
   score-at i h l = ap (scored scoring) (rw (D .docs-are .at i h, D .freqs-are .at i h, lt-ltb (start 128 b + i) (x .count) l))
 
@@ -116,7 +116,7 @@ module _ (file : List ℕ) (x : Part) (w : Bm25Weight) (W : WeightIn x w) (bytes
     unfolding normCodeOf
     code-is i h = I .at i h ∙ rw en
 
-    score-is : (i : ℕ) → i < 128 → getD scores i nan ≡ scored scoring (scoreAmong file x docs freqs i)
+    pub score-is : (i : ℕ) → i < 128 → getD scores i nan ≡ scored scoring (scoreAmong file x docs freqs i)
     unfolding scoreFor
     score-is i h = S .at i h ∙ ap (scored scoring) (rw (code-is i h) (score-in (ofBits binary32 (x .weight)) (ofBits binary32 (x .average)) w W (normCodeOf file (getD docs i 0)) (getD freqs i 0) (norm-code-small file bytes (getD docs i 0))))
 

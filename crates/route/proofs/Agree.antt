@@ -104,7 +104,7 @@ module _ (B : ℕ) (O : Ops) where
       single-ending : (i : ℕ) (l : Postings (O .S)) → ListOk B N l → Ending (blockWandSingleScorer B O (record { ord = i; list = l; cur = fresh }))
       single-ending i l k =
           ending (blockWandSingleScorer B O (record { ord = i; list = l; cur = fresh }))
-          (λ p. SingleKept B N O l k (p .phase) (p .cur) (p .doc)) (λ p. singleCost B N O l k (p .phase) (p .cur)) (single-nears B N O l k i)
+          (λ p. SingleKept B l (p .phase) (p .cur) (p .doc)) (λ p. singleCost B l (p .phase) (p .cur)) (single-nears B N O l k i)
 
       -- EVERY ROUTE ENDS
       pub route-ends : (m : Mode) (q : List (Postings (O .S))) → All (ListOk B N) q → Ending (route B O m q)

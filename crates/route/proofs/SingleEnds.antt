@@ -17,7 +17,7 @@ use Rattle.route.proofs.Places.{docAt-cap, docAt-in, docAt-lt, docAt-ou
 use Rattle.route.proofs.Cursor.{Past, Wf, advance-is, fresh-is, on-block, past-up, seek-is, seekBlock-is}
 use Rattle.route.proofs.Ending.{Nears}
 
-module _ (B N : ℕ) (O : Ops) (l : Postings (O .S)) (k : ListOk B N l) where
+module _ (B : ℕ) {S : Type 0} (l : Postings S) where
   -- past every place
   edge : ℕ
   edge = start B (l .full) + B
@@ -27,15 +27,16 @@ module _ (B N : ℕ) (O : Ops) (l : Postings (O .S)) (k : ListOk B N l) where
   singleCost walk c = 2 * (edge - c .at)
   singleCost over c = 0
 
-  pub SingleKept : Phase → Cursor → ℕ → Type 0
+  unfoldable pub SingleKept : Phase → Cursor → ℕ → Type 0
   SingleKept hunt c d = Wf B l c × Past B l c d × (d ≤ lastDoc l B (c .blk))
   SingleKept walk c d = Wf B l c × Past B l c d × (d ≡ docHere l c) × (d < TERMINATED)
   SingleKept over c d = Unit {0}
 
+module _ (B N : ℕ) (O : Ops) (l : Postings (O .S)) (k : ListOk B N l) where
   Less : ℕ → SinglePlace → Type 0
-  Less m p = SingleKept (p .phase) (p .cur) (p .doc) × (singleCost (p .phase) (p .cur) < m)
+  Less m p = SingleKept B l (p .phase) (p .cur) (p .doc) × (singleCost B l (p .phase) (p .cur) < m)
 
-  below-edge : (c : Cursor) → Wf B l c → (c .at < edge) × (start B (c .blk) < edge)
+  below-edge : (c : Cursor) → Wf B l c → (c .at < edge B l) × (start B (c .blk) < edge B l)
   unfolding edge
   below-edge c w =
       let o = w .order in
@@ -43,11 +44,11 @@ module _ (B N : ℕ) (O : Ops) (l : Postings (O .S)) (k : ListOk B N l) where
       let h = k .wide in
       (omega (arith, w .hi, start-le B (c .dec) (l .full) (omega arith)), omega (arith, start-le B (c .blk) (l .full) i))
 
-  landed-less : (c : Cursor) (x m : ℕ) → Wf B l c → Past B l c x → x ≤ docHere l c → (docHere l c < TERMINATED → 2 * (edge - c .at) < m) → 0 < m
+  landed-less : (c : Cursor) (x m : ℕ) → Wf B l c → Past B l c x → x ≤ docHere l c → (docHere l c < TERMINATED → 2 * (edge B l - c .at) < m) → 0 < m
       → Less m (landed B O l c)
   unfolding Less SingleKept singleCost
   landed-less c x m w p h f z =
-      by-test (λ ph. SingleKept ph c (docHere l c) × (singleCost ph c < m)) (eqb (docHere l c) TERMINATED) over walk
+      by-test (λ ph. SingleKept B l ph c (docHere l c) × (singleCost B l ph c < m)) (eqb (docHere l c) TERMINATED) over walk
       (λ _. (tt, z))
       (λ t.
       let q = eqb-false (docHere l c) TERMINATED t in
@@ -57,8 +58,8 @@ module _ (B N : ℕ) (O : Ops) (l : Postings (O .S)) (k : ListOk B N l) where
       ((w, past-up B N l k c x (docHere l c) h p, refl, lt), f lt))
 
   leave-less : (c : Cursor) (e m : ℕ) → Wf B l c → Past B l c (suc e) → e < TERMINATED → lastDoc l B (c .blk) ≤ e
-      → suc (2 * (edge - start B (suc (c .blk)))) ≤ m → 0 < m → start B (suc (c .blk)) ≤ edge
-      → suc (suc (2 * (edge - start B (suc (c .blk))))) ≤ m → Less m (leave B O l e c)
+      → suc (2 * (edge B l - start B (suc (c .blk)))) ≤ m → 0 < m → start B (suc (c .blk)) ≤ edge B l
+      → suc (suc (2 * (edge B l - start B (suc (c .blk))))) ≤ m → Less m (leave B O l e c)
   unfolding Less SingleKept singleCost
   leave-less c e m w p h le f z ed g =
       let s = seekBlock-is B N l k (suc e) c h w in
@@ -74,7 +75,7 @@ module _ (B N : ℕ) (O : Ops) (l : Postings (O .S)) (k : ListOk B N l) where
       let st = start-le B (suc (c .blk)) (c′ .blk) gt in
       ((s .moved .wf, s .moved .past (suc e) (omega arith) p, s .covers), omega arith)
 
-  hunt-less : (t : O .S) (c : Cursor) (d : ℕ) → SingleKept hunt c d → Less (singleCost hunt c) (huntTurn B O l t c d .next)
+  hunt-less : (t : O .S) (c : Cursor) (d : ℕ) → SingleKept B l hunt c d → Less (singleCost B l hunt c) (huntTurn B O l t c d .next)
   unfolding Less SingleKept singleCost
   hunt-less t c d (w, p, h) =
       let be = below-edge c w in
@@ -82,7 +83,7 @@ module _ (B N : ℕ) (O : Ops) (l : Postings (O .S)) (k : ListOk B N l) where
       let wd = k .wide in
       let ss = start-suc B (c .blk) in
       let cap = last-cap B N l k (c .blk) in
-      let m = suc (2 * (edge - start B (c .blk))) in
+      let m = suc (2 * (edge B l - start B (c .blk))) in
       by-test (Less m) (O .above (blockMax B O l c) t) (landed B O l (seekIn l B d c))
       (cond (eqb (lastDoc l B (c .blk)) TERMINATED) (record { phase = over; cur = c; doc = d }) (leave B O l (lastDoc l B (c .blk)) c))
       (λ _.
@@ -103,21 +104,21 @@ module _ (B N : ℕ) (O : Ops) (l : Postings (O .S)) (k : ListOk B N l) where
       let il : suc (c .blk) ≤ l .full =
       on-test (ltb (c .blk) (l .full)) (λ y. ltb-true (c .blk) (l .full) y)
       (λ y. absurd (omega (arith, last-out B N l k (c .blk) (ltb-false (c .blk) (l .full) y)))) in
-      let ed : start B (suc (c .blk)) ≤ edge = full-edge (suc (c .blk)) il in
+      let ed : start B (suc (c .blk)) ≤ edge B l = full-edge (suc (c .blk)) il in
       leave-less c (lastDoc l B (c .blk)) m w (past-up B N l k c d (suc (lastDoc l B (c .blk))) (omega arith) p) lt (omega arith) (omega arith)
       (omega arith) ed (omega arith)))
     where
-      full-edge : (b : ℕ) → b ≤ l .full → start B b ≤ edge
+      full-edge : (b : ℕ) → b ≤ l .full → start B b ≤ edge B l
       full-edge b h = unfold edge in omega (arith, start-le B b (l .full) h)
 
-  walk-less : (t : O .S) (c : Cursor) (d : ℕ) → SingleKept walk c d → Less (singleCost walk c) (walkTurn B O l t c d .next)
+  walk-less : (t : O .S) (c : Cursor) (d : ℕ) → SingleKept B l walk c d → Less (singleCost B l walk c) (walkTurn B O l t c d .next)
   unfolding Less SingleKept singleCost
   walk-less t c d (w, p, q, h) =
       let be = below-edge c w in
       let b0 = be .0 in
       let i = docAt-lt B N l k (c .at) (omega arith) in
       let o = on-block B N l k c d w p (omega arith) (omega arith) in
-      let m = 2 * (edge - c .at) in
+      let m = 2 * (edge B l - c .at) in
       let hi = w .hi in
       let od = ap (start B) o in
       let ss = start-suc B (c .blk) in
@@ -127,7 +128,7 @@ module _ (B N : ℕ) (O : Ops) (l : Postings (O .S)) (k : ListOk B N l) where
       let il : suc (c .blk) ≤ l .full =
       on-test (ltb (c .blk) (l .full)) (λ y. ltb-true (c .blk) (l .full) y)
       (λ y. absurd (omega (arith, last-out B N l k (c .blk) (ltb-false (c .blk) (l .full) y)))) in
-      let ed : start B (suc (c .blk)) < edge = full-edge (suc (c .blk)) il in
+      let ed : start B (suc (c .blk)) < edge B l = full-edge (suc (c .blk)) il in
       leave-less c d m w (past-up B N l k c d (suc d) (omega arith) p) h (omega arith) (omega arith) (omega arith) (omega arith) (omega arith))
       (λ t.
       let a = advance-is B N l k c w o (omega arith) in
@@ -141,10 +142,10 @@ module _ (B N : ℕ) (O : Ops) (l : Postings (O .S)) (k : ListOk B N l) where
       landed-less (advanceIn l B c) (suc d) m (a .wf) (a .past (suc d) (omega arith) (past-up B N l k c d (suc d) (omega arith) p)) up
       (λ _. omega arith) (omega arith))
     where
-      full-edge : (b : ℕ) → b ≤ l .full → start B b < edge
+      full-edge : (b : ℕ) → b ≤ l .full → start B b < edge B l
       full-edge b h = unfold edge in omega (arith, start-le B b (l .full) h, k .wide)
 
-  first-kept : SingleKept hunt (fresh) (docHere l (fresh))
+  first-kept : SingleKept B l hunt (fresh) (docHere l (fresh))
   unfolding SingleKept
   first-kept =
       let f = fresh-is B N l k in (
@@ -159,8 +160,8 @@ module _ (B N : ℕ) (O : Ops) (l : Postings (O .S)) (k : ListOk B N l) where
             (λ e. omega (arith, last-out B N l k 0 (ltb-false 0 (l .full) e), docAt-cap B N l k 0)),
       )
 
-  turn-less : (t : O .S) (ph : Phase) (c : Cursor) (d : ℕ) → isOver ph ≡ false → SingleKept ph c d
-      → Less (singleCost ph c) (singleBy B O l ph t c d .next)
+  turn-less : (t : O .S) (ph : Phase) (c : Cursor) (d : ℕ) → isOver ph ≡ false → SingleKept B l ph c d
+      → Less (singleCost B l ph c) (singleBy B O l ph t c d .next)
   turn-less t hunt c d e i = hunt-less t c d i
   turn-less t walk c d e i = walk-less t c d i
   turn-less t over c d e i = absurd (true≢false e)
@@ -170,7 +171,7 @@ module _ (B N : ℕ) (O : Ops) (l : Postings (O .S)) (k : ListOk B N l) where
     W = blockWandSingleScorer B O (record { ord = ord; list = l; cur = fresh })
 
     -- for both scorings: two steps for each place of the list are enough
-    pub single-nears : Nears W (λ p. SingleKept (p .phase) (p .cur) (p .doc)) (λ p. singleCost (p .phase) (p .cur))
+    pub single-nears : Nears W (λ p. SingleKept B l (p .phase) (p .cur) (p .doc)) (λ p. singleCost B l (p .phase) (p .cur))
     unfolding Less
     single-nears = record { begins = first-kept; nears = λ t p e i. turn-less t (p .phase) (p .cur) (p .doc) e i }
 
