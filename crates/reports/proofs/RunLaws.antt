@@ -1,23 +1,26 @@
 -- A run goes its route: begun, on by a quiet turn or by one that reports, and its two ends; what it leaves is 01's outcome of its list.
-use mathlib.Core.Path.{_≡_, refl, sym, ap, _∙_}
+use mathlib.Core.Path.{_≡_, refl, sym, ap, _∙_, subst}
 use mathlib.Core.Bool.{Bool, true, false}
 use mathlib.Core.List.{List, []}
 use mathlib.Core.Option.{some}
-use Prim.Native.Nat.{ℕ, suc, _<_}
+use Prim.Native.Nat.{ℕ, zero, suc, _≤_, _<_}
+use native.Mathlib.Nat.{le-refl}
+use native.Mathlib.Omega.{arith}
 use lib.ListN.{length}
 use lib.Ieee.{Float}
 use borrow.Author.Tests.{le-leb}
 use Rattle.route.specs.Report.{Report}
 use Rattle.route.specs.Rule.{limited}
 use Rattle.route.specs.Route.{Route, Turn, Ends, quiet}
-use Rattle.route.proofs.Ending.{Stays, one-end}
+use Rattle.route.proofs.Cases.{on-test}
+use Rattle.route.proofs.Ending.{Nears, Stays, one-end}
 use Rattle.route.proofs.Rows.{route-full}
 use Rattle.rule.specs.Follows.{Follows, ruleOf, startOf}
 use Rattle.rule.specs.declared.Rule.{Rule}
 use Rattle.rule.specs.declared.Threshold.{Threshold}
 use Rattle.route.specs.F32.{f32}
 use Rattle.reports.specs.Rows.{rowsOf, Reported}
-use Rattle.reports.specs.Runs.{callbackOf, runAfter, Going, Ran, outcomeOf}
+use Rattle.reports.specs.Runs.{callbackOf, runAfter, Quietly, stays, goes, Going, Ran, outcomeOf}
 use Rattle.reports.proofs.RowLaws.{begun, threshold-is, count-is, one-more}
 
 module _ (W : Route Float) (rule : Rule) (script : List Float) (documents₀ : List ℕ) (scores₀ : List Float) where
@@ -69,6 +72,35 @@ module _ (W : Route Float) (rule : Rule) (script : List Float) (documents₀ : L
       stopped = (sym (count-is (G .kept)) ∙ h, (x, ap (λ (z : Turn (W .Place) Float). z .due) turn-is ∙ e));
     }
 
+  -- a stretch of turns without a report
+  pub run-quietly : {t : Threshold} {documents : List ℕ} {values : List Float} {p q : W .Place} → Going W rule script documents₀ scores₀ t documents values p
+      → Quietly (W .turn) (W .ended) (t .now) p q → Going W rule script documents₀ scores₀ t documents values q
+  run-quietly G stays = G
+  run-quietly G (goes s e f) = run-quiet (run-quietly G s) f
+
+  -- ---- what a route keeps on its way
+
+  module _ {Kept : W .Place → Type 0} {cost : W .Place → ℕ} (N : Nears W Kept cost) where
+    -- each place of a run has it
+    pub run-kept : Stays W → {t : Threshold} {documents : List ℕ} {values : List Float} {p : W .Place} → Going W rule script documents₀ scores₀ t documents values p → Kept p
+    run-kept still G = subst Kept (G .place-is) (always (G .steps))
+      where
+        always : (n : ℕ) → Kept (runAfter W rule script n .place)
+        always zero = N .begins
+        always (suc n) =
+            let u = runAfter W rule script n in
+            let h = callbackOf rule script .threshold (u .state) in
+            on-test (W .ended (u .place)) (λ e. subst Kept (sym (ap (λ (z : Turn (W .Place) Float). z .next) (still h (u .place) e))) (always n)) (λ e. N .nears h (u .place) e (always n) .0)
+
+    -- and quiet turns bring it no farther from the end
+    pub quietly-near : {t : Float} {p q : W .Place} → Kept p → Quietly (W .turn) (W .ended) t p q → Kept q × (cost q ≤ cost p)
+    quietly-near k stays = (k, le-refl _)
+    quietly-near {t} {p} k (goes {q = q} {r = r} s e f) =
+        let z = quietly-near k s in
+        let n = N .nears t q e (z .0) in
+        let m = ap (λ (v : Turn (W .Place) Float). v .next) f in
+        (subst Kept m (n .0), subst (λ (v : W .Place). cost v ≤ cost p) m (omega (arith, n .1, z .1)))
+
   -- ---- what a run leaves
 
   module _ {count : ℕ} {documents : List ℕ} {values : List Float} {p : W .Place} where
@@ -79,10 +111,10 @@ module _ (W : Route Float) (rule : Rule) (script : List Float) (documents₀ : L
     -- AS 01'S TABLE SAYS: 0 with the whole list, or 12 with its first rows
     pub ran-limited : Stays W → {full : Bool} (R : Ran W rule script documents₀ scores₀ full count documents values p) (list : List (Report Float)) → Ends (callbackOf rule script) W [] list
         → outcomeOf full (runAfter W rule script (R .steps) .state) ≡ limited (rowsOf documents₀ scores₀) list
-    ran-limited stays {full = true} R list e =
+    ran-limited still {full = true} R list e =
         let s = R .stopped in
-        sym (ap (λ (n : ℕ). limited n list) (sym (s .0)) ∙ route-full f32 (ruleOf rule script) (startOf rule) W stays list e (R .steps) (s .1 .0) (s .1 .1))
-    ran-limited stays {full = false} R list e =
+        sym (ap (λ (n : ℕ). limited n list) (sym (s .0)) ∙ route-full f32 (ruleOf rule script) (startOf rule) W still list e (R .steps) (s .1 .0) (s .1 .1))
+    ran-limited still {full = false} R list e =
         let rs = runAfter W rule script (R .steps) .state in
-        sym (ap (limited (rowsOf documents₀ scores₀)) (one-end W (callbackOf rule script) stays [] list rs e (whole-list R))
+        sym (ap (limited (rowsOf documents₀ scores₀)) (one-end W (callbackOf rule script) still [] list rs e (whole-list R))
         ∙ rw (le-leb (length rs) (rowsOf documents₀ scores₀) (R .written .fit)))

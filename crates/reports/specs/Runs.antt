@@ -9,7 +9,7 @@ use lib.Ieee.{Float}
 use Rattle.route.specs.F32.{f32}
 use Rattle.route.specs.Report.{Report, Callback}
 use Rattle.route.specs.Rule.{Outcome, ruled}
-use Rattle.route.specs.Route.{Route, Run, after}
+use Rattle.route.specs.Route.{Route, Run, Turn, quiet, after}
 use Rattle.rule.specs.Follows.{ruleOf, startOf}
 use Rattle.rule.specs.declared.Rule.{Rule}
 use Rattle.rule.specs.declared.Threshold.{Threshold}
@@ -18,6 +18,11 @@ use Rattle.reports.specs.Rows.{rowsOf, Written, Kept}
 -- the rule in the place of the Rust's callback
 abbrev pub callbackOf : Rule → List Float → Callback Float
 callbackOf rule script = ruled f32 (ruleOf rule script) (startOf rule)
+
+-- turns under one threshold lead from one place to another, none of them at the end and none with a report
+pub data Quietly {P : Type 0} (turn : Float → P → Turn P Float) (ended : P → Bool) (t : Float) : P → P → Type 0 where
+  stays : {p : P} → Quietly turn ended t p p
+  goes : {p q r : P} → Quietly turn ended t p q → ended q ≡ false → turn t q ≡ quiet r → Quietly turn ended t p r
 
 module _ (W : Route Float) (rule : Rule) (script : List Float) where
   -- the route after a number of steps, from no report
