@@ -1,0 +1,2 @@
+-- Laws of the single run that belong to no one function.
+pub mod Walking

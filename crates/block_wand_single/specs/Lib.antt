@@ -1,0 +1,2 @@
+-- What the contracts of `block_wand_single` cite.
+pub mod Walks
