@@ -1,2 +1,3 @@
 -- Laws of the single run that belong to no one function.
 pub mod Walking
+pub mod Hunting

@@ -1,2 +1,3 @@
 -- What the contracts of `block_wand_single` cite.
 pub mod Walks
+pub mod Scans

@@ -1,2 +1,3 @@
 // The single-term scan: a block whose bound is not above the threshold is left out, every other one is walked.
+mod hunt;
 mod walk;
