@@ -5,6 +5,7 @@ use mathlib.Core.List.{List}
 use Prim.Native.Nat.{ℕ, suc, _+_, _≤_, _<_}
 use native.Mathlib.Numerals.{add-one}
 use native.Mathlib.Omega.{arith}
+use lib.Dec.{eqb}
 use lib.Ieee.{Float, lt}
 use borrow.Author.Tests.{eq-eqb, ne-eqb}
 use Rattle.bm25.specs.declared.Scoring.{Scoring}
@@ -14,7 +15,7 @@ use Rattle.route.specs.F32.{f32}
 use Rattle.route.specs.Postings.{Postings, TERMINATED, lastDoc}
 use Rattle.route.specs.Cursor.{Cursor, docHere, seekBlockIn, seekIn, blockMax}
 use Rattle.route.specs.Route.{Turn, quiet}
-use Rattle.route.specs.Single.{hunt, walk, over, SinglePlace, landed, huntTurn}
+use Rattle.route.specs.Single.{Phase, hunt, walk, over, SinglePlace, landed, huntTurn}
 use Rattle.route.proofs.ListLaws.{ListOk}
 use Rattle.route.proofs.Places.{last-cap}
 use Rattle.route.proofs.Ending.{Nears}
@@ -91,3 +92,49 @@ module _ {file : List ℕ} {x : Part} (L : ListIn file x) (scoring : Scoring) wh
           hunt-nearer k =
               subst (λ (z : Turn SinglePlace Float). singleCost 128 list (z .next .phase) (z .next .cur) < singleCost 128 list hunt (cursorOf p)) next-is
               (near 0 .nears t (placeOf hunt p doc) refl (quietly-near (singleRoute scoring file x 0) (near 0) k (H .quietly) .0) .1)
+
+  -- ---- the way into the block
+
+  module _ {t : Float} {from : SegmentPostings} {from-doc : ℕ} {docs freqs : List ℕ} {found : Scan} (H : Hunted file x scoring t from from-doc docs freqs found) where
+    pub approach-over : found .over ≡ true → (values : List Float) → Approached file x scoring t from from-doc found docs freqs values
+    approach-over e values = record {
+      quietly = subst (λ (b : Bool). QuietTurns scoring file x t (placeOf hunt from from-doc) (placeOf (cond b over walk) (found .postings) (found .doc))) (sym e)
+          (subst (λ (b : Bool). QuietTurns scoring file x t (placeOf hunt from from-doc) (placeOf (cond b over hunt) (found .postings) (found .doc))) e (H .quietly));
+      placed = H .placed;
+      scores = λ f. absurd (true≢false (sym e ∙ f));
+    }
+
+    module _ (e : found .over ≡ false) where
+      there : QuietTurns scoring file x t (placeOf hunt from from-doc) (placeOf hunt (found .postings) (found .doc))
+      there = subst (λ (b : Bool). QuietTurns scoring file x t (placeOf hunt from from-doc) (placeOf (cond b over hunt) (found .postings) (found .doc))) e (H .quietly)
+
+      pub target-small : SingleKept 128 list hunt (cursorOf from) from-doc → found .doc ≤ 2147483647
+      unfolding SingleKept
+      target-small k =
+          let d = quietly-near (singleRoute scoring file x 0) (near 0) k there .0 .2 in
+          omega (arith, last-cap 128 (documents file) list ok (cursorOf (found .postings) .blk))
+
+      module _ {r : SegmentPostings} {docs′ freqs′ : List ℕ} (M : Moved file x (λ s. seekIn (listOf s file x) 128 (found .doc) (cursorOf (found .postings))) r docs′ freqs′)
+          {doc : ℕ} (D : Here r docs′ doc) where
+        lands-is : (ph : Phase) → cond (eqb doc TERMINATED) over walk ≡ ph → huntTurn 128 f32 list t (cursorOf (found .postings)) (found .doc) ≡ quiet (placeOf ph r doc)
+        lands-is ph p =
+            let c = M .cursor-is scoring in
+            let d = D file x freqs′ (M .placed) scoring in
+            hunt-lands list t (cursorOf (found .postings)) (found .doc) (H .above e) ∙ ap (λ (z : Cursor). quiet (landed 128 f32 list z)) (sym c)
+            ∙ ap (λ (z : ℕ). quiet (record { phase = cond (eqb z TERMINATED) over walk; cur = cursorOf r; doc = z })) (sym d)
+            ∙ ap (λ (z : Phase). quiet (placeOf z r doc)) p
+
+        pub approach-ended : doc ≡ 2147483647 → (values : List Float) → Approached file x scoring t from from-doc (record { postings = r; doc = doc; over = true }) docs′ freqs′ values
+        approach-ended h values = record {
+          quietly = goes there refl (lands-is over (rw (eq-eqb doc TERMINATED h)));
+          placed = M .placed;
+          scores = λ f. absurd (true≢false f);
+        }
+
+        pub approach-lands : (doc ≡ 2147483647 → ⊥) → {values : List Float} → Scores file x scoring docs′ freqs′ values
+            → Approached file x scoring t from from-doc (record { postings = r; doc = doc; over = false }) docs′ freqs′ values
+        approach-lands h S = record {
+          quietly = goes there refl (lands-is walk (rw (ne-eqb doc TERMINATED h)));
+          placed = M .placed;
+          scores = λ _. S;
+        }
