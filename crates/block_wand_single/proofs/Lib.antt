@@ -1,3 +1,4 @@
 -- Laws of the single run that belong to no one function.
 pub mod Walking
 pub mod Hunting
+pub mod BlockTurns

@@ -1,3 +1,4 @@
 -- What the contracts of `block_wand_single` cite.
 pub mod Walks
 pub mod Scans
+pub mod Blocks
