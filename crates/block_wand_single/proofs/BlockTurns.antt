@@ -23,10 +23,10 @@ use Rattle.route.proofs.Places.{start-suc, start-le, docAt-in, docAt-out, docAt
 use Rattle.block_wand_single.specs.Walks.{offered}
 
 -- by what a test shows
-on-true : {A : Type 0} {b : Bool} (x y : A) → b ≡ true → cond b x y ≡ x
+pub on-true : {A : Type 0} {b : Bool} (x y : A) → b ≡ true → cond b x y ≡ x
 on-true x y e = rw e
 
-on-false : {A : Type 0} {b : Bool} (x y : A) → b ≡ false → cond b x y ≡ y
+pub on-false : {A : Type 0} {b : Bool} (x y : A) → b ≡ false → cond b x y ≡ y
 on-false x y e = rw e
 
 module _ (l : Postings Float) {N : ℕ} (k : ListOk 128 N l) (b : ℕ) (within : b ≤ l .full) (loaded : Bool) (n : ℕ) (size : n ≡ min (l .len - start 128 b) 128) where

@@ -2,3 +2,4 @@
 pub mod Walking
 pub mod Hunting
 pub mod BlockTurns
+pub mod Scanning
