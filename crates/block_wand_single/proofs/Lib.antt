@@ -3,3 +3,4 @@ pub mod Walking
 pub mod Hunting
 pub mod BlockTurns
 pub mod Scanning
+pub mod OneBlock

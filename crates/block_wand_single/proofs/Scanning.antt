@@ -103,7 +103,7 @@ module _ {file : List ℕ} {x : Part} (L : ListIn file x) (scoring : Scoring) {q
         ∙ ap (λ (z : ℕ). record { next = place (suc i); due = dueAt f32 t z (list .score (start 128 b + i)) }) (doc-at i (omega arith))
         ∙ ap (λ (z : Float). record { next = place (suc i); due = dueAt f32 t (getD docs i 0) z }) (value-at i h)
 
-  placed-at : (i : ℕ) → i < 128 → Placed file x (atPlace q i) docs freqs
+  pub placed-at : (i : ℕ) → i < 128 → Placed file x (atPlace q i) docs freqs
   placed-at i h = record { stands = P .stands; low = P .low; holds = P .holds; inside = h; loaded-is = P .loaded-is }
 
   -- ---- the way out
