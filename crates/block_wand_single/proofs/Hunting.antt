@@ -23,6 +23,7 @@ use Rattle.route.proofs.SingleEnds.{SingleKept, singleCost, single-nears}
 use Rattle.decoded.specs.Lists.{listOf}
 use Rattle.decoded.proofs.AcceptedLists.{list-ok}
 use Rattle.postings.specs.Decoded.{ListIn}
+use Rattle.postings.specs.Reader.{Stands}
 use Rattle.postings.specs.Places.{cursorOf, Placed, Moved, Shallow, Here}
 use Rattle.postings.specs.declared.cursor.SegmentPostings.{SegmentPostings}
 use Rattle.postings.proofs.Moves.{end-here}
@@ -59,6 +60,10 @@ module _ {file : List ℕ} {x : Part} (L : ListIn file x) (scoring : Scoring) wh
   pub near : (ord : ℕ) → Nears (singleRoute scoring file x ord) (λ p. SingleKept 128 list (p .phase) (p .cur) (p .doc)) (λ p. singleCost 128 list (p .phase) (p .cur))
   near ord = single-nears 128 (documents file) f32 list ok ord
 
+  -- no block ends above TERMINATED
+  pub last-small : (p : SegmentPostings) → Stands file x (p .«skip_reader») → p .«skip_reader» .«last_doc_in_block» ≤ 2147483647
+  last-small p S = subst (λ (z : ℕ). z ≤ 2147483647) (end-here file x L p S scoring) (last-cap 128 (documents file) list ok (p .«skip_reader» .block))
+
   module _ {t : Float} {from : SegmentPostings} {from-doc : ℕ} {docs freqs : List ℕ} where
     module _ {p : SegmentPostings} {doc : ℕ} (H : Hunting file x scoring t from from-doc docs freqs p doc) {bound : Float} (b : bound ≡ blockMax 128 f32 list (cursorOf p)) where
       abbrev last : ℕ
@@ -67,9 +72,6 @@ module _ {file : List ℕ} {x : Part} (L : ListIn file x) (scoring : Scoring) wh
       last-is : lastDoc list 128 (cursorOf p .blk) ≡ last
       unfolding cursorOf
       last-is = end-here file x L p (H .placed .stands) scoring
-
-      pub last-small : last ≤ 2147483647
-      last-small = subst (λ (z : ℕ). z ≤ 2147483647) last-is (last-cap 128 (documents file) list ok (cursorOf p .blk))
 
       pub hunt-found : lt t bound ≡ true → Hunted file x scoring t from from-doc docs freqs (record { postings = p; doc = doc; over = false })
       hunt-found a = record { quietly = H .quietly; placed = H .placed; above = λ _. ap (lt t) (sym b) ∙ a }

@@ -88,15 +88,21 @@ module _ {file : List ℕ} {x : Part} (L : ListIn file x) (scoring : Scoring) (r
               kept = subst (λ (u : Run SinglePlace (List (Report Float))). Kept rule script (u .state) d s (v .threshold) documents′ scores′) (sym z) (Z .kept _ d s (G′ .kept));
             }
 
+        full-stop : v .full ≡ true → WalkStopped true n values (rowsOf documents scores) (v .threshold) (v .place)
+        full-stop f = subst (λ (b : Bool). WalkStopped b n values (rowsOf documents scores) (v .threshold) (v .place)) f (Z .stopped)
+
+        pub due-place : v .full ≡ true → v .place < 128
+        due-place f = omega (arith, full-stop f .0, walk-room .1)
+
         -- a report is due, and every row is full
         pub scanned-full : v .full ≡ true → ScansBlock file x scoring rule script t from from-doc documents scores
             (record { scan = record { postings = atPlace q (v .place); doc = getD docs (v .place) 0; over = false }; threshold = v .threshold; full = true }) docs freqs documents′ scores′
         scanned-full f =
-            let s = subst (λ (b : Bool). WalkStopped b n values (rowsOf documents scores) (v .threshold) (v .place)) f (Z .stopped) in
+            let s = full-stop f in
             let here = at-posting L scoring (scan .doc) (A .placed) walking en (v .place) (s .0) in
             record {
               goes = λ ord d r G. subst (Goes ord d r (v .threshold) documents′ scores′) here (goes-to ord d r G);
-              placed = placed-at L scoring (scan .doc) (A .placed) walking en (v .place) (omega (arith, s .0, walk-room .1));
+              placed = placed-at L scoring (scan .doc) (A .placed) walking en (v .place) (due-place f);
               due = λ _. (s .2, (
                 record { doc = getD docs (v .place) 0; score = getD values (v .place) nan },
                 ap (λ (z : SinglePlace). singleTurn 128 f32 list (v .threshold .now) z .due) (sym here)

@@ -111,9 +111,6 @@ module _ {file : List ℕ} {x : Part} (L : ListIn file x) (scoring : Scoring) {q
   last-is : lastDoc list 128 b ≡ q .«skip_reader» .«last_doc_in_block»
   last-is = end-here file x L q (P .stands) scoring
 
-  pub last-low : q .«skip_reader» .«last_doc_in_block» ≤ 2147483647
-  last-low = subst (λ (z : ℕ). z ≤ 2147483647) last-is (last-cap 128 (documents file) list (ok L scoring) b)
-
   -- TERMINATED is the last document of the tail only
   is-tail : q .«skip_reader» .«last_doc_in_block» ≡ TERMINATED → list .full ≤ b
   is-tail h = elim (lt-or-ge b (list .full)) [

@@ -32,10 +32,7 @@ returns-2 c =
     hunt-ended (a .before .before .pre .0 .list) _ (a .loop .inv) (b .block-max-score .ensures) (c .before .before .if1 .left) (c .if2 .taken)
 
 add-doc : tie.Need-add-doc Inv-loop μ-loop
-add-doc c =
-    let b = c .before .before .before in
-    let a = b .before in
-    omega (arith, last-small (a .before .before .pre .0 .list) _ (a .loop .inv) (b .block-max-score .ensures))
+add-doc c = let a = c .before .before .before .before in omega (arith, last-small (a .before .before .pre .0 .list) (a .before .before .args .scoring) (a .loop .postings) (a .loop .inv .placed .stands))
 
 seek-block-requires : tie.Need-seek-block-requires Inv-loop μ-loop
 seek-block-requires c κs = let a = c .before .before .before .before in (a .before .before .pre .0 .list, a .loop .inv .placed .stands, a .loop .inv .placed .low)
