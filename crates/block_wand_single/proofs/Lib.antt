@@ -4,3 +4,4 @@ pub mod Hunting
 pub mod BlockTurns
 pub mod Scanning
 pub mod OneBlock
+pub mod Running

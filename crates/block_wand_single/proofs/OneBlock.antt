@@ -103,11 +103,14 @@ module _ {file : List ℕ} {x : Part} (L : ListIn file x) (scoring : Scoring) (r
             record {
               goes = λ ord d r G. subst (Goes ord d r (v .threshold) documents′ scores′) here (goes-to ord d r G);
               placed = placed-at L scoring (scan .doc) (A .placed) walking en (v .place) (due-place f);
-              due = λ _. (s .2, (
-                record { doc = getD docs (v .place) 0; score = getD values (v .place) nan },
-                ap (λ (z : SinglePlace). singleTurn 128 f32 list (v .threshold .now) z .due) (sym here)
-                ∙ ap (λ (z : Turn SinglePlace Float). z .due) (turns (v .threshold .now) (v .place) (s .0)) ∙ rw (s .1),
-              ));
+              due = λ _. (
+                s .2,
+                (
+                  record { doc = getD docs (v .place) 0; score = getD values (v .place) nan },
+                  ap (λ (z : SinglePlace). singleTurn 128 f32 list (v .threshold .now) z .due) (sym here)
+                      ∙ ap (λ (z : Turn SinglePlace Float). z .due) (turns (v .threshold .now) (v .place) (s .0)) ∙ rw (s .1),
+                ),
+              );
               nearer = λ g. absurd (true≢false g);
             }
 

@@ -135,19 +135,17 @@ module _ {file : List ℕ} {x : Part} (L : ListIn file x) (scoring : Scoring) {q
     where
       go : (o : Bool) → LeftBy o file x q n r → (place n ≡ placeOf (cond o over hunt) (r .postings) (r .doc)) × Placed file x (r .postings) docs freqs
       go true (t, p, d) =
-          let f = is-tail t in
-          (
+          let f = is-tail t in (
             at-end ∙ on-false _ _ (le-ltb b (list .full) f) ∙ ap (λ (z : Cursor). record { phase = over; cur = z; doc = TERMINATED }) (cursor-is n)
-            ∙ ap (λ (z : SegmentPostings). placeOf over z TERMINATED) (sym p) ∙ ap (placeOf over (r .postings)) (sym d),
+                ∙ ap (λ (z : SegmentPostings). placeOf over z TERMINATED) (sym p) ∙ ap (placeOf over (r .postings)) (sym d),
             subst (λ (z : SegmentPostings). Placed file x z docs freqs) (sym p) (placed-at n (tail-size list (ok L scoring) b within (q .«block_loaded») n size f .0)),
           )
       go false (t, d, s) =
           let f = is-full t in
-          let m = s docs freqs (placed-at 127 (omega arith)) in
-          (
+          let m = s docs freqs (placed-at 127 (omega arith)) in (
             at-end ∙ on-true _ _ (lt-ltb b (list .full) f)
-            ∙ ap (λ (z : ℕ). record { phase = hunt; cur = seekBlockIn list 128 z (here list (ok L scoring) b within (q .«block_loaded») n size 127); doc = z }) (ap suc last-is ∙ sym (add-one _))
-            ∙ ap (λ (z : Cursor). record { phase = hunt; cur = seekBlockIn list 128 (q .«skip_reader» .«last_doc_in_block» + 1) z; doc = q .«skip_reader» .«last_doc_in_block» + 1 }) (cursor-is 127)
-            ∙ ap (λ (z : Cursor). record { phase = hunt; cur = z; doc = q .«skip_reader» .«last_doc_in_block» + 1 }) (sym (m .cursor-is scoring)) ∙ ap (placeOf hunt (r .postings)) (sym d),
+                ∙ ap (λ (z : ℕ). record { phase = hunt; cur = seekBlockIn list 128 z (here list (ok L scoring) b within (q .«block_loaded») n size 127); doc = z }) (ap suc last-is ∙ sym (add-one _))
+                ∙ ap (λ (z : Cursor). record { phase = hunt; cur = seekBlockIn list 128 (q .«skip_reader» .«last_doc_in_block» + 1) z; doc = q .«skip_reader» .«last_doc_in_block» + 1 }) (cursor-is 127)
+                ∙ ap (λ (z : Cursor). record { phase = hunt; cur = z; doc = q .«skip_reader» .«last_doc_in_block» + 1 }) (sym (m .cursor-is scoring)) ∙ ap (placeOf hunt (r .postings)) (sym d),
             m .placed,
           )

@@ -88,7 +88,17 @@ pub fn scan_block(
     ensures { λ r. ⌜ ScansBlock (now (file .entry)) x scoring rule (now (script .entry)) t from «from_doc» (now (documents .entry)) (now (scores .entry)) r (now (docs .exit)) (now (freqs .exit)) (now (documents .exit)) (now (scores .exit)) ⌝ }
 {
     let scan = approach(
-        file, norms, x, w, scoring, t.now, from, from_doc, docs, freqs, values,
+        file,
+        norms,
+        x,
+        w,
+        scoring,
+        t.now,
+        from,
+        from_doc,
+        docs,
+        freqs,
+        values,
     );
     if scan.over {
         return Scanned {

@@ -98,7 +98,16 @@ pub fn approach(
     ensures { λ r. ⌜ Approached (now (file .entry)) x scoring threshold from «from_doc» r (now (docs .exit)) (now (freqs .exit)) (now (values .exit)) ⌝ }
 {
     let found = hunt(
-        file, norms, x, w, scoring, threshold, from, from_doc, docs, freqs,
+        file,
+        norms,
+        x,
+        w,
+        scoring,
+        threshold,
+        from,
+        from_doc,
+        docs,
+        freqs,
     );
     if found.over {
         return found;
