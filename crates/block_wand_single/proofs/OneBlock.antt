@@ -26,9 +26,10 @@ use Rattle.reports.specs.Runs.{callbackOf, runAfter, Going}
 use Rattle.reports.proofs.RunLaws.{quietly-near, run-quietly}
 use Rattle.block_wand_single.specs.Walks.{Walks, WalkStopped}
 use Rattle.block_wand_single.specs.Scans.{singleRoute, placeOf, QuietTurns, Approached}
-use Rattle.block_wand_single.specs.Blocks.{phaseAfter, atPlace, Left, ScansBlock}
+use Rattle.block_wand_single.specs.Blocks.{atPlace, Left, AfterBy, AfterWalk, ScansBlock}
 use Rattle.block_wand_single.specs.declared.hunt.Scan.{Scan}
 use Rattle.block_wand_single.specs.declared.walk.Walked.{Walked}
+use Rattle.block_wand_single.specs.declared.block.Scanned.{Scanned}
 use Rattle.block_wand_single.proofs.Hunting.{near}
 use Rattle.block_wand_single.proofs.BlockTurns.{stretch, stretch-near}
 use Rattle.block_wand_single.proofs.Scanning.{place, short, at-posting, from-in, at-start, walk-turns, placed-at, left-placed}
@@ -95,7 +96,7 @@ module _ {file : List ℕ} {x : Part} (L : ListIn file x) (scoring : Scoring) (r
         due-place f = omega (arith, full-stop f .0, walk-room .1)
 
         -- a report is due, and every row is full
-        pub scanned-full : v .full ≡ true → ScansBlock file x scoring rule script t from from-doc documents scores
+        scanned-full : v .full ≡ true → ScansBlock file x scoring rule script t from from-doc documents scores
             (record { scan = record { postings = atPlace q (v .place); doc = getD docs (v .place) 0; over = false }; threshold = v .threshold; full = true }) docs freqs documents′ scores′
         scanned-full f =
             let s = full-stop f in
@@ -140,10 +141,21 @@ module _ {file : List ℕ} {x : Part} (L : ListIn file x) (scoring : Scoring) (r
               on-walk : (i : ℕ) → i < n → isOver (at i .phase) ≡ false
               on-walk i h = ap (λ (p : SinglePlace). isOver (p .phase)) (at-posting L scoring (scan .doc) (A .placed) walking en i h)
 
-          pub scanned-on : ScansBlock file x scoring rule script t from from-doc documents scores (record { scan = r; threshold = v .threshold; full = false }) docs freqs documents′ scores′
+          scanned-on : ScansBlock file x scoring rule script t from from-doc documents scores (record { scan = r; threshold = v .threshold; full = false }) docs freqs documents′ scores′
           scanned-on = record {
             goes = λ ord d s G. subst (Goes ord d s (v .threshold) documents′ scores′) (ap at all-taken ∙ left .0) (goes-to ord d s G);
             placed = left .1;
             due = λ g. absurd (true≢false (sym g));
             nearer = λ _ o. closer o;
           }
+
+        -- whichever it was
+        abbrev Whole : Scanned → Type 0
+        Whole z = ScansBlock file x scoring rule script t from from-doc documents scores z docs freqs documents′ scores′
+
+        pub scanned : (r : Scanned) → AfterWalk file x q n docs v r → ScansBlock file x scoring rule script t from from-doc documents scores r docs freqs documents′ scores′
+        scanned r = go (v .full) refl
+          where
+            go : (b : Bool) → v .full ≡ b → AfterBy b file x q n docs v r → Whole r
+            go true f e = subst Whole (sym e) (scanned-full f)
+            go false f (e, Y) = subst Whole (sym e) (scanned-on f (r .scan) Y)

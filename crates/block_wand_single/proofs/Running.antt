@@ -28,6 +28,8 @@ use Rattle.reports.proofs.RunLaws.{run-begun, run-kept, run-ends, run-full}
 use Rattle.block_wand_single.specs.Walks.{Begun}
 use Rattle.block_wand_single.specs.Scans.{singleRoute, placeOf}
 use Rattle.block_wand_single.specs.Blocks.{phaseAfter, ScansBlock}
+use Rattle.block_wand_single.specs.Stops.{endPhase, runOf}
+use Rattle.block_wand_single.specs.declared.scan.SingleRun.{SingleRun}
 use Rattle.block_wand_single.specs.declared.block.Scanned.{Scanned}
 use Rattle.block_wand_single.proofs.Hunting.{near}
 
@@ -75,12 +77,21 @@ module _ {file : List ℕ} {x : Part} (L : ListIn file x) (scoring : Scoring) (r
       pub running-on : r .full ≡ false → r .scan .over ≡ false → Running file x scoring rule script documents₀ scores₀ (r .scan .postings) (r .scan .doc) (r .threshold) docs′ freqs′ documents′ scores′
       running-on f e = record { placed = B .placed; going = λ ord. comes ord f e }
 
-      pub ran-over : r .full ≡ false → r .scan .over ≡ true → (ord : ℕ)
-          → Ran (singleRoute scoring file x ord) rule script documents₀ scores₀ false (r .threshold .reports) documents′ scores′ (placeOf over (r .scan .postings) (r .scan .doc))
-      ran-over f e ord = run-ends (singleRoute scoring file x ord) rule script documents₀ scores₀ (comes ord f e) refl
+      -- the run as it stopped
+      RanAs : SingleRun → ℕ → Type 0
+      RanAs s ord = Ran (singleRoute scoring file x ord) rule script documents₀ scores₀ (s .full) (s .count) documents′ scores′ (placeOf (endPhase (s .full)) (s .postings) (s .doc))
 
-      pub ran-full : r .full ≡ true → (ord : ℕ)
-          → Ran (singleRoute scoring file x ord) rule script documents₀ scores₀ true (r .threshold .reports) documents′ scores′ (placeOf walk (r .scan .postings) (r .scan .doc))
-      ran-full f ord =
+      pub ran-over : r .full ≡ false → r .scan .over ≡ true → (s : SingleRun) → s ≡ runOf r → (ord : ℕ)
+          → Ran (singleRoute scoring file x ord) rule script documents₀ scores₀ (s .full) (s .count) documents′ scores′ (placeOf (endPhase (s .full)) (s .postings) (s .doc))
+      unfolding RanAs
+      ran-over f e s h ord =
+          subst (λ (z : SingleRun). RanAs z ord) (sym h) (subst (λ (b : Bool). RanAs (record { full = b; count = r .threshold .reports; postings = r .scan .postings; doc = r .scan .doc }) ord) (sym f)
+          (run-ends (singleRoute scoring file x ord) rule script documents₀ scores₀ (comes ord f e) refl))
+
+      pub ran-full : r .full ≡ true → (s : SingleRun) → s ≡ runOf r → (ord : ℕ)
+          → Ran (singleRoute scoring file x ord) rule script documents₀ scores₀ (s .full) (s .count) documents′ scores′ (placeOf (endPhase (s .full)) (s .postings) (s .doc))
+      unfolding RanAs
+      ran-full f s h ord =
           let d = B .due f in
-          run-full (singleRoute scoring file x ord) rule script documents₀ scores₀ (comes ord f refl) (d .1 .1) (d .0 ∙ same-rows)
+          subst (λ (z : SingleRun). RanAs z ord) (sym h) (subst (λ (b : Bool). RanAs (record { full = b; count = r .threshold .reports; postings = r .scan .postings; doc = r .scan .doc }) ord) (sym f)
+          (run-full (singleRoute scoring file x ord) rule script documents₀ scores₀ (comes ord f refl) (d .1 .1) (d .0 ∙ same-rows)))

@@ -1,9 +1,10 @@
--- One block of a single scan, from hunt to hunt, and how a scan stops.
+-- One block of a single scan, from hunt to hunt.
 use mathlib.Core.Path.{_≡_}
 use mathlib.Core.Bool.{Bool, true, false, cond}
 use mathlib.Core.List.{List}
 use mathlib.Core.Option.{some}
 use Prim.Native.Nat.{ℕ, _+_, _<_}
+use lib.ListN.{getD}
 use lib.Ieee.{Float}
 use Rattle.bm25.specs.declared.Scoring.{Scoring}
 use Rattle.notefile.specs.declared.part.Part.{Part}
@@ -21,11 +22,8 @@ use Rattle.reports.specs.Rows.{rowsOf}
 use Rattle.reports.specs.Runs.{Going}
 use Rattle.block_wand_single.specs.Scans.{singleRoute, placeOf}
 use Rattle.block_wand_single.specs.declared.hunt.Scan.{Scan}
+use Rattle.block_wand_single.specs.declared.walk.Walked.{Walked}
 use Rattle.block_wand_single.specs.declared.block.Scanned.{Scanned}
-
--- a scan stops on the posting whose report has no row, or at its end
-abbrev pub endPhase : Bool → Phase
-endPhase full = cond full walk over
 
 -- behind a block without such a report it hunts again, or is over
 abbrev pub phaseAfter : Bool → Bool → Phase
@@ -44,6 +42,15 @@ LeftBy false file x p n r =
 
 abbrev pub Left : List ℕ → Part → SegmentPostings → ℕ → Scan → Type 0
 Left file x p n r = LeftBy (r .over) file x p n r
+
+-- what `after_walk` leaves: the scan on the posting that has no row, or out of the block
+abbrev pub AfterBy : Bool → List ℕ → Part → SegmentPostings → ℕ → List ℕ → Walked → Scanned → Type 0
+AfterBy true file x p n docs walked r =
+    r ≡ record { scan = record { postings = atPlace p (walked .place); doc = getD docs (walked .place) 0; over = false }; threshold = walked .threshold; full = true }
+AfterBy false file x p n docs walked r = (r ≡ record { scan = r .scan; threshold = walked .threshold; full = false }) × Left file x p n (r .scan)
+
+abbrev pub AfterWalk : List ℕ → Part → SegmentPostings → ℕ → List ℕ → Walked → Scanned → Type 0
+AfterWalk file x p n docs walked r = AfterBy (walked .full) file x p n docs walked r
 
 -- what `scan_block` leaves: a run that was on its way goes on, to a report that has no row, to the end, or nearer to it
 pub record ScansBlock (file : List ℕ) (x : Part) (scoring : Scoring) (rule : Rule) (script : List Float) (t : Threshold) (p : SegmentPostings) (doc : ℕ) (documents : List ℕ) (scores : List Float)

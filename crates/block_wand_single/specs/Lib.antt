@@ -2,3 +2,4 @@
 pub mod Walks
 pub mod Scans
 pub mod Blocks
+pub mod Stops

@@ -1,6 +1,7 @@
 // One block of the scan: found, walked and left.
 use crate::hunt::Scan;
 use crate::hunt::approach;
+use crate::walk::Walked;
 use crate::walk::walk;
 use bm25::Bm25Weight;
 use bm25::Scoring;
@@ -11,6 +12,7 @@ use postings::cursor::SegmentPostings;
 use rule::Rule;
 use rule::Threshold;
 ghost use mathlib.Core.Path.{_≡_};
+ghost use mathlib.Core.Bool.{true};
 ghost use Prim.Native.Nat.{min, suc, _≤_, _<_};
 ghost use Rattle.notefile.specs.Lists.{fullBlocks};
 ghost use Rattle.rule.specs.Follows.{Keeps};
@@ -22,7 +24,7 @@ ghost use Rattle.postings.specs.Reader.{Stands};
 ghost use Rattle.postings.specs.Places.{Placed, cursorOf};
 ghost use Rattle.block_wand_single.specs.Walks.{Begun};
 ghost use Rattle.block_wand_single.specs.Scans.{TermIn};
-ghost use Rattle.block_wand_single.specs.Blocks.{Left, ScansBlock};
+ghost use Rattle.block_wand_single.specs.Blocks.{Left, AfterWalk, ScansBlock};
 
 // Where the scan came to, the threshold, and whether a report is due there with no row left.
 pub struct Scanned {
@@ -67,6 +69,41 @@ fn leave(file: &[u8], x: Part, p: SegmentPostings, n: usize) -> Scan
     }
 }
 
+// Behind a walk: on the posting whose report has no row, or out of the block.
+fn after_walk(
+    file: &[u8],
+    x: Part,
+    p: SegmentPostings,
+    n: usize,
+    walked: Walked,
+    docs: &[u32; 128],
+) -> Scanned
+    requires { ⌜ ListIn (now file) x × Stands (now file) x (p .«skip_reader») × (p .«skip_reader» .block ≤ suc (fullBlocks x)) × (walked .full ≡ true → walked .place < 128) ⌝ }
+    ensures { λ r. ⌜ AfterWalk (now (file .entry)) x p n (now (docs .entry)) walked r ⌝ }
+{
+    let threshold = walked.threshold;
+    if walked.full {
+        let place = walked.place;
+        let mut postings = p;
+        postings.cur = place;
+        let scan = Scan {
+            postings,
+            doc: docs[place],
+            over: false,
+        };
+        return Scanned {
+            scan,
+            threshold,
+            full: true,
+        };
+    }
+    Scanned {
+        scan: leave(file, x, p, n),
+        threshold,
+        full: false,
+    }
+}
+
 pub fn scan_block(
     file: &[u8],
     norms: FieldNormReader,
@@ -107,36 +144,9 @@ pub fn scan_block(
             full: false,
         };
     }
-    let mut postings = scan.postings;
+    let postings = scan.postings;
+    let start = postings.cur;
     let n = block_len(postings);
-    let walked = walk(
-        rule,
-        script,
-        t,
-        postings.cur,
-        n,
-        docs,
-        values,
-        documents,
-        scores,
-    );
-    let threshold = walked.threshold;
-    if walked.full {
-        let place = walked.place;
-        postings.cur = place;
-        return Scanned {
-            scan: Scan {
-                postings,
-                doc: docs[place],
-                over: false,
-            },
-            threshold,
-            full: true,
-        };
-    }
-    Scanned {
-        scan: leave(file, x, postings, n),
-        threshold,
-        full: false,
-    }
+    let walked = walk(rule, script, t, start, n, docs, values, documents, scores);
+    after_walk(file, x, postings, n, walked, docs)
 }

@@ -1,4 +1,5 @@
 // `block_wand_single_scorer`: block by block from the list's first posting to the end, or to a report that has no row.
+use crate::block::Scanned;
 use crate::block::scan_block;
 use bm25::Bm25Weight;
 use bm25::Scoring;
@@ -7,11 +8,12 @@ use notefile::part::Part;
 use postings::cursor::SegmentPostings;
 use rule::Rule;
 use rule::Threshold;
+ghost use mathlib.Core.Path.{_≡_};
 ghost use Prim.Native.Nat.{ℕ};
 ghost use Rattle.rule.specs.Follows.{Keeps};
 ghost use Rattle.reports.specs.Runs.{Ran};
 ghost use Rattle.block_wand_single.specs.Scans.{TermIn, singleRoute, placeOf};
-ghost use Rattle.block_wand_single.specs.Blocks.{endPhase};
+ghost use Rattle.block_wand_single.specs.Stops.{endPhase, runOf};
 
 // What a run leaves beside its rows: whether they were full when a report was due, how many are written, and where it stopped.
 pub struct SingleRun {
@@ -19,6 +21,21 @@ pub struct SingleRun {
     pub count: usize,
     pub postings: SegmentPostings,
     pub doc: u32,
+}
+
+// The run as it stopped.
+fn stopped(last: Scanned) -> SingleRun
+    ensures { λ r. ⌜ r ≡ runOf last ⌝ }
+{
+    let scan = last.scan;
+    let threshold = last.threshold;
+    let postings = scan.postings;
+    SingleRun {
+        full: last.full,
+        count: threshold.reports,
+        postings,
+        doc: scan.doc,
+    }
 }
 
 pub fn block_wand_single_scorer(
@@ -60,24 +77,14 @@ pub fn block_wand_single_scorer(
             scores,
         );
         let scan = next.scan;
+        if next.full {
+            return stopped(next);
+        }
+        if scan.over {
+            return stopped(next);
+        }
         threshold = next.threshold;
         postings = scan.postings;
         doc = scan.doc;
-        if next.full {
-            return SingleRun {
-                full: true,
-                count: threshold.reports,
-                postings,
-                doc,
-            };
-        }
-        if scan.over {
-            return SingleRun {
-                full: false,
-                count: threshold.reports,
-                postings,
-                doc,
-            };
-        }
     }
 }

@@ -1,5 +1,5 @@
 -- `block::scan_block` meets its contract: into the block, over it posting by posting, and out of it.
-use Rattle.block_wand_single.proofs.OneBlock.{walk-room, due-place, scanned-over, scanned-full, scanned-on}
+use Rattle.block_wand_single.proofs.OneBlock.{walk-room, due-place, scanned-over, scanned}
 use borrow.Author.Needs.{needs}
 use native.Mathlib.Omega.{arith}
 use borrow.Author.Needs.{needs}
@@ -26,17 +26,14 @@ walk-requires c κs =
     let r = walk-room (a .pre .0 .list) _ (a .args .rule) (a .args .script .now) (a .args .t) _ (a .args .documents .now) (a .args .scores .now) (a .pre .4) (p .approach .ensures) (e .if1 .left) (l .block-len .ensures) in
     (a .pre .1, r .0, r .1, a .pre .2)
 
-mul-t32 : tie.Need-mul-t32
-mul-t32 c = search needs
-
-element-copy-out-t35 : tie.Need-element-copy-out-t35
-element-copy-out-t35 c =
-    let w = c .before .before .before .before .before .before in
+after-walk-requires : tie.Need-after-walk-requires
+after-walk-requires c κs =
+    let w = c .before .before .before .before .before in
     let l = w .before .before .before .before .before in
     let e = l .before .before in
     let p = e .before in
     let a = p .before .before .before .before .before .before .before .before in
-    due-place (a .pre .0 .list) _ (a .args .rule) (a .args .script .now) (a .args .t) _ (a .args .documents .now) (a .args .scores .now) (a .pre .4) (p .approach .ensures) (e .if1 .left) (l .block-len .ensures) (w .walk .ensures) (c .if2 .taken)
+    (a .pre .0 .list, p .approach .ensures .placed .stands, p .approach .ensures .placed .low, due-place (a .pre .0 .list) _ (a .args .rule) (a .args .script .now) (a .args .t) _ (a .args .documents .now) (a .args .scores .now) (a .pre .4) (p .approach .ensures) (e .if1 .left) (l .block-len .ensures) (w .walk .ensures))
 
 same-length : tie.Need-same-length
 same-length c = search needs
@@ -46,34 +43,12 @@ same-length-2 c = search needs
 
 returns-2 : tie.Need-returns-2
 returns-2 c =
-    let w = c .before .before .before .before .before .before .before in
-    let l = w .before .before .before .before .before in
-    let e = l .before .before in
-    let p = e .before in
-    let a = p .before .before .before .before .before .before .before .before in
-    scanned-full (a .pre .0 .list) _ (a .args .rule) (a .args .script .now) (a .args .t) _ (a .args .documents .now) (a .args .scores .now) (a .pre .4) (p .approach .ensures) (e .if1 .left) (l .block-len .ensures) (w .walk .ensures) (c .before .if2 .taken)
-
-leave-requires : tie.Need-leave-requires
-leave-requires c κs =
     let w = c .before .before .before .before .before .before in
-    let p = w .before .before .before .before .before .before .before .before in
-    let a = p .before .before .before .before .before .before .before .before in
-    (a .pre .0 .list, p .approach .ensures .placed .stands, p .approach .ensures .placed .low)
-
-same-length-3 : tie.Need-same-length-3
-same-length-3 c = search needs
-
-same-length-4 : tie.Need-same-length-4
-same-length-4 c = search needs
-
-returns-3 : tie.Need-returns-3
-returns-3 c =
-    let w = c .before .before .before .before .before .before .before in
     let l = w .before .before .before .before .before in
     let e = l .before .before in
     let p = e .before in
     let a = p .before .before .before .before .before .before .before .before in
-    scanned-on (a .pre .0 .list) _ (a .args .rule) (a .args .script .now) (a .args .t) _ (a .args .documents .now) (a .args .scores .now) (a .pre .4) (p .approach .ensures) (e .if1 .left) (l .block-len .ensures) (w .walk .ensures) (c .before .if2 .left) _ (c .leave .ensures)
+    scanned (a .pre .0 .list) _ (a .args .rule) (a .args .script .now) (a .args .t) _ (a .args .documents .now) (a .args .scores .now) (a .pre .4) (p .approach .ensures) (e .if1 .left) (l .block-len .ensures) (w .walk .ensures) _ (c .after-walk .ensures)
 
 pub scan-block-spec : {M : Type 1} → statement M
 scan-block-spec =
@@ -83,12 +58,7 @@ scan-block-spec =
     returns
     block-len-requires
     walk-requires
-    mul-t32
-    element-copy-out-t35
+    after-walk-requires
     same-length
     same-length-2
-    returns-2
-    leave-requires
-    same-length-3
-    same-length-4
-    returns-3)
+    returns-2)

@@ -35,59 +35,67 @@ scan-block-requires c κs =
     let z = a .before .before .before .before .before .before .before .before .before .before .before in
     (z .pre .0, z .pre .1, has-begun (z .pre .0 .list) _ _ _ (a .loop .inv), a .loop .inv .placed, hunting (z .pre .0 .list) _ _ _ (a .loop .inv))
 
+stopped-requires : tie.Need-stopped-requires Inv-loop μ-loop
+stopped-requires c κs = search needs
+
 same-length : tie.Need-same-length Inv-loop μ-loop
 same-length c =
-    let b = c .before .before .before .before .before .before .before .before in
+    let b = c .before .before .before .before .before .before .before in
     let a = b .before .before .before .before .before .before in
     let z = a .before .before .before .before .before .before .before .before .before .before .before in
     same-long (z .pre .0 .list) _ _ _ (a .loop .inv) (b .scan-block .ensures) .0
 
 same-length-2 : tie.Need-same-length-2 Inv-loop μ-loop
 same-length-2 c =
-    let b = c .before .before .before .before .before .before .before .before in
+    let b = c .before .before .before .before .before .before .before in
     let a = b .before .before .before .before .before .before in
     let z = a .before .before .before .before .before .before .before .before .before .before .before in
     same-long (z .pre .0 .list) _ _ _ (a .loop .inv) (b .scan-block .ensures) .1
 
 returns : tie.Need-returns Inv-loop μ-loop
 returns c =
-    let b = c .before .before .before .before .before .before .before .before in
+    let b = c .before .before .before .before .before .before .before in
     let a = b .before .before .before .before .before .before in
     let z = a .before .before .before .before .before .before .before .before .before .before .before in
-    ran-full (z .pre .0 .list) _ _ _ (a .loop .inv) (b .scan-block .ensures) (c .if1 .taken)
+    ran-full (z .pre .0 .list) _ _ _ (a .loop .inv) (b .scan-block .ensures) (c .before .if1 .taken) _ (c .stopped .ensures)
+
+stopped-requires-2 : tie.Need-stopped-requires-2 Inv-loop μ-loop
+stopped-requires-2 c κs = search needs
 
 same-length-3 : tie.Need-same-length-3 Inv-loop μ-loop
 same-length-3 c =
-    let b = c .before .before .before .before .before .before .before .before .before in
+    let b = c .before .before .before .before .before .before .before .before in
     let a = b .before .before .before .before .before .before in
     let z = a .before .before .before .before .before .before .before .before .before .before .before in
     same-long (z .pre .0 .list) _ _ _ (a .loop .inv) (b .scan-block .ensures) .0
 
 same-length-4 : tie.Need-same-length-4 Inv-loop μ-loop
 same-length-4 c =
-    let b = c .before .before .before .before .before .before .before .before .before in
+    let b = c .before .before .before .before .before .before .before .before in
     let a = b .before .before .before .before .before .before in
     let z = a .before .before .before .before .before .before .before .before .before .before .before in
     same-long (z .pre .0 .list) _ _ _ (a .loop .inv) (b .scan-block .ensures) .1
 
 returns-2 : tie.Need-returns-2 Inv-loop μ-loop
 returns-2 c =
-    let b = c .before .before .before .before .before .before .before .before .before in
+    let b = c .before .before .before .before .before .before .before .before in
     let a = b .before .before .before .before .before .before in
     let z = a .before .before .before .before .before .before .before .before .before .before .before in
-    ran-over (z .pre .0 .list) _ _ _ (a .loop .inv) (b .scan-block .ensures) (c .before .if1 .left) (c .if2 .taken)
+    ran-over (z .pre .0 .list) _ _ _ (a .loop .inv) (b .scan-block .ensures) (c .before .before .if1 .left) (c .before .if2 .taken) _ (c .stopped2 .ensures)
 
 loop-less : tie.Need-loop-less Inv-loop μ-loop
 loop-less c =
-    let b = c .before .before .before .before .before .before .before .before .before in
-    b .scan-block .ensures .nearer (c .before .if1 .left) (c .if2 .left)
+    let e = c .before .before in
+    let b = e .before .before .before .before .before .before .before in
+    b .scan-block .ensures .nearer (e .before .if1 .left) (e .if2 .left)
 
 loop-again : tie.Need-loop-again Inv-loop μ-loop
 loop-again c =
-    let b = c .before .before .before .before .before .before .before .before .before in
+    let e = c .before .before in
+    let b = e .before .before .before .before .before .before .before in
     let a = b .before .before .before .before .before .before in
     let z = a .before .before .before .before .before .before .before .before .before .before .before in
-    running-on (z .pre .0 .list) _ _ _ (a .loop .inv) (b .scan-block .ensures) (c .before .if1 .left) (c .if2 .left)
+    running-on (z .pre .0 .list) _ _ _ (a .loop .inv) (b .scan-block .ensures) (e .before .if1 .left) (e .if2 .left)
 
 pub block-wand-single-scorer-spec : {M : Type 1} → statement M
 block-wand-single-scorer-spec =
@@ -100,9 +108,11 @@ block-wand-single-scorer-spec =
     new-requires
     loop-holds
     scan-block-requires
+    stopped-requires
     same-length
     same-length-2
     returns
+    stopped-requires-2
     same-length-3
     same-length-4
     returns-2
