@@ -113,30 +113,19 @@ pub fn scan_block(
     rule: Rule,
     script: &[f32],
     t: Threshold,
-    from: SegmentPostings,
-    from_doc: u32,
+    p: SegmentPostings,
+    d: u32,
     docs: &mut [u32; 128],
     freqs: &mut [u32; 128],
     values: &mut [f32; 128],
     documents: &mut [u32],
     scores: &mut [f32],
 ) -> Scanned
-    requires { ⌜ TermIn (now file) norms x w × Keeps rule × Begun rule (now script) t (now documents) (now scores) × Placed (now file) x from (now docs) (now freqs) × SingleKept 128 (listOf scoring (now file) x) hunt (cursorOf from) «from_doc» ⌝ }
-    ensures { λ r. ⌜ ScansBlock (now (file .entry)) x scoring rule (now (script .entry)) t from «from_doc» (now (documents .entry)) (now (scores .entry)) r (now (docs .exit)) (now (freqs .exit)) (now (documents .exit)) (now (scores .exit)) ⌝ }
+    requires { ⌜ TermIn (now file) norms x w × Keeps rule × Begun rule (now script) t (now documents) (now scores) × Placed (now file) x p (now docs) (now freqs) × SingleKept 128 (listOf scoring (now file) x) hunt (cursorOf p) d ⌝ }
+    ensures { λ r. ⌜ ScansBlock (now (file .entry)) x scoring rule (now (script .entry)) t p d (now (documents .entry)) (now (scores .entry)) r (now (docs .exit)) (now (freqs .exit)) (now (documents .exit)) (now (scores .exit)) ⌝ }
 {
-    let scan = approach(
-        file,
-        norms,
-        x,
-        w,
-        scoring,
-        t.now,
-        from,
-        from_doc,
-        docs,
-        freqs,
-        values,
-    );
+    let now = t.now;
+    let scan = approach(file, norms, x, w, scoring, now, p, d, docs, freqs, values);
     if scan.over {
         return Scanned {
             scan,

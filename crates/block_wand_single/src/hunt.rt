@@ -87,28 +87,17 @@ pub fn approach(
     x: Part,
     w: Bm25Weight,
     scoring: Scoring,
-    threshold: f32,
-    from: SegmentPostings,
-    from_doc: u32,
+    t: f32,
+    p: SegmentPostings,
+    d: u32,
     docs: &mut [u32; 128],
     freqs: &mut [u32; 128],
     values: &mut [f32; 128],
 ) -> Scan
-    requires { ⌜ TermIn (now file) norms x w × Placed (now file) x from (now docs) (now freqs) × SingleKept 128 (listOf scoring (now file) x) hunt (cursorOf from) «from_doc» ⌝ }
-    ensures { λ r. ⌜ Approached (now (file .entry)) x scoring threshold from «from_doc» r (now (docs .exit)) (now (freqs .exit)) (now (values .exit)) ⌝ }
+    requires { ⌜ TermIn (now file) norms x w × Placed (now file) x p (now docs) (now freqs) × SingleKept 128 (listOf scoring (now file) x) hunt (cursorOf p) d ⌝ }
+    ensures { λ r. ⌜ Approached (now (file .entry)) x scoring t p d r (now (docs .exit)) (now (freqs .exit)) (now (values .exit)) ⌝ }
 {
-    let found = hunt(
-        file,
-        norms,
-        x,
-        w,
-        scoring,
-        threshold,
-        from,
-        from_doc,
-        docs,
-        freqs,
-    );
+    let found = hunt(file, norms, x, w, scoring, t, p, d, docs, freqs);
     if found.over {
         return found;
     }

@@ -62,15 +62,9 @@ pub fn walk(
                 full: true,
             };
         }
-        threshold = report(
-            rule,
-            script,
-            threshold,
-            docs[place],
-            values[place],
-            documents,
-            scores,
-        );
+        let doc = docs[place];
+        let score = values[place];
+        threshold = report(rule, script, threshold, doc, score, documents, scores);
         i = place + 1;
     }
 }

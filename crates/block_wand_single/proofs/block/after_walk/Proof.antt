@@ -1,6 +1,5 @@
 -- `block::after_walk` meets its contract: its test is the definition's.
 use mathlib.Core.Path.{refl}
-use borrow.Author.Needs.{needs}
 use native.Mathlib.Omega.{arith}
 use borrow.Author.Needs.{needs}
 use Rattle.block_wand_single.proofs.block.after_walk.Statement.{statement}

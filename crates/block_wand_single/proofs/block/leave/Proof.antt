@@ -1,9 +1,8 @@
 -- `block::leave` meets its contract: its test is the definition's.
-use Rattle.bm25.specs.declared.Scoring.the-variants.{Unstepped}
-use Rattle.block_wand_single.proofs.Hunting.{last-small}
-use borrow.Author.Needs.{needs}
 use native.Mathlib.Omega.{arith}
 use borrow.Author.Needs.{needs}
+use Rattle.bm25.specs.declared.Scoring.the-variants.{Unstepped}
+use Rattle.block_wand_single.proofs.Hunting.{last-small}
 use Rattle.block_wand_single.proofs.block.leave.Statement.{statement}
 use Rattle.block_wand_single.proofs.block.leave.Tie as tie
 

@@ -1,7 +1,7 @@
 -- `walk::first_above` meets its contract: no score that the loop has passed is above the threshold.
 use Prim.Native.Nat.{_-_}
-use borrow.Author.Needs.{needs}
 use native.Mathlib.Omega.{arith}
+use borrow.Author.Needs.{needs}
 use Rattle.block_wand_single.proofs.Walking.{Seeking, seeking-begun, seeking-on, first-found, none-found}
 use Rattle.block_wand_single.proofs.walk.first_above.Statement.{statement}
 use Rattle.block_wand_single.proofs.walk.first_above.Tie as tie

@@ -1,10 +1,10 @@
 -- `walk::walk` meets its contract: each turn goes on to the next posting above the threshold, and reports it if there is a row.
 use mathlib.Core.Path.{sym, _∙_}
 use Prim.Native.Nat.{_-_}
+use native.Mathlib.Omega.{arith}
+use borrow.Author.Needs.{needs}
 use Rattle.route.proofs.Cases.{lt-of-ne}
 use Rattle.block_wand_single.proofs.Walking.{Reporting, reporting-begun, reporting-reaches, reporting-reports, has-row, walk-ends, walk-full}
-use borrow.Author.Needs.{needs}
-use native.Mathlib.Omega.{arith}
 use Rattle.block_wand_single.proofs.walk.walk.Statement.{statement}
 use Rattle.block_wand_single.proofs.walk.walk.Tie as tie
 
@@ -45,17 +45,17 @@ returns-2 c =
     walk-full _ _ _ _ _ _ _ _ _ R (c .before .before .if1 .left)
     (f .first-above .ensures .due (lt-of-ne (R .within) (c .before .before .if1 .left))) (c .if2 .taken ∙ f .before .before .rows .ensures)
 
-mul-report : tie.Need-mul-report Inv-loop μ-loop
-mul-report c = search needs
+mul-doc : tie.Need-mul-doc Inv-loop μ-loop
+mul-doc c = search needs
 
-element-copy-out-report : tie.Need-element-copy-out-report Inv-loop μ-loop
-element-copy-out-report c = search needs
+element-copy-out-doc : tie.Need-element-copy-out-doc Inv-loop μ-loop
+element-copy-out-doc c = search needs
 
-mul-report-2 : tie.Need-mul-report-2 Inv-loop μ-loop
-mul-report-2 c = search needs
+mul-score : tie.Need-mul-score Inv-loop μ-loop
+mul-score c = search needs
 
-element-copy-out-report-2 : tie.Need-element-copy-out-report-2 Inv-loop μ-loop
-element-copy-out-report-2 c = search needs
+element-copy-out-score : tie.Need-element-copy-out-score Inv-loop μ-loop
+element-copy-out-score c = search needs
 
 report-requires : tie.Need-report-requires Inv-loop μ-loop
 report-requires c κs =
@@ -95,10 +95,10 @@ walk-spec =
     same-length-3
     same-length-4
     returns-2
-    mul-report
-    element-copy-out-report
-    mul-report-2
-    element-copy-out-report-2
+    mul-doc
+    element-copy-out-doc
+    mul-score
+    element-copy-out-score
     report-requires
     add-i
     loop-less
