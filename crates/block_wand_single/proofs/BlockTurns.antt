@@ -1,7 +1,7 @@
 -- The route's turns over one block: a walk from posting to posting, and what stands behind the last.
-use mathlib.Core.Path.{_≡_, refl, sym, ap, _∙_, subst}
+use mathlib.Core.Path.{_≡_, sym, ap, _∙_, subst}
 use mathlib.Core.Bool.{Bool, true, false, cond}
-use mathlib.Core.List.{List, []}
+use mathlib.Core.List.{List}
 use mathlib.Core.Logic.{inl, inr}
 use Prim.Native.Nat.{ℕ, zero, suc, pred, min, _+_, _-_, _≤_, _<_}
 use native.Mathlib.Nat.{add-suc, add-zero}
@@ -14,12 +14,12 @@ use Rattle.arrays.proofs.Order.{lt-or-ge}
 use Rattle.route.specs.F32.{f32}
 use Rattle.route.specs.Report.{Callback, dueAt, reported}
 use Rattle.route.specs.Postings.{Postings, TERMINATED, start, docAt, lastDoc}
-use Rattle.route.specs.Cursor.{Cursor, docHere, advanceIn}
-use Rattle.route.specs.Route.{Route, Run, Turn, after, step}
-use Rattle.route.specs.Single.{Phase, walk, over, SinglePlace, landed, leave, walkTurn, singleTurn}
+use Rattle.route.specs.Cursor.{Cursor, advanceIn}
+use Rattle.route.specs.Route.{Route, Turn, after, step}
+use Rattle.route.specs.Single.{Phase, walk, over, SinglePlace, landed, leave, singleTurn}
 use Rattle.route.proofs.ListLaws.{ListOk}
 use Rattle.route.proofs.Ending.{Nears}
-use Rattle.route.proofs.Places.{start-suc, start-le, docAt-in, docAt-out, docAt-lt, last-in, last-out, last-place, le-last}
+use Rattle.route.proofs.Places.{start-suc, start-le, docAt-in, docAt-out, last-in, last-out, last-place, le-last}
 use Rattle.block_wand_single.specs.Walks.{offered}
 
 -- by what a test shows

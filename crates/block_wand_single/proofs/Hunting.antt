@@ -13,7 +13,7 @@ use Rattle.notefile.specs.Header.{documents}
 use Rattle.notefile.specs.declared.part.Part.{Part}
 use Rattle.route.specs.F32.{f32}
 use Rattle.route.specs.Postings.{Postings, TERMINATED, lastDoc}
-use Rattle.route.specs.Cursor.{Cursor, docHere, seekBlockIn, seekIn, blockMax}
+use Rattle.route.specs.Cursor.{Cursor, seekBlockIn, seekIn, blockMax}
 use Rattle.route.specs.Route.{Turn, quiet}
 use Rattle.route.specs.Single.{Phase, hunt, walk, over, SinglePlace, landed, huntTurn}
 use Rattle.route.proofs.ListLaws.{ListOk}
@@ -27,9 +27,9 @@ use Rattle.postings.specs.Reader.{Stands}
 use Rattle.postings.specs.Places.{cursorOf, Placed, Moved, Shallow, Here}
 use Rattle.postings.specs.declared.cursor.SegmentPostings.{SegmentPostings}
 use Rattle.postings.proofs.Moves.{end-here}
-use Rattle.reports.specs.Runs.{Quietly, stays, goes}
+use Rattle.reports.specs.Runs.{goes}
 use Rattle.reports.proofs.RunLaws.{quietly-near}
-use Rattle.block_wand_single.specs.Scans.{TermIn, placeOf, singleRoute, QuietTurns, Scores, Hunted, Approached}
+use Rattle.block_wand_single.specs.Scans.{placeOf, singleRoute, QuietTurns, Scores, Hunted, Approached}
 use Rattle.block_wand_single.specs.declared.hunt.Scan.{Scan}
 
 -- a turn of the hunt by what its tests show

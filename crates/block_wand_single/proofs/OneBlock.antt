@@ -2,7 +2,6 @@
 use mathlib.Core.Path.{_≡_, refl, sym, ap, _∙_, subst}
 use mathlib.Core.Bool.{Bool, true, false, cond, true≢false}
 use mathlib.Core.List.{List, []}
-use mathlib.Core.Option.{Option, none, some}
 use Prim.Native.Nat.{ℕ, suc, min, _+_, _≤_, _<_}
 use native.Mathlib.Omega.{arith}
 use lib.ListN.{getD}
@@ -12,8 +11,8 @@ use Rattle.notefile.specs.declared.part.Part.{Part}
 use Rattle.route.specs.F32.{f32}
 use Rattle.route.specs.Report.{Report, dueAt}
 use Rattle.route.specs.Postings.{Postings}
-use Rattle.route.specs.Route.{Route, Run, Turn}
-use Rattle.route.specs.Single.{Phase, hunt, walk, over, SinglePlace, isOver, singleTurn}
+use Rattle.route.specs.Route.{Run, Turn}
+use Rattle.route.specs.Single.{hunt, walk, over, SinglePlace, isOver, singleTurn}
 use Rattle.route.proofs.SingleEnds.{SingleKept, singleCost}
 use Rattle.decoded.specs.Lists.{listOf}
 use Rattle.postings.specs.Decoded.{ListIn}
@@ -22,7 +21,7 @@ use Rattle.postings.specs.declared.cursor.SegmentPostings.{SegmentPostings}
 use Rattle.rule.specs.declared.Rule.{Rule}
 use Rattle.rule.specs.declared.Threshold.{Threshold}
 use Rattle.reports.specs.Rows.{rowsOf, Kept}
-use Rattle.reports.specs.Runs.{callbackOf, runAfter, Going}
+use Rattle.reports.specs.Runs.{callbackOf, Going}
 use Rattle.reports.proofs.RunLaws.{quietly-near, run-quietly}
 use Rattle.block_wand_single.specs.Walks.{Walks, WalkStopped}
 use Rattle.block_wand_single.specs.Scans.{singleRoute, placeOf, QuietTurns, Approached}

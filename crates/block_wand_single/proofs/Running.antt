@@ -1,9 +1,8 @@
 -- The run: it begins at the route's first place, goes on block by block, and stops where the route's run does.
 use mathlib.Core.Path.{_≡_, refl, sym, ap, _∙_, subst}
-use mathlib.Core.Bool.{Bool, true, false, cond}
+use mathlib.Core.Bool.{Bool, true, false}
 use mathlib.Core.List.{List, []}
-use mathlib.Core.Option.{some}
-use Prim.Native.Nat.{ℕ, _≤_}
+use Prim.Native.Nat.{ℕ}
 use native.Mathlib.Omega.{arith}
 use lib.ListN.{length}
 use lib.Ieee.{Float}
@@ -12,7 +11,7 @@ use Rattle.notefile.specs.declared.part.Part.{Part}
 use Rattle.route.specs.F32.{f32}
 use Rattle.route.specs.Rule.{scores as scoresOf}
 use Rattle.route.specs.Cursor.{Cursor, docHere, fresh}
-use Rattle.route.specs.Single.{hunt, walk, over}
+use Rattle.route.specs.Single.{hunt, over}
 use Rattle.route.proofs.SingleEnds.{SingleKept, single-stays}
 use Rattle.decoded.specs.Lists.{listOf}
 use Rattle.postings.specs.Decoded.{ListIn}

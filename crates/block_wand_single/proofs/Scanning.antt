@@ -1,5 +1,5 @@
 -- One block of a scan: its decoded documents and scores are the route's, so the walk over them is the route's, and so is the way out of it.
-use mathlib.Core.Path.{_≡_, refl, sym, ap, _∙_, subst}
+use mathlib.Core.Path.{_≡_, sym, ap, _∙_, subst}
 use mathlib.Core.Bool.{Bool, true, false, cond}
 use mathlib.Core.List.{List}
 use mathlib.Core.Logic.{inl, inr}
@@ -18,12 +18,11 @@ use Rattle.route.specs.Report.{dueAt}
 use Rattle.route.specs.Postings.{Postings, TERMINATED, start, docAt, lastDoc}
 use Rattle.route.specs.Cursor.{Cursor, seekBlockIn}
 use Rattle.route.specs.Single.{hunt, walk, over, SinglePlace, singleTurn}
-use Rattle.route.proofs.Places.{docAt-lt, last-cap, last-in, last-out, last-place}
+use Rattle.route.proofs.Places.{docAt-lt, last-in, last-out, last-place}
 use Rattle.route.proofs.Cursor.{on-block}
 use Rattle.route.proofs.SingleEnds.{SingleKept}
 use Rattle.decoded.specs.Lists.{listOf}
 use Rattle.postings.specs.Decoded.{ListIn, doc-is}
-use Rattle.postings.specs.Reader.{remaining}
 use Rattle.postings.specs.Places.{Placed, cursorOf}
 use Rattle.postings.specs.declared.cursor.SegmentPostings.{SegmentPostings}
 use Rattle.postings.proofs.Readers.{left-is}

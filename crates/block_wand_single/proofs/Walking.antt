@@ -1,25 +1,22 @@
 -- The two loops of a walk: over scores to the first above the threshold, and over reports.
 use mathlib.Core.Path.{_≡_, refl, sym, ap, _∙_, subst}
-use mathlib.Core.Bool.{Bool, true, false, cond}
+use mathlib.Core.Bool.{true, false}
 use mathlib.Core.List.{List, [], _∷_, _++_}
 use mathlib.Core.Logic.{inl, inr}
 use Prim.Native.Nat.{ℕ, zero, suc, _+_, _-_, _≤_, _<_}
 use native.Mathlib.Nat.{add-suc, add-zero}
-use native.Mathlib.Numerals.{add-one}
 use native.Mathlib.Omega.{arith}
 use lib.ListN.{length, getD, length-set, length-append}
 use lib.Ieee.{Float, nan, lt}
 use Rattle.arrays.proofs.Order.{lt-or-ge}
 use Rattle.route.proofs.Cases.{lt-of-ne}
-use Rattle.route.specs.F32.{f32}
-use Rattle.route.specs.Report.{Report, reported, dueAt}
+use Rattle.route.specs.Report.{Report}
 use Rattle.rule.specs.declared.Rule.{Rule}
 use Rattle.rule.specs.declared.Threshold.{Threshold}
 use Rattle.reports.specs.Rows.{rowsOf, Kept, Reported}
 use Rattle.reports.specs.Runs.{callbackOf}
 use Rattle.reports.proofs.RowLaws.{threshold-is, one-more, documents-long as same-documents, scores-long as same-scores}
 use Rattle.block_wand_single.specs.Walks.{FirstAbove, Begun, offered, Walks}
-use Rattle.block_wand_single.specs.declared.walk.Walked.{Walked}
 
 -- ---- the first score above
 

@@ -6,7 +6,6 @@ use notefile::block::TERMINATED;
 use notefile::part::Part;
 use postings::bound::block_max_score;
 use postings::cursor::SegmentPostings;
-ghost use mathlib.Core.Path.{_≡_};
 ghost use Rattle.route.specs.Single.{hunt};
 ghost use Rattle.route.proofs.SingleEnds.{SingleKept};
 ghost use Rattle.decoded.specs.Lists.{listOf};

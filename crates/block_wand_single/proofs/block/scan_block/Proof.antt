@@ -1,5 +1,4 @@
 -- `block::scan_block` meets its contract: into the block, over it posting by posting, and out of it.
-use native.Mathlib.Omega.{arith}
 use borrow.Author.Needs.{needs}
 use Rattle.block_wand_single.proofs.OneBlock.{walk-room, due-place, scanned-over, scanned}
 use Rattle.block_wand_single.proofs.block.scan_block.Statement.{statement}

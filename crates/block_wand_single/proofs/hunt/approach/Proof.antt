@@ -1,5 +1,4 @@
 -- `hunt::approach` meets its contract: the hunt, and one quiet turn more into the block that it found.
-use native.Mathlib.Omega.{arith}
 use borrow.Author.Needs.{needs}
 use Rattle.block_wand_single.proofs.Hunting.{target-small, approach-over, approach-ended, approach-lands}
 use Rattle.block_wand_single.proofs.hunt.approach.Statement.{statement}

@@ -1,6 +1,5 @@
 -- `hunt::hunt` meets its contract: each block that it leaves out is a quiet turn of the route.
 use native.Mathlib.Omega.{arith}
-use borrow.Author.Needs.{needs}
 use Rattle.route.specs.Single.{hunt}
 use Rattle.route.proofs.SingleEnds.{singleCost}
 use Rattle.decoded.specs.Lists.{listOf}

@@ -1,5 +1,4 @@
 -- `hunt::score_postings` meets its contract: norm codes and frequencies are those of the decoded block.
-use native.Mathlib.Omega.{arith}
 use borrow.Author.Needs.{needs}
 use Rattle.postings.proofs.BlockBounds.{score-is}
 use Rattle.block_wand_single.proofs.hunt.score_postings.Statement.{statement}

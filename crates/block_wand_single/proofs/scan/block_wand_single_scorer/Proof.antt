@@ -1,5 +1,4 @@
 -- `scan::block_wand_single_scorer` meets its contract: it starts on the route's first place, and each block takes it along the route.
-use native.Mathlib.Omega.{arith}
 use borrow.Author.Needs.{needs}
 use Rattle.route.specs.Single.{hunt}
 use Rattle.route.proofs.SingleEnds.{singleCost}

@@ -1,7 +1,6 @@
 -- `walk::walk` meets its contract: each turn goes on to the next posting above the threshold, and reports it if there is a row.
 use mathlib.Core.Path.{sym, _∙_}
 use Prim.Native.Nat.{_-_}
-use native.Mathlib.Omega.{arith}
 use borrow.Author.Needs.{needs}
 use Rattle.route.proofs.Cases.{lt-of-ne}
 use Rattle.block_wand_single.proofs.Walking.{Reporting, reporting-begun, reporting-reaches, reporting-reports, has-row, walk-ends, walk-full}
