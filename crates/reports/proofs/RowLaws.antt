@@ -1,7 +1,7 @@
 -- Rows: none written, one more, and what is read back from them.
 use mathlib.Core.Path.{_≡_, refl, sym, ap, _∙_}
 use mathlib.Core.List.{List, [], _∷_, _++_, map}
-use Prim.Native.Nat.{ℕ, suc, _+_, _<_}
+use Prim.Native.Nat.{ℕ, suc, _<_}
 use native.Mathlib.Omega.{arith}
 use lib.ListN.{length, getD, drop, set, take, length-append, length-map, length-drop}
 use lib.Seq.{drop-cons, set-at, take-at, append-snoc}

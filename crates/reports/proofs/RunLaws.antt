@@ -23,6 +23,16 @@ use Rattle.reports.specs.Rows.{rowsOf, Reported}
 use Rattle.reports.specs.Runs.{callbackOf, runAfter, Quietly, stays, goes, Going, Ran, outcomeOf}
 use Rattle.reports.proofs.RowLaws.{begun, threshold-is, count-is, one-more}
 
+-- quiet turns keep what a route keeps, and bring it no farther from its end
+module _ (W : Route Float) {Kept : W .Place → Type 0} {cost : W .Place → ℕ} (N : Nears W Kept cost) where
+  pub quietly-near : {t : Float} {p q : W .Place} → Kept p → Quietly (W .turn) (W .ended) t p q → Kept q × (cost q ≤ cost p)
+  quietly-near k stays = (k, le-refl _)
+  quietly-near {t} {p} k (goes {q = q} {r = r} s e f) =
+      let z = quietly-near k s in
+      let n = N .nears t q e (z .0) in
+      let m = ap (λ (v : Turn (W .Place) Float). v .next) f in
+      (subst Kept m (n .0), subst (λ (v : W .Place). cost v ≤ cost p) m (omega (arith, n .1, z .1)))
+
 module _ (W : Route Float) (rule : Rule) (script : List Float) (documents₀ : List ℕ) (scores₀ : List Float) where
   -- no step yet
   pub run-begun : {t : Threshold} → Follows rule script [] t → Going W rule script documents₀ scores₀ t documents₀ scores₀ (W .first)
@@ -91,15 +101,6 @@ module _ (W : Route Float) (rule : Rule) (script : List Float) (documents₀ : L
             let u = runAfter W rule script n in
             let h = callbackOf rule script .threshold (u .state) in
             on-test (W .ended (u .place)) (λ e. subst Kept (sym (ap (λ (z : Turn (W .Place) Float). z .next) (still h (u .place) e))) (always n)) (λ e. N .nears h (u .place) e (always n) .0)
-
-    -- and quiet turns bring it no farther from the end
-    pub quietly-near : {t : Float} {p q : W .Place} → Kept p → Quietly (W .turn) (W .ended) t p q → Kept q × (cost q ≤ cost p)
-    quietly-near k stays = (k, le-refl _)
-    quietly-near {t} {p} k (goes {q = q} {r = r} s e f) =
-        let z = quietly-near k s in
-        let n = N .nears t q e (z .0) in
-        let m = ap (λ (v : Turn (W .Place) Float). v .next) f in
-        (subst Kept m (n .0), subst (λ (v : W .Place). cost v ≤ cost p) m (omega (arith, n .1, z .1)))
 
   -- ---- what a run leaves
 

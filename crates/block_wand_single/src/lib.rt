@@ -1,0 +1,5 @@
+// The single-term scan: a block whose bound is not above the threshold is left out, every other one is walked.
+mod block;
+mod hunt;
+pub mod scan;
+mod walk;

@@ -1,0 +1,90 @@
+// `block_wand_single_scorer`: block by block from the list's first posting to the end, or to a report that has no row.
+use crate::block::Scanned;
+use crate::block::scan_block;
+use bm25::Bm25Weight;
+use bm25::Scoring;
+use fieldnorm::FieldNormReader;
+use notefile::part::Part;
+use postings::cursor::SegmentPostings;
+use rule::Rule;
+use rule::Threshold;
+ghost use mathlib.Core.Path.{_≡_};
+ghost use Prim.Native.Nat.{ℕ};
+ghost use Rattle.rule.specs.Follows.{Keeps};
+ghost use Rattle.reports.specs.Runs.{Ran};
+ghost use Rattle.block_wand_single.specs.Scans.{TermIn, singleRoute, placeOf};
+ghost use Rattle.block_wand_single.specs.Stops.{endPhase, runOf};
+
+// What a run leaves beside its rows: whether they were full when a report was due, how many are written, and where it stopped.
+pub struct SingleRun {
+    pub full: bool,
+    pub count: usize,
+    pub postings: SegmentPostings,
+    pub doc: u32,
+}
+
+// The run as it stopped.
+fn stopped(last: Scanned) -> SingleRun
+    ensures { λ r. ⌜ r ≡ runOf last ⌝ }
+{
+    let scan = last.scan;
+    let threshold = last.threshold;
+    let postings = scan.postings;
+    SingleRun {
+        full: last.full,
+        count: threshold.reports,
+        postings,
+        doc: scan.doc,
+    }
+}
+
+pub fn block_wand_single_scorer(
+    file: &[u8],
+    norms: FieldNormReader,
+    x: Part,
+    w: Bm25Weight,
+    scoring: Scoring,
+    rule: Rule,
+    script: &[f32],
+    documents: &mut [u32],
+    scores: &mut [f32],
+) -> SingleRun
+    requires { ⌜ TermIn (now file) norms x w × Keeps rule ⌝ }
+    ensures { λ r. ⌜ ((ord : ℕ) → Ran (singleRoute scoring (now (file .entry)) x ord) rule (now (script .entry)) (now (documents .entry)) (now (scores .entry)) (r .full) (r .count) (now (documents .exit)) (now (scores .exit)) (placeOf (endPhase (r .full)) (r .postings) (r .doc))) ⌝ }
+{
+    let mut docs = [0u32; 128];
+    let mut freqs = [0u32; 128];
+    let mut values = [0.0f32; 128];
+    let mut postings = SegmentPostings::open(file, x, &mut docs, &mut freqs);
+    let mut doc = postings.doc(&docs);
+    let mut threshold = Threshold::new(rule);
+    loop {
+        let next = scan_block(
+            file,
+            norms,
+            x,
+            w,
+            scoring,
+            rule,
+            script,
+            threshold,
+            postings,
+            doc,
+            &mut docs,
+            &mut freqs,
+            &mut values,
+            documents,
+            scores,
+        );
+        let scan = next.scan;
+        if next.full {
+            return stopped(next);
+        }
+        if scan.over {
+            return stopped(next);
+        }
+        threshold = next.threshold;
+        postings = scan.postings;
+        doc = scan.doc;
+    }
+}
