@@ -1,0 +1,96 @@
+-- A run of the route that has returned is what 01's table says.
+use mathlib.Core.Path.{_≡_, refl, sym, ap, _∙_, subst}
+use mathlib.Core.Bool.{Bool, true, false, cond}
+use mathlib.Core.List.{List, [], _∷_}
+use Prim.Native.Nat.{ℕ, zero, suc, _<_}
+use native.Mathlib.Omega.{arith}
+use lib.ListN.{length, getD}
+use lib.Ieee.{Float}
+use Rattle.bm25.specs.declared.Bm25Weight.{Bm25Weight}
+use Rattle.bm25.specs.declared.Scoring.{Scoring}
+use Rattle.notefile.specs.Header.{listCount, documents}
+use Rattle.notefile.specs.Parts.{partOf}
+use Rattle.notefile.specs.Refusal.{fileRefusal}
+use Rattle.notefile.specs.declared.part.Part.{Part}
+use Rattle.notefile.proofs.Accepted.{list-accepted, header-right}
+use Rattle.notefile.proofs.Headers.{few-documents}
+use Rattle.route.specs.Lists.{All}
+use Rattle.route.specs.F32.{f32}
+use Rattle.route.specs.Report.{Report}
+use Rattle.route.specs.Rule as rules
+use Rattle.route.specs.Rule.{limited}
+use Rattle.route.specs.Cursor.{fresh}
+use Rattle.route.specs.Route.{Route, Ends}
+use Rattle.route.specs.Single.{blockWandSingleScorer}
+use Rattle.route.specs.Skipping.{route}
+use Rattle.route.proofs.ListLaws.{ListOk}
+use Rattle.route.proofs.Ending.{Stays}
+use Rattle.route.proofs.Agree.{has-list, route-stays}
+use Rattle.decoded.specs.Lists.{listOf, queried}
+use Rattle.decoded.proofs.AcceptedLists.{list-ok}
+use Rattle.rule.specs.declared.Rule.{Rule}
+use Rattle.reports.specs.Rows.{rowsOf, Written}
+use Rattle.reports.specs.Runs.{callbackOf, runAfter, outcomeOf, Ran}
+use Rattle.reports.proofs.RunLaws.{ran-limited}
+use Rattle.request.specs.Request.{modeOf}
+use Rattle.request.specs.declared.Mode.{Mode}
+use Rattle.block_wand_single.specs.Scans.{singleRoute}
+use Rattle.ranking.specs.Answers.{numberOf, countOf, finished, scorerOf, Answered, Finished, Listed}
+use Rattle.ranking.specs.declared.outcome.Outcome.{Outcome}
+
+number-of : (full : Bool) (count : ℕ) → numberOf (finished full count) ≡ cond full 12 0
+number-of true count = refl
+number-of false count = refl
+
+count-of : (full : Bool) (count : ℕ) → countOf (finished full count) ≡ count
+count-of true count = refl
+count-of false count = refl
+
+-- every list that a query names has the laws that the route's end asks
+all-ok : (scoring : Scoring) (file : List ℕ) → fileRefusal file ≡ 0 → (query : List ℕ) → ((q : ℕ) → q < length query → getD query q 0 < listCount file) → All (ListOk 128 (documents file)) (queried scoring file query)
+unfolding queried
+all-ok scoring file accepted [] named = tt
+all-ok scoring file accepted (l ∷ ls) named =
+    (list-ok scoring file (partOf file l) (list-accepted file accepted l (named 0 (omega arith))) (few-documents file (header-right file accepted)), all-ok scoring file accepted ls (λ q h. named (suc q) (omega arith)))
+
+module _ (W : Route Float) (rule : Rule) (script : List Float) (documents₀ : List ℕ) (scores₀ : List Float) (still : Stays W) (list : List (Report Float)) (e : Ends (callbackOf rule script) W [] list) where
+  -- whatever its rows, a run's outcome is its list's, cut to them
+  finished-answered : {r : Outcome} {documents : List ℕ} {scores : List Float} → Finished W rule script documents₀ scores₀ r documents scores → Answered (limited (rowsOf documents₀ scores₀) list) documents₀ scores₀ r documents scores
+  finished-answered {r} {documents} {scores} F =
+      let R = F .ran in
+      let rs = runAfter W rule script (R .steps) .state in
+      let o : outcomeOf (F .full) rs ≡ limited (rowsOf documents₀ scores₀) list = ran-limited W rule script documents₀ scores₀ still R list e in
+      subst (λ (a : rules.Outcome Float). Answered a documents₀ scores₀ r documents scores) o
+      (record {
+        number-is = ap numberOf (F .outcome-is) ∙ number-of (F .full) (F .count);
+        count-is = ap countOf (F .outcome-is) ∙ count-of (F .full) (F .count) ∙ R .count-is;
+        written = R .written;
+      })
+
+-- a run that was let through, over the route of its query
+pub finished-listed : (file query : List ℕ) (mode : Mode) (scoring : Scoring) (rule : Rule) (script : List Float) → fileRefusal file ≡ 0 → ((q : ℕ) → q < length query → getD query q 0 < listCount file)
+    → {documents₀ : List ℕ} {scores₀ : List Float} {r : Outcome} {documents′ : List ℕ} {scores′ : List Float}
+    → Finished (route 128 f32 (modeOf mode) (queried scoring file query)) rule script documents₀ scores₀ r documents′ scores′
+    → Listed file query mode scoring rule script documents₀ scores₀ r documents′ scores′
+finished-listed file query mode scoring rule script accepted named {documents₀} {scores₀} F =
+    let q = queried scoring file query in
+    let z = has-list 128 f32 (callbackOf rule script) [] (documents file) (modeOf mode) q (all-ok scoring file accepted query named) in
+    record {
+      list = z .0;
+      by-route = z .1;
+      answered = finished-answered (route 128 f32 (modeOf mode) q) rule script documents₀ scores₀ (route-stays 128 f32 (modeOf mode) q) (z .0) (z .1) F;
+    }
+
+-- the single scan over a list's part is the one over the list
+pub single-finished : (file : List ℕ) (l : ℕ) (scoring : Scoring) (rule : Rule) (script : List Float) {x : Part} → x ≡ partOf file l → (ord : ℕ)
+    → {documents₀ : List ℕ} {scores₀ : List Float} {full : Bool} {count : ℕ} {documents′ : List ℕ} {scores′ : List Float} {place : Rattle.route.specs.Single.SinglePlace}
+    → Ran (singleRoute scoring file x ord) rule script documents₀ scores₀ full count documents′ scores′ place
+    → {r : Outcome} → r ≡ finished full count
+    → Finished (blockWandSingleScorer 128 f32 (scorerOf scoring file l ord)) rule script documents₀ scores₀ r documents′ scores′
+single-finished file l scoring rule script {x} e ord {documents₀} {scores₀} {full} {count} {documents′} {scores′} {place} R f = record {
+  full = full;
+  count = count;
+  place = place;
+  outcome-is = f;
+  ran = subst (λ (z : Part). Ran (singleRoute scoring file z ord) rule script documents₀ scores₀ full count documents′ scores′ place) e R;
+}

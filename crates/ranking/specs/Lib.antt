@@ -1,0 +1,3 @@
+-- What the public contracts cite: a run's answer, and demand 3 over the rows of two runs.
+pub mod Answers
+pub mod Rows

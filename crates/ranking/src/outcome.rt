@@ -1,0 +1,20 @@
+// What a run returns.
+ghost use mathlib.Core.Path.{_≡_};
+ghost use Rattle.ranking.specs.Answers.{finished};
+
+// The list is whole, with its length; or a report was due and the rows were full, with their number; or the table's number from 1 to 11.
+pub enum Outcome {
+    Done(usize),
+    Full(usize),
+    Refused(u32),
+}
+
+// The outcome of a run that was let through.
+pub fn finish(full: bool, count: usize) -> Outcome
+    ensures { λ r. ⌜ r ≡ finished full count ⌝ }
+{
+    if full {
+        return Outcome::Full(count);
+    }
+    Outcome::Done(count)
+}
