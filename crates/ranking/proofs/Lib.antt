@@ -1,2 +1,3 @@
 -- Laws of the entry points.
 pub mod Finishing
+pub mod Demand
