@@ -1,15 +1,12 @@
 -- Demand 3 over the rows that any two runs wrote, from their contracts alone.
 use mathlib.Core.Path.{_≡_, refl, sym, ap, _∙_, subst}
-use mathlib.Core.Bool.{true}
 use mathlib.Core.List.{List, [], _∷_, _++_}
-use mathlib.Core.Logic.{_↔_}
 use Prim.Native.Nat.{ℕ, zero, suc, _<_}
 use native.Mathlib.Omega.{arith}
 use lib.ListN.{length, getD, drop}
 use lib.Dec.{T}
-use lib.Ieee.{Float, lt}
+use lib.Ieee.{Float}
 use Rattle.floats.specs.Threshold.{thresholdOk}
-use Rattle.bm25.specs.declared.Scoring.{Scoring}
 use Rattle.bm25.specs.declared.Scoring.the-variants.{Stepped}
 use Rattle.notefile.specs.Header.{listCount, documents}
 use Rattle.route.specs.Lists.{All}
@@ -19,16 +16,16 @@ use Rattle.route.specs.Rule as rules
 use Rattle.route.specs.Rule.{RuleOk, limited, scores}
 use Rattle.route.specs.Plain.{plain}
 use Rattle.decoded.specs.Lists.{Bytes, queried}
-use Rattle.decoded.proofs.Files.{file-demand-3}
+use Rattle.decoded.proofs.Files.{file-plain, file-demand-3}
 use Rattle.rule.specs.Follows.{ruleOf, startOf}
 use Rattle.rule.specs.declared.Rule.{Rule}
 use Rattle.rule.specs.declared.Rule.the-variants.{Script, BestK}
 use Rattle.rule.proofs.RightRules.{rule-ok}
-use Rattle.reports.specs.Rows.{rowsOf, docs, Written}
+use Rattle.reports.specs.Rows.{rowsOf, docs}
 use Rattle.request.specs.Request.{modeOf, refusalOf}
 use Rattle.request.specs.declared.Mode.{Mode}
-use Rattle.request.proofs.Requests.{Let, let-through}
-use Rattle.ranking.specs.Answers.{numberOf, countOf, answer, plainList, Answered, RunIs, PlainIs}
+use Rattle.request.proofs.Requests.{let-through}
+use Rattle.ranking.specs.Answers.{countOf, answer, plainList, Answered, RunIs, PlainIs}
 use Rattle.ranking.specs.Rows.{rowsIn, from, Demand3}
 use Rattle.ranking.specs.declared.outcome.Outcome.{Outcome}
 
@@ -88,3 +85,19 @@ module _ (file query : List ℕ) (bytes : Bytes file) (mode : Mode) (rule : Rule
       let u = rows-are (limited n (R .list)) documents₁ scores₁ r documents₁′ scores₁′ A′ in
       let v = rows-are (limited m (plain f32 (modeOf mode) q (ruleOf rule script) t (documents file))) documents₂ scores₂ p documents₂′ scores₂′ P″ in
       ((λ k. d .0 (sym u ∙ k ∙ v)), (λ k. u ∙ d .1 k ∙ sym v))
+
+-- a refused run has no list
+no-list : (r n : ℕ) (a b : List (Report Float)) → (r ≡ 0 → a ≡ b) → answer r n a ≡ answer r n b
+no-list zero n a b e = ap (limited n) (e refl)
+no-list (suc r) n a b e = refl
+
+-- THE ROWS OF A STEPPED SKIPPING RUN ARE THE PLAIN SCAN'S: all of them with 0, the first n with 12, none with a refusal
+pub run-plain : (file query : List ℕ) → Bytes file → (mode : Mode) (rule : Rule) (script : List Float) {documents₀ : List ℕ} {scores₀ : List Float} {r : Outcome} {documents′ : List ℕ} {scores′ : List Float}
+    → RunIs file query mode Stepped rule script documents₀ scores₀ r documents′ scores′ → PlainIs file query mode Stepped rule script documents₀ scores₀ r documents′ scores′
+run-plain file query bytes mode rule script {documents₀} {scores₀} {r} {documents′} {scores′} R =
+    subst (λ (a : rules.Outcome Float). Answered a documents₀ scores₀ r documents′ scores′)
+    (no-list (refusalOf file query mode Stepped rule script) (rowsOf documents₀ scores₀) (R .list) (plainList file query mode Stepped rule script)
+    (λ e.
+    let L = let-through file query mode Stepped rule script e in
+    file-plain file bytes (L .accepted) query (all-named (listCount file) query (L .named)) (L .few) (modeOf mode) (L .takes) (ruleOf rule script) (startOf rule) (rule-ok rule script (L .rule-right)) (R .list) (R .by-route e)))
+    (R .answered)

@@ -1,12 +1,11 @@
 -- A run of the route that has returned is what 01's table says.
-use mathlib.Core.Path.{_≡_, refl, sym, ap, _∙_, subst}
+use mathlib.Core.Path.{_≡_, refl, ap, _∙_, subst}
 use mathlib.Core.Bool.{Bool, true, false, cond}
 use mathlib.Core.List.{List, [], _∷_}
-use Prim.Native.Nat.{ℕ, zero, suc, _<_}
+use Prim.Native.Nat.{ℕ, suc, _<_}
 use native.Mathlib.Omega.{arith}
 use lib.ListN.{length, getD}
 use lib.Ieee.{Float}
-use Rattle.bm25.specs.declared.Bm25Weight.{Bm25Weight}
 use Rattle.bm25.specs.declared.Scoring.{Scoring}
 use Rattle.notefile.specs.Header.{listCount, documents}
 use Rattle.notefile.specs.Parts.{partOf}
@@ -19,17 +18,16 @@ use Rattle.route.specs.F32.{f32}
 use Rattle.route.specs.Report.{Report}
 use Rattle.route.specs.Rule as rules
 use Rattle.route.specs.Rule.{limited}
-use Rattle.route.specs.Cursor.{fresh}
 use Rattle.route.specs.Route.{Route, Ends}
 use Rattle.route.specs.Single.{blockWandSingleScorer}
 use Rattle.route.specs.Skipping.{route}
 use Rattle.route.proofs.ListLaws.{ListOk}
 use Rattle.route.proofs.Ending.{Stays}
 use Rattle.route.proofs.Agree.{has-list, route-stays}
-use Rattle.decoded.specs.Lists.{listOf, queried}
+use Rattle.decoded.specs.Lists.{queried}
 use Rattle.decoded.proofs.AcceptedLists.{list-ok}
 use Rattle.rule.specs.declared.Rule.{Rule}
-use Rattle.reports.specs.Rows.{rowsOf, Written}
+use Rattle.reports.specs.Rows.{rowsOf}
 use Rattle.reports.specs.Runs.{callbackOf, runAfter, outcomeOf, Ran}
 use Rattle.reports.proofs.RunLaws.{ran-limited}
 use Rattle.request.specs.Request.{modeOf}

@@ -40,4 +40,4 @@ Demand3 file query mode rule script t r documents₁ scores₁ p documents₂ sc
     numberOf r ≡ 0 → numberOf p ≡ 0
     → (rowsIn (countOf r) documents₁ scores₁ ≡ rowsIn (countOf p) documents₂ scores₂)
     ↔ All (λ x. lt (larger f32 (startOf rule) t) (x .score) ≡ true)
-      (scan.plain f32 (modeOf mode) (queried Stepped file query) (ruleOf rule script) (smaller f32 (startOf rule) t) (documents file))
+    (scan.plain f32 (modeOf mode) (queried Stepped file query) (ruleOf rule script) (smaller f32 (startOf rule) t) (documents file))

@@ -34,16 +34,6 @@ fn run_single(
     let norms = norm_reader(file, h);
     let x = read_part(file, h, l);
     let w = Bm25Weight::new(f32::from_bits(x.weight), f32::from_bits(x.average));
-    let r = block_wand_single_scorer(
-        file,
-        norms,
-        x,
-        w,
-        scoring,
-        rule,
-        script,
-        documents,
-        scores,
-    );
+    let r = block_wand_single_scorer(file, norms, x, w, scoring, rule, script, documents, scores);
     finish(r.full, r.count)
 }

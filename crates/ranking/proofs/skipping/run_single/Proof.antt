@@ -37,8 +37,7 @@ block-wand-single-scorer-requires c κs =
     let n = c .before .before in
     let r = n .before .before .before in
     let k = r .before in
-    let a = k .before .before .before .before .before in
-    (
+    let a = k .before .before .before .before .before in (
       record {
         list = subst (ListIn (a .args .file .now)) (sym (r .read-part .ensures)) (list-in (a .args .file .now) (a .pre .0) (a .args .l) (a .pre .2));
         norms-are = k .norm-reader .ensures;

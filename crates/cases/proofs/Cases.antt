@@ -1,0 +1,86 @@
+-- Every case of the table holds: each request's answer is worked out by its definition, and the promises carry it to its runs.
+use mathlib.Core.Path.{_≡_, refl, ap, _∙_, subst}
+use mathlib.Core.List.{List, [], _∷_}
+use Prim.Native.Nat.{ℕ, zero, suc, _<_}
+use lib.Dec.{lit<, ltb}
+use mathlib.Core.Bool.{Bool, true, _&&_}
+use borrow.Author.Tests.{ltb-true}
+use Rattle.arrays.proofs.Every.{first-true, second-true}
+use lib.ListN.{set}
+use lib.Ieee.{Float, add, mul, div, sub, round, ofInt, le, lt, ofBits}
+use Rattle.codec.specs.Bits.{bitsAt}
+use Rattle.codec.specs.VInts.{vintPlace, vintValue, vintWhole}
+use Rattle.codec.specs.VInt.{vintAt}
+use Rattle.compression.specs.Documents.{docAt}
+use Rattle.fieldnorm.specs.Code.{fieldnorm}
+use Rattle.floats.specs.Step.{gridF, stepDown}
+use Rattle.floats.proofs.Worked.{case-l}
+use Rattle.bm25.specs.Score.{scoreOf}
+use Rattle.bm25.specs.Limits.{averageOk}
+use Rattle.bm25.specs.declared.Scoring.the-variants.{Stepped}
+use Rattle.notefile.specs.Header.{normCodeOf}
+use Rattle.notefile.specs.Parts.{partOf}
+use Rattle.notefile.specs.Lists.{blockScore, listBound}
+use Rattle.notefile.specs.Conditions.{headerRight, averageRight, lengthRight, entryRight, skipsRight, postingsRight, blockDocsRight, blockFreqsRight, boundsRight}
+use Rattle.notefile.specs.Refusal.{fileRefusal}
+use Rattle.notefile.proofs.Worked.{small}
+use Rattle.route.specs.Lists.{All}
+use Rattle.route.specs.Rule as rules
+use Rattle.decoded.specs.Lists.{Bytes, listOf, queried}
+use Rattle.rule.specs.declared.Rule.{Rule}
+use Rattle.request.specs.Request.{refusalOf}
+use Rattle.request.specs.declared.Mode.{Mode}
+use Rattle.ranking.specs.Answers.{answer, plainList, Answered}
+use Rattle.ranking.proofs.Demand.{run-plain}
+use Rattle.cases.specs.Table.{Runs, Holds, cases}
+
+-- an answer that is worked out is every run's
+runs : (file query : List ℕ) → Bytes file → (mode : Mode) (rule : Rule) (script : List Float) (rows : ℕ) (a : rules.Outcome Float)
+    → answer (refusalOf file query mode Stepped rule script) rows (plainList file query mode Stepped rule script) ≡ a → Runs file query mode rule script rows a
+runs file query bytes mode rule script rows a e documents₀ scores₀ r documents scores n =
+    let q = ap (λ (k : ℕ). answer (refusalOf file query mode Stepped rule script) k (plainList file query mode Stepped rule script)) n ∙ e in
+    let by = subst (λ (z : rules.Outcome Float). Answered z documents₀ scores₀ r documents scores) q in
+    ((λ R. by (run-plain file query bytes mode rule script R)), (λ P. by P))
+
+-- a list of bytes
+below : List ℕ → Bool
+below [] = true
+below (x ∷ xs) = ltb x 256 && below xs
+
+bytes-of : (xs : List ℕ) → below xs ≡ true → Bytes xs
+unfolding below
+bytes-of [] e i = lit< tt
+bytes-of (x ∷ xs) e zero = ltb-true x 256 (first-true (ltb x 256) (below xs) e)
+bytes-of (x ∷ xs) e (suc i) = bytes-of xs (second-true (ltb x 256) (below xs) e) i
+
+-- ALL OF THE TABLE
+pub all-hold : All Holds cases
+unfolding below refusalOf queried listOf stepDown vintAt fileRefusal headerRight averageRight lengthRight entryRight skipsRight postingsRight blockDocsRight blockFreqsRight boundsRight bitsAt partOf vintPlace vintValue vintWhole docAt normCodeOf blockScore listBound averageOk scoreOf fieldnorm gridF add mul div sub ofInt round le lt ofBits
+all-hold = (
+  runs small _ (bytes-of small refl) _ _ _ _ _ refl,
+  (
+    runs small _ (bytes-of small refl) _ _ _ _ _ refl,
+    (
+      runs small _ (bytes-of small refl) _ _ _ _ _ refl,
+      (
+        runs small _ (bytes-of small refl) _ _ _ _ _ refl,
+        (
+          runs small _ (bytes-of small refl) _ _ _ _ _ refl,
+          (
+            runs small _ (bytes-of small refl) _ _ _ _ _ refl,
+            (
+              runs small _ (bytes-of small refl) _ _ _ _ _ refl,
+              (
+                runs small _ (bytes-of small refl) _ _ _ _ _ refl,
+                (
+                  runs (set small 38 0x84) _ (bytes-of (set small 38 0x84) refl) _ _ _ _ _ refl,
+                  (refl, (refl, (refl, (case-l .0, (case-l .1, tt))))),
+                ),
+              ),
+            ),
+          ),
+        ),
+      ),
+    ),
+  ),
+)

@@ -1,0 +1,2 @@
+-- The theorem over the table of cases.
+pub mod Cases

@@ -1,0 +1,88 @@
+-- Cases (a) to (l): seven runs over the small file, two that are refused, one over a changed file, and figures of three definitions.
+use mathlib.Core.Path.{_≡_}
+use mathlib.Core.Bool.{true, false}
+use mathlib.Core.List.{List, [], _∷_}
+use Prim.Native.Nat.{ℕ}
+use lib.IntN.{pos}
+use lib.ListN.{length, set}
+use lib.Ieee.{Float, fin}
+use lib.Ieee.Exact.{HasValue}
+use Rattle.floats.specs.Step.{gridF}
+use Rattle.floats.specs.Whole.{wholeF32}
+use Rattle.codec.specs.VInt.{vintAt}
+use Rattle.codec.specs.declared.vint.VInt.the-variants.{Value}
+use Rattle.bm25.specs.Bound.{maxTf}
+use Rattle.bm25.specs.declared.Scoring.the-variants.{Stepped}
+use Rattle.notefile.proofs.Worked.{small}
+use Rattle.route.specs.Report.{Report}
+use Rattle.route.specs.Rule as rules
+use Rattle.rule.specs.declared.Rule.{Rule}
+use Rattle.rule.specs.declared.Rule.the-variants.{Script, BestK}
+use Rattle.reports.specs.Rows.{rowsOf}
+use Rattle.request.specs.declared.Mode.{Mode}
+use Rattle.request.specs.declared.Mode.the-variants.{Union, Intersection}
+use Rattle.ranking.specs.Answers.{Answered, RunIs, PlainIs}
+use Rattle.ranking.specs.declared.outcome.Outcome.{Outcome}
+
+-- A stepped run with its rows and its answer; a maximum-frequency code and its frequency; the bytes of a VInt and its value; a whole number and
+-- the f32 nearest to it, a whole number too.
+pub data Case : Type 0 where
+  run : (file query : List ℕ) (mode : Mode) (rule : Rule) (script : List Float) (rows : ℕ) (answer : rules.Outcome Float) → Case
+  code : (code frequency : ℕ) → Case
+  vint : (bytes : List ℕ) (value : ℕ) → Case
+  whole : (n nearest : ℕ) → Case
+
+-- every run of the request with so many rows, skipping or plain, has the answer
+abbrev pub Runs : List ℕ → List ℕ → Mode → Rule → List Float → ℕ → rules.Outcome Float → Type 0
+Runs file query mode rule script rows answer =
+    (documents₀ : List ℕ) (scores₀ : List Float) (r : Outcome) (documents : List ℕ) (scores : List Float) → rowsOf documents₀ scores₀ ≡ rows
+    → (RunIs file query mode Stepped rule script documents₀ scores₀ r documents scores → Answered answer documents₀ scores₀ r documents scores)
+    × (PlainIs file query mode Stepped rule script documents₀ scores₀ r documents scores → Answered answer documents₀ scores₀ r documents scores)
+
+-- what a case says
+abbrev pub Holds : Case → Type 0
+Holds (run file query mode rule script rows answer) = Runs file query mode rule script rows answer
+Holds (code c frequency) = maxTf c ≡ frequency
+Holds (vint bytes value) = vintAt bytes (length bytes) 0 ≡ Value value (length bytes)
+Holds (whole n nearest) = HasValue (wholeF32 n) false nearest 1
+
+-- a report with its score in 1/1024
+abbrev row : ℕ → ℕ → Report Float
+row d n = record { doc = d; score = gridF n }
+
+abbrev list : List (Report Float) → rules.Outcome Float
+list rs = record { code = 0; rows = rs }
+
+abbrev refused : ℕ → rules.Outcome Float
+refused n = record { code = n; rows = [] }
+
+abbrev both : List ℕ
+both = 0 ∷ 1 ∷ []
+
+abbrev all : List (Report Float)
+all = row 0 362477 ∷ row 1 724955 ∷ row 3 1262696 ∷ []
+
+-- a fixed threshold, in 1/1024
+abbrev fixed : ℕ → Rule
+fixed n = Script (gridF n)
+
+-- best 1 from -1
+abbrev best1 : Rule
+best1 = BestK (fin true 1 (pos 0)) 1
+
+-- the table
+abbrev pub cases : List Case
+cases =
+    run small both Union (fixed 0) [] 4096 (list all)
+    ∷ run small both Union (fixed 362477) [] 4096 (list (row 1 724955 ∷ row 3 1262696 ∷ []))
+    ∷ run small both Intersection (fixed 0) [] 4096 (list (row 3 1262696 ∷ []))
+    ∷ run small both Union (fixed 0) (gridF 819200 ∷ []) 4096 (list (row 0 362477 ∷ row 3 1262696 ∷ []))
+    ∷ run small both Union best1 [] 4096 (list all)
+    ∷ run small [] Union (fixed 0) [] 4096 (list [])
+    ∷ run small (0 ∷ []) Intersection (fixed 0) [] 4096 (refused 10)
+    ∷ run small both Union (fixed 0) [] 2 (record { code = 12; rows = row 0 362477 ∷ row 1 724955 ∷ [] })
+    ∷ run (set small 38 0x84) both Union (fixed 0) [] 4096 (refused 9)
+    ∷ code 254 254 ∷ code 255 4294967295
+    ∷ vint (0x00 ∷ 0x81 ∷ []) 128
+    ∷ whole 16777217 16777216 ∷ whole 16777219 16777220
+    ∷ []
