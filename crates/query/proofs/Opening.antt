@@ -1,14 +1,15 @@
 -- A list that is opened in a slot leaves a fresh slot, and the others as they were.
 use mathlib.Core.Path.{_≡_, refl, sym, ap, _∙_, subst}
-use mathlib.Core.List.{List, []}
-use Prim.Native.Nat.{ℕ, _+_, _≤_, _<_}
+use mathlib.Core.List.{List, [], _∷_, map}
+use Prim.Native.Nat.{ℕ, suc, _+_, _≤_, _<_}
+use native.Mathlib.Nat.{add-zero, zero-add}
 use mathlib.Core.Logic.{inl, inr}
 use Rattle.arrays.proofs.Order.{lt-or-ge}
 use Rattle.ordering.specs.declared.TermScorer.{TermScorer}
 use Rattle.ordering.specs.Scorers.{noScorer}
 use native.Mathlib.Omega.{arith}
-use lib.ListN.{length, getD, set, length-set}
-use lib.Seq.{getD-set-same, getD-set-other}
+use lib.ListN.{length, getD, set, take, drop, length-set}
+use lib.Seq.{drop-cons, getD-set-same, getD-set-other}
 use lib.Ieee.{Float, nan, binary32, ofBits}
 use Rattle.bm25.specs.Bound.{maxScore}
 use Rattle.bm25.specs.Scoring.{scored}
@@ -22,8 +23,9 @@ use Rattle.notefile.specs.Lists.{listBound, scoreFor}
 use Rattle.notefile.specs.Given.{WeightIn}
 use Rattle.notefile.specs.declared.header.Header.{Header}
 use Rattle.notefile.specs.declared.part.Part.{Part}
-use Rattle.route.specs.Cursor.{Cursor}
-use Rattle.decoded.specs.Lists.{listOf}
+use Rattle.route.specs.Cursor.{Cursor, fresh}
+use Rattle.route.specs.Scorer.{Scorer, scorersFrom}
+use Rattle.decoded.specs.Lists.{listOf, postingsOf, queried}
 use Rattle.postings.specs.Decoded.{docIn, ListIn}
 use Rattle.term_scorer.specs.Rows.{partIn, partRow, PartRow}
 use Rattle.term_scorer.specs.Slots.{Held, Sixteen, Opened, partAt, listAt, cursorAt}
@@ -161,3 +163,37 @@ module _ (scoring : Scoring) (file query : List ℕ) where
     where
       only-n : (q m : ℕ) → m ≤ q → q < m + 1 → m ≡ q
       only-n q m g k = omega arith
+
+-- ---- the route's scorers
+
+module _ (scoring : Scoring) (file query : List ℕ) (a : Arrays) (scorers : List TermScorer) (Q : QueryOpened scoring file query (length query) a scorers) where
+  -- the route's scorer of a slot
+  abbrev pub scorerIn : TermScorer → Scorer Float
+  scorerIn s = record { ord = s .slot; list = listAt scoring file (a .lists) (s .slot); cur = cursorAt (a .held .places) (s .slot) }
+
+  one-scorer : (q l : ℕ) → q < length query → getD query q 0 ≡ l → scorerIn (getD scorers q noScorer) ≡ record { ord = q; list = postingsOf scoring file l; cur = fresh }
+  one-scorer q l h e =
+      let F = Q .fresh-slots q h in
+      ap scorerIn (Q .scorers-are q h)
+      ∙ ap (λ (x : Part). record { ord = q; list = listOf scoring file x; cur = cursorAt (a .held .places) q }) (F .part-is ∙ ap (partOf file) e)
+      ∙ ap (λ (c : Cursor). record { ord = q; list = postingsOf scoring file l; cur = c }) (F .cursor-is)
+
+  scorers-from : (ls : List ℕ) (i : ℕ) → length query ≤ 16 → i + length ls ≡ length query → ((k : ℕ) → k < length ls → getD query (i + k) 0 ≡ getD ls k 0)
+      → map scorerIn (take (length ls) (drop i scorers)) ≡ scorersFrom i (queried scoring file ls)
+  unfolding queried
+  scorers-from [] i few n e = refl
+  scorers-from (l ∷ ls) i few n e =
+      let h : i < length query = omega (arith, n) in
+      let m : i < length scorers = omega (arith, h, few, Q .long) in
+      let here : getD query i 0 ≡ l = ap (λ (z : ℕ). getD query z 0) (sym (add-zero i)) ∙ e 0 (omega arith) in
+      ap (λ (z : List TermScorer). map scorerIn (take (suc (length ls)) z)) (drop-cons scorers i noScorer m)
+      ∙ ap (λ (s : Scorer Float). s ∷ map scorerIn (take (length ls) (drop (suc i) scorers))) (one-scorer i l h here)
+      ∙ ap (λ (z : List (Scorer Float)). record { ord = i; list = postingsOf scoring file l; cur = fresh } ∷ z)
+      (scorers-from ls (suc i) few (omega (arith, n)) (λ k j. ap (λ (z : ℕ). getD query z 0) (next i k) ∙ e (suc k) (omega arith)))
+    where
+      next : (i k : ℕ) → suc i + k ≡ i + suc k
+      next i k = omega arith
+
+  -- the scorers opened are the route's first
+  pub opened-scorers : length query ≤ 16 → map scorerIn (take (length query) scorers) ≡ scorersFrom 0 (queried scoring file query)
+  opened-scorers few = scorers-from query 0 few (zero-add (length query)) (λ k j. ap (λ (z : ℕ). getD query z 0) (zero-add k))
