@@ -4,3 +4,4 @@ pub mod Looking
 pub mod Sums
 pub mod Slots
 pub mod Taking
+pub mod Scanning

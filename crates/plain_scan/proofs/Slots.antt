@@ -49,6 +49,10 @@ module _ (scoring : Scoring) (file : List ℕ) (lists : List (List ℕ)) where
     unfolding listOf
     in-list = A .wf .in-list
 
+    -- never a document of the file is TERMINATED
+    pub few-documents : documents file ≤ 2147483647
+    few-documents = k .few
+
     -- documents up to its head may count as taken
     pub raised : (x : ℕ) → d ≤ x → x ≤ getD heads q 0 → StandsFrom scoring file lists x h heads q
     raised x a b = record { slot = A .slot; wf = A .wf; past = past-up 128 (documents file) l k c d x a (A .past); head-is = A .head-is; low = b }
