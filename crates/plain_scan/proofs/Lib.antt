@@ -1,0 +1,7 @@
+-- Laws of the plain scan that belong to no one function.
+pub mod Heading
+pub mod Looking
+pub mod Sums
+pub mod Slots
+pub mod Taking
+pub mod Scanning

@@ -1,0 +1,61 @@
+-- `heads_of` meets its contract: after q turns the first q documents are in.
+use mathlib.Core.Path.{_≡_, subst}
+use Prim.Native.Nat.{ℕ, _-_, _≤_}
+use native.Mathlib.Omega.{arith}
+use borrow.Author.Needs.{needs}
+use Rattle.plain_scan.specs.Heads.{HeadsOf}
+use Rattle.plain_scan.proofs.Heading.{no-heads, one-more-head}
+use Rattle.plain_scan.proofs.heads_of.Statement.{statement}
+use Rattle.plain_scan.proofs.heads_of.Tie as tie
+
+abbrev Inv-loop : tie.InvT-loop
+Inv-loop n scorers heads₀ q₀ heads q = HeadsOf scorers q heads × (q ≤ n)
+
+abbrev μ-loop : tie.MeasureT-loop
+μ-loop n scorers heads₀ q₀ heads q = n - q
+
+loop-holds : tie.Need-loop-holds Inv-loop μ-loop
+loop-holds c = (no-heads _ _ (search needs), omega arith)
+
+mul-scorer : tie.Need-mul-scorer Inv-loop μ-loop
+mul-scorer c = search needs
+
+array-copy-out-scorer : tie.Need-array-copy-out-scorer Inv-loop μ-loop
+array-copy-out-scorer c = search needs
+
+mul-heads : tie.Need-mul-heads Inv-loop μ-loop
+mul-heads c = search needs
+
+array-write-heads : tie.Need-array-write-heads Inv-loop μ-loop
+array-write-heads c = search needs
+
+add-q : tie.Need-add-q Inv-loop μ-loop
+add-q c = search needs
+
+loop-less : tie.Need-loop-less Inv-loop μ-loop
+loop-less c = search needs
+
+loop-again : tie.Need-loop-again Inv-loop μ-loop
+loop-again c = let l = c .before .before in (one-more-head (l .before .args .t1) (l .loop .heads) (l .loop .q) (omega arith) (l .loop .inv .0), omega arith)
+
+returns : tie.Need-returns Inv-loop μ-loop
+returns c =
+    let l = c .before in
+    let e : l .loop .q ≡ l .before .args .n = omega (arith, l .loop .inv .1, c .loop-test .left) in
+    subst (λ (k : ℕ). HeadsOf (l .before .args .t1) k (l .loop .heads)) e (l .loop .inv .0)
+
+pub heads-of-spec : {M : Type 1} → statement M
+heads-of-spec =
+    tie.close
+    (tie.spec
+    Inv-loop
+    μ-loop
+    loop-holds
+    mul-scorer
+    array-copy-out-scorer
+    mul-heads
+    array-write-heads
+    add-q
+    loop-less
+    loop-again
+    returns)
