@@ -205,7 +205,7 @@ module _ (scoring : Scoring) (file : List ℕ) (lists : List (List ℕ)) (n : �
                 let K = G .kept in
                 let m : N - d ≡ suc (N - suc d) = let l = on-file in omega arith in
                 let w : scan f32 (callbackOf rule script) H (suc (N - suc d)) d rs ≡ scanned scoring file lists n all rule script =
-                    ap (λ (k : ℕ). scan f32 (callbackOf rule script) H k d rs) (sym m) ∙ ap (λ (z : ℕ). rest z rs) d-is ∙ G .rest-is in
+                ap (λ (k : ℕ). scan f32 (callbackOf rule script) H k d rs) (sym m) ∙ ap (λ (z : ℕ). rest z rs) d-is ∙ G .rest-is in
                 let o = plain-full f32 (ruleOf rule script) (startOf rule) H (N - suc d) d rs (scanned scoring file lists n all rule script) (record { doc = d; score = found .total }) w
-                    (ap (λ (o : Option Float). turnOf f32 (callbackOf rule script) o d rs) hit-here ∙ reported) in
+                (ap (λ (o : Option Float). turnOf f32 (callbackOf rule script) o d rs) hit-here ∙ reported) in
                 ran (ap (λ (k : ℕ). limited k (scanned scoring file lists n all rule script)) (sym e ∙ count-is K) ∙ o) (K .written) (count-is K)

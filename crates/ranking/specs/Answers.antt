@@ -21,6 +21,7 @@ use Rattle.rule.specs.Follows.{ruleOf, startOf}
 use Rattle.rule.specs.declared.Rule.{Rule}
 use Rattle.reports.specs.Rows.{rowsOf, Written}
 use Rattle.reports.specs.Runs.{Ran}
+use Rattle.plain_scan.specs.Runs.{needsAll}
 use Rattle.request.specs.Request.{modeOf, refusalOf}
 use Rattle.request.specs.declared.Mode.{Mode}
 use Rattle.ranking.specs.declared.outcome.Outcome.{Outcome}
@@ -78,6 +79,14 @@ module _ (file query : List ℕ) (mode : Mode) (scoring : Scoring) (rule : Rule)
       pub list : List (Report Float)
       pub by-route : SkippingList list
       pub answered : Answered (limited (rowsOf documents₀ scores₀) list) documents₀ scores₀ r documents scores
+
+    -- a plain run that was let through
+    abbrev pub PlainListed : Type 0
+    PlainListed = Answered (limited (rowsOf documents₀ scores₀) plainList) documents₀ scores₀ r documents scores
+
+-- in an intersection a document must be in every list
+abbrev pub needsAllOf : Mode → Bool
+needsAllOf mode = needsAll (modeOf mode)
 
 -- list l's scorer as a run begins with it, at a position of the query
 abbrev pub scorerOf : Scoring → List ℕ → ℕ → ℕ → Scorer Float

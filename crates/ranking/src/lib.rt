@@ -1,3 +1,4 @@
 // The public entry points: a skipping run, a plain run, and both side by side. None asks anything of its arguments.
 pub mod outcome;
+pub mod plain;
 pub mod skipping;
