@@ -27,7 +27,7 @@ use Rattle.plain_scan.proofs.Looking.{score-none, score-at}
 
 module _ (scoring : Scoring) (file : List ℕ) (lists : List (List ℕ)) where
   -- the laws of a slot's list
-  ok : {h : Held} (q : ℕ) → SlotIn file lists h q → ListOk 128 (documents file) (listAt scoring file lists q)
+  pub ok : {h : Held} (q : ℕ) → SlotIn file lists h q → ListOk 128 (documents file) (listAt scoring file lists q)
   ok q S = list-ok scoring file (partAt lists q) (S .list .right) (S .list .few)
 
   module _ {d : ℕ} {h : Held} {heads : List ℕ} {q : ℕ} (A : StandsFrom scoring file lists d h heads q) where
