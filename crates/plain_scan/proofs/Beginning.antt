@@ -2,8 +2,7 @@
 use mathlib.Core.Path.{_≡_, refl, sym, ap, _∙_, subst}
 use mathlib.Core.Bool.{Bool}
 use mathlib.Core.List.{List, [], _∷_}
-use mathlib.Core.Option.{Option}
-use Prim.Native.Nat.{ℕ, zero, suc, _+_, _≤_, _<_}
+use Prim.Native.Nat.{ℕ, suc, _+_, _<_}
 use native.Mathlib.Nat.{zero-add}
 use native.Mathlib.Omega.{arith}
 use lib.ListN.{length, getD}
@@ -12,7 +11,7 @@ use Rattle.bm25.specs.declared.Scoring.{Scoring}
 use Rattle.notefile.specs.Header.{documents}
 use Rattle.notefile.specs.Parts.{partOf}
 use Rattle.notefile.specs.declared.part.Part.{Part}
-use Rattle.route.specs.Cursor.{Cursor, fresh}
+use Rattle.route.specs.Cursor.{Cursor}
 use Rattle.route.specs.F32.{f32}
 use Rattle.route.specs.Plain.{Mode, hit, present}
 use Rattle.route.specs.Postings.{Postings}
@@ -23,12 +22,12 @@ use Rattle.rule.specs.declared.Rule.{Rule}
 use Rattle.decoded.specs.Lists.{listOf, postingsOf, queried}
 use Rattle.postings.specs.Decoded.{docIn}
 use Rattle.reports.specs.Runs.{callbackOf}
-use Rattle.term_scorer.specs.Slots.{Held, partAt, listAt, cursorAt}
+use Rattle.term_scorer.specs.Slots.{Held, partAt, listAt}
 use Rattle.ordering.specs.declared.TermScorer.{TermScorer}
 use Rattle.query.specs.Fresh.{Arrays, QueryOpened}
 use Rattle.plain_scan.specs.declared.PlainRun.{PlainRun}
 use Rattle.plain_scan.specs.Found.{foundOf, hitIn}
-use Rattle.plain_scan.specs.Heads.{listsFrom, AllWeighed, HeadsOf, Ready, ReadySlot, Standing, StandsFrom}
+use Rattle.plain_scan.specs.Heads.{listsFrom, AllWeighed, HeadsOf, Ready, Standing, StandsFrom}
 use Rattle.plain_scan.specs.Runs.{hits, needsAll, plainOf, scanned, PlainRan}
 use Rattle.plain_scan.proofs.Slots.{ok}
 use Rattle.plain_scan.proofs.Sums.{hit-is}
@@ -72,7 +71,7 @@ module _ (scoring : Scoring) (file query : List ℕ) (lists : List (List ℕ)) (
   named q (l ∷ ls) f =
       let e : partAt lists q ≡ partOf file l = ap (partAt lists) (let z : q ≡ q + 0 = omega arith in z) ∙ f 0 (omega arith) in
       let g : (p : ℕ) → p < length ls → partAt lists (suc q + p) ≡ partOf file (getD ls p 0) =
-          λ p k. ap (partAt lists) (let z : suc q + p ≡ q + suc p = omega arith in z) ∙ f (suc p) (omega (arith, k)) in
+      λ p k. ap (partAt lists) (let z : suc q + p ≡ q + suc p = omega arith in z) ∙ f (suc p) (omega (arith, k)) in
       ap (λ (x : Part). listOf scoring file x ∷ listsFrom scoring file lists (suc q) (length ls)) e
       ∙ ap (λ (xs : List (Postings Float)). postingsOf scoring file l ∷ xs) (named (suc q) ls g)
 

@@ -22,8 +22,8 @@ one-more-head scorers heads n h H = record {
   are = λ q k. elim (lt-or-ge q n) [
     | inl l ↦ getD-set-other heads n q _ 0 (λ e. omega (arith, e, l)) ∙ H .are q l
     | inr g ↦
-      let e : q ≡ n = omega (arith, g, k) in
-      rw e (getD-set-same heads n _ 0 (omega (arith, h, H .long)))
+        let e : q ≡ n = omega (arith, g, k) in
+        rw e (getD-set-same heads n _ 0 (omega (arith, h, H .long)))
   ];
 }
 

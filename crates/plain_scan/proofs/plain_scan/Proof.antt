@@ -10,8 +10,7 @@ heads-of-requires c κs = search needs
 scan-requires : tie.Need-scan-requires
 scan-requires c κs =
     let e = c .before .before .before .before .before .before in
-    let a = e .before .before .before .before .before .before in
-    (
+    let a = e .before .before .before .before .before .before in (
       a .pre .0,
       a .pre .1,
       all-weighed (a .args .scoring) _ _ _ _ _ _ _ (a .pre .2),
