@@ -5,3 +5,4 @@ pub mod Sums
 pub mod Slots
 pub mod Taking
 pub mod Scanning
+pub mod Beginning

@@ -1,13 +1,13 @@
 -- Documents upward: what the plain scan makes of the documents from the least on, with the reports so far, stays the whole list.
 use mathlib.Core.Path.{_≡_, refl, sym, ap, _∙_, subst}
 use mathlib.Core.Bool.{Bool, true, false, false≢true}
-use mathlib.Core.List.{List, [], _∷_, _++_}
+use mathlib.Core.List.{List, [], _++_}
 use mathlib.Core.Logic.{inl, inr}
-use mathlib.Core.Option.{Option, none, some}
+use mathlib.Core.Option.{Option, none}
 use Prim.Native.Nat.{ℕ, zero, suc, _+_, _-_, _≤_, _<_}
-use native.Mathlib.Nat.{add-zero, add-suc, suc-add}
+use native.Mathlib.Nat.{add-zero}
 use native.Mathlib.Omega.{arith}
-use lib.ListN.{length, getD}
+use lib.ListN.{length}
 use lib.Ieee.{Float, lt}
 use borrow.Author.Tests.{le-leb}
 use Rattle.arrays.proofs.Order.{lt-or-ge}
@@ -28,7 +28,6 @@ use Rattle.reports.specs.Runs.{callbackOf, outcomeOf}
 use Rattle.reports.proofs.RowLaws.{begun, count-is, documents-long, one-more, scores-long, threshold-is}
 use Rattle.term_scorer.specs.Slots.{Held, listAt}
 use Rattle.plain_scan.specs.declared.Found.{Found}
-use Rattle.plain_scan.specs.declared.PlainRun.{PlainRun}
 use Rattle.plain_scan.specs.Found.{dueIn, foundOf, hitIn, matchesIn}
 use Rattle.plain_scan.specs.Heads.{leastIn, listsFrom, Standing, Taken}
 use Rattle.plain_scan.specs.Runs.{hits, scanned, PlainRan}

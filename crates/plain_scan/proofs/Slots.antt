@@ -1,5 +1,5 @@
 -- A scorer in its slot while documents are taken upward: what its list has of a document, and its move to the next one.
-use mathlib.Core.Path.{_≡_, refl, sym, ap, _∙_, subst}
+use mathlib.Core.Path.{_≡_, sym, ap, _∙_, subst}
 use mathlib.Core.List.{List, []}
 use mathlib.Core.Logic.{inl, inr}
 use mathlib.Core.Option.{none, some}
@@ -13,21 +13,20 @@ use Rattle.bm25.specs.declared.Scoring.{Scoring}
 use Rattle.notefile.specs.Header.{documents}
 use Rattle.notefile.specs.Lists.{fullBlocks}
 use Rattle.route.specs.Postings.{Postings, docAt, scoreOf}
-use Rattle.route.specs.Cursor.{Cursor, advanceIn, docHere, fresh}
+use Rattle.route.specs.Cursor.{Cursor, advanceIn, docHere}
 use Rattle.route.proofs.ListLaws.{ListOk}
 use Rattle.route.proofs.Places.{docAt-in, docAt-out, docAt-lt, docAt-le}
-use Rattle.route.proofs.Cursor.{Wf, Past, Advanced, past-up, on-block, advance-is, fresh-is}
+use Rattle.route.proofs.Cursor.{Wf, Past, Advanced, past-up, on-block, advance-is}
 use Rattle.decoded.specs.Lists.{listOf}
 use Rattle.decoded.proofs.AcceptedLists.{list-ok}
 use Rattle.postings.specs.Decoded.{docIn, doc-is}
-use Rattle.term_scorer.specs.Rows.{MovedRow}
 use Rattle.term_scorer.specs.Slots.{Held, Sixteen, SlotIn, MovedSlot, partAt, listAt, cursorAt}
 use Rattle.plain_scan.specs.Heads.{StandsFrom}
 use Rattle.plain_scan.proofs.Looking.{score-none, score-at}
 
 module _ (scoring : Scoring) (file : List ℕ) (lists : List (List ℕ)) where
   -- the laws of a slot's list
-  ok : {h : Held} (q : ℕ) → SlotIn file lists h q → ListOk 128 (documents file) (listAt scoring file lists q)
+  pub ok : {h : Held} (q : ℕ) → SlotIn file lists h q → ListOk 128 (documents file) (listAt scoring file lists q)
   ok q S = list-ok scoring file (partAt lists q) (S .list .right) (S .list .few)
 
   module _ {d : ℕ} {h : Held} {heads : List ℕ} {q : ℕ} (A : StandsFrom scoring file lists d h heads q) where

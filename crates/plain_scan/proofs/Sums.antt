@@ -1,8 +1,8 @@
 -- Scores counted and summed as they are found, and the sum that a mode takes for a match.
 use mathlib.Core.Path.{_≡_, refl, sym, ap, _∙_}
-use mathlib.Core.Bool.{Bool, true, false, cond}
+use mathlib.Core.Bool.{true, false}
 use mathlib.Core.List.{List, [], _∷_, _++_}
-use mathlib.Core.Option.{Option, none, some}
+use mathlib.Core.Option.{none}
 use Prim.Native.Nat.{ℕ, suc, _+_, _<_}
 use native.Mathlib.Omega.{arith}
 use lib.Dec.{eqb}
@@ -12,10 +12,9 @@ use borrow.Author.Tests.{eq-eqb, ne-eqb}
 use Rattle.route.specs.F32.{f32}
 use Rattle.route.specs.Score.{sumFrom}
 use Rattle.route.specs.Postings.{Postings}
-use Rattle.route.specs.Plain.{Mode, union, intersection, single, present, everywhere, totalOf, allOf, hit}
+use Rattle.route.specs.Plain.{Mode, union, intersection, single, present, totalOf, allOf, hit}
 use Rattle.route.proofs.Hits.{Every, e-all, e-not, every}
-use Rattle.plain_scan.specs.declared.Found.{Found}
-use Rattle.plain_scan.specs.Found.{sumOf, foundOf, withScore, hitIn}
+use Rattle.plain_scan.specs.Found.{foundOf, withScore, hitIn}
 use Rattle.plain_scan.specs.Runs.{needsAll}
 
 sum-snoc : (acc : Float) (xs : List Float) (x : Float) → sumFrom f32 acc (xs ++ (x ∷ [])) ≡ f32 .add (sumFrom f32 acc xs) x

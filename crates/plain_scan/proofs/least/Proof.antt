@@ -1,6 +1,6 @@
 -- `least` meets its contract: after q turns `doc` is the least of the first q.
 use mathlib.Core.Path.{_≡_, refl, ap, _∙_}
-use Prim.Native.Nat.{ℕ, _-_, _≤_}
+use Prim.Native.Nat.{_-_, _≤_}
 use native.Mathlib.Omega.{arith}
 use borrow.Author.Needs.{needs}
 use Rattle.plain_scan.specs.Heads.{leastIn}

@@ -1,5 +1,5 @@
 -- `take_document` meets its contract: after q turns the first q slots have been asked.
-use mathlib.Core.Path.{sym, ap, _∙_}
+use mathlib.Core.Path.{sym, _∙_}
 use Prim.Native.Nat.{_-_}
 use native.Mathlib.Omega.{arith}
 use lib.Ieee.{ofBits}
@@ -9,8 +9,6 @@ use Rattle.plain_scan.proofs.Slots.{in-list}
 use Rattle.plain_scan.proofs.Taking.{Taking, taking-begun, taking-passes, taking-takes, taking-ends, few-found, this}
 use Rattle.plain_scan.proofs.take_document.Statement.{statement}
 use Rattle.plain_scan.proofs.take_document.Tie as tie
-use Rattle.plain_scan.proofs.take_document.Reads as reads
-use Rattle.plain_scan.proofs.take_document.Lts as lts
 
 abbrev Inv-loop : tie.InvT-loop
 Inv-loop file norms weights caches scoring lists n doc heads₀ places₀ docs₀ freqs₀ found₀ q₀ heads places docs freqs found q = Taking scoring file lists n doc found (held places docs freqs) heads q
