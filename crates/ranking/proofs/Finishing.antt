@@ -36,11 +36,11 @@ use Rattle.block_wand_single.specs.Scans.{singleRoute}
 use Rattle.ranking.specs.Answers.{numberOf, countOf, finished, scorerOf, Answered, Finished, Listed}
 use Rattle.ranking.specs.declared.outcome.Outcome.{Outcome}
 
-number-of : (full : Bool) (count : ℕ) → numberOf (finished full count) ≡ cond full 12 0
+pub number-of : (full : Bool) (count : ℕ) → numberOf (finished full count) ≡ cond full 12 0
 number-of true count = refl
 number-of false count = refl
 
-count-of : (full : Bool) (count : ℕ) → countOf (finished full count) ≡ count
+pub count-of : (full : Bool) (count : ℕ) → countOf (finished full count) ≡ count
 count-of true count = refl
 count-of false count = refl
 

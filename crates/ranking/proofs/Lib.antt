@@ -1,3 +1,4 @@
 -- Laws of the entry points.
 pub mod Finishing
+pub mod Answering
 pub mod Demand

@@ -1,5 +1,5 @@
 -- `skipping::run_single` meets its contract: the list's part and weight are the file's, and the run is the route's.
-use mathlib.Core.Path.{_≡_, sym, subst}
+use mathlib.Core.Path.{sym, subst}
 use borrow.Author.Needs.{needs}
 use Rattle.bm25.proofs.Numbers.{weight-number, average-number}
 use Rattle.notefile.specs.Given.{HeaderIn, Limits}
