@@ -1,0 +1,3 @@
+-- What the contracts of `block_wand_union` cite.
+pub mod Seats
+pub mod Moves

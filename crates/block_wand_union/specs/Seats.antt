@@ -1,0 +1,52 @@
+-- The scorers of a union over the slots: what the lent arrays hold of each, and the route's scorer that it stands for.
+use mathlib.Core.Path.{_≡_}
+use mathlib.Core.List.{List}
+use Prim.Native.Nat.{ℕ, _<_}
+use lib.ListN.{getD}
+use lib.Ieee.{Float, nan}
+use Rattle.bm25.specs.declared.Scoring.{Scoring}
+use Rattle.route.specs.Lists.{All}
+use Rattle.route.specs.Scorer.{Scorer}
+use Rattle.postings.specs.Decoded.{docIn}
+use Rattle.term_scorer.specs.Slots.{cursorAt, Held, listAt, partAt, SlotIn}
+use Rattle.term_scorer.specs.Weights.{BoundKept, Weighed}
+use Rattle.ordering.specs.declared.TermScorer.{TermScorer}
+use Rattle.ordering.specs.Scorers.{Apart}
+
+-- how the lists' postings are scored, and the block bounds that are kept
+pub record Terms : Type 0 where
+  pub scoring : Scoring
+  pub weights : List Float
+  pub caches : List (List Float)
+  pub bounds : List Float
+
+abbrev pub terms : Scoring → List Float → List (List Float) → List Float → Terms
+terms scoring weights caches bounds = record { scoring = scoring; weights = weights; caches = caches; bounds = bounds }
+
+module _ (file : List ℕ) (lists : List (List ℕ)) where
+  -- the route's scorer: its position is the slot
+  abbrev pub scorerAt : Scoring → List (List ℕ) → TermScorer → Scorer Float
+  scorerAt scoring places s = record { ord = s .slot; list = listAt scoring file lists (s .slot); cur = cursorAt places (s .slot) }
+
+  -- a scorer stands in its slot, on the document of its place there
+  pub record Stand (h : Held) (s : TermScorer) : Type 0 where
+    pub slot-in : s .slot < 16
+    pub slot : SlotIn file lists h (s .slot)
+    pub doc-is : s .doc ≡ docIn file (partAt lists (s .slot)) (cursorAt (h .places) (s .slot) .at)
+
+  -- and its slot has its list's weight and norms, and a bound that is known is right
+  pub record Seat (T : Terms) (h : Held) (s : TermScorer) : Type 0 where
+    pub stand : Stand h s
+    pub weighed : Weighed lists (T .weights) (T .caches) (s .slot)
+    pub bound : BoundKept (T .scoring) file lists (h .places) (T .bounds) (s .slot)
+
+  -- the list bound of a scorer stands by its slot
+  abbrev pub Topped : Scoring → List Float → TermScorer → Type 0
+  Topped scoring maxScores s = listAt scoring file lists (s .slot) .top ≡ getD maxScores (s .slot) nan
+
+  -- after moves of scorers l, those left are l′: each stands in a slot of its own, where it was right it still is
+  pub record Carried (h : Held) (l : List TermScorer) (h′ : Held) (l′ : List TermScorer) : Type 0 where
+    pub stands : All (Stand h′) l′
+    pub apart : Apart l′
+    pub seats : (T : Terms) → All (Seat T h) l → All (Seat T h′) l′
+    pub tops : (scoring : Scoring) (maxScores : List Float) → All (Topped scoring maxScores) l → All (Topped scoring maxScores) l′

@@ -1,0 +1,2 @@
+// The union's skipping run: `block_wand` over two or more scorers, each in its slot.
+pub mod blocks;
