@@ -1,10 +1,10 @@
 -- A move of one slot's scorer, seen from all the scorers of a union: the others stand as before, and the route's scorers with them.
 use mathlib.Core.List.{List, []}
 use mathlib.Core.Path.{ap, refl, sym, _∙_, _≡_}
-use Prim.Native.Nat.{ℕ, _<_}
+use Prim.Native.Nat.{ℕ, _≤_, _<_}
 use native.Mathlib.Omega.{arith}
-use lib.ListN.{getD, length, length-set, set}
-use lib.Seq.{getD-set-other, getD-set-same, set-getD}
+use lib.ListN.{getD, length, length-set, set, take}
+use lib.Seq.{getD-set-other, getD-set-same, set-getD, take-take}
 use lib.Ieee.{Float, nan}
 use Rattle.bm25.specs.declared.Scoring.{Scoring}
 use Rattle.notefile.specs.declared.part.Part.{Part}
@@ -22,7 +22,7 @@ use Rattle.ordering.specs.declared.TermScorer.{TermScorer}
 use Rattle.ordering.specs.Scorers.{Apart, noScorer}
 use Rattle.ordering.proofs.Kept.{Kept, Off, kept-all, kept-apart, slots-all, slots-apart}
 use Rattle.ordering.proofs.OnRoute.{SameDoc}
-use Rattle.ordering.proofs.Places.{all-at}
+use Rattle.ordering.proofs.Places.{all-at, all-take}
 use Rattle.ordering.proofs.Turns.{SameOff, replaced-all, replaced-slots}
 use Rattle.block_wand_union.specs.Seats.{Carried, Seat, Stand, Terms, Topped, scorerAt, terms}
 
@@ -66,6 +66,10 @@ known-row file x row docs freqs P =
       standing = record { row-is = ap (λ q. placeRow q 1) (sym back); narrow = rw back (P .standing .narrow); low = P .standing .low };
       placed = rw back (P .placed);
     })
+
+-- of the first n, the first len
+pub first-of : (P : TermScorer → Type 0) (n len : ℕ) (l : List TermScorer) → len ≤ n → All P (take n l) → All P (take len l)
+first-of P n len l h a = rw (take-take len n l h) at (all-take P len (take n l) a)
 
 module _ (file : List ℕ) (lists : List (List ℕ)) where
   -- ---- scorers whose rows stay
@@ -113,7 +117,7 @@ module _ (file : List ℕ) (lists : List (List ℕ)) where
     abbrev s′ : TermScorer
     s′ = record { doc = doc; slot = s .slot }
 
-    moved-stand : Stand file lists h s → Stand file lists h′ s′
+    pub moved-stand : Stand file lists h s → Stand file lists h′ s′
     moved-stand S = record {
       slot-in = S .slot-in;
       slot = record { sixteen = moved-sixteen M (S .slot .sixteen); part-row = S .slot .part-row; list = S .slot .list; place = M .moved .place };

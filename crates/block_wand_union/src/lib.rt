@@ -1,2 +1,3 @@
 // The union's skipping run: `block_wand` over two or more scorers, each in its slot.
 pub mod blocks;
+pub mod low;
