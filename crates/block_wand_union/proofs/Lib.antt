@@ -2,3 +2,4 @@
 pub mod Seats
 pub mod BlockBounds
 pub mod Lowest
+pub mod Alignments

@@ -1,7 +1,8 @@
 -- What the moves of a union's turn leave, in the route's words.
 use mathlib.Core.Path.{_≡_}
+use mathlib.Core.Bool.{Bool, true, false}
 use mathlib.Core.List.{List, [], _∷_, map}
-use Prim.Native.Nat.{ℕ, min, _<_}
+use Prim.Native.Nat.{ℕ, min, _≤_, _<_}
 use lib.ListN.{drop, take}
 use lib.Ieee.{Float}
 use Rattle.bm25.specs.declared.Scoring.{Scoring}
@@ -9,10 +10,11 @@ use Rattle.route.specs.Lists.{All}
 use Rattle.route.specs.Score.{sum}
 use Rattle.route.specs.F32.{f32}
 use Rattle.route.specs.Scorer.{advance, blockMaxScore, seekBlock}
-use Rattle.route.specs.Union.{blockMaxWasTooLow}
+use Rattle.route.specs.Union.{Around, aligned, alignScorers, blockMaxWasTooLow, missed, missedOn}
 use Rattle.term_scorer.specs.Slots.{Held, lastAt, Sixteen}
 use Rattle.ordering.specs.declared.TermScorer.{TermScorer}
 use Rattle.ordering.proofs.Moving.{Moving}
+use Rattle.block_wand_union.specs.declared.align.Alignment.{Alignment}
 use Rattle.block_wand_union.specs.Seats.{Carried, Seat, Terms, Topped, scorerAt, terms}
 
 -- the least of t and the last documents of the scorers' present blocks
@@ -43,3 +45,28 @@ module _ (file : List ℕ) (lists : List (List ℕ)) where
     pub scorers-are : (scoring : Scoring) → All (Topped file lists scoring maxScores) l
         → map (scorerAt file lists scoring (h′ .places)) l′
         ≡ blockMaxWasTooLow 128 f32 (map (scorerAt file lists scoring (h .places)) (take len l)) (map (scorerAt file lists scoring (h .places)) (drop len l))
+
+  -- all came to the pivot: the first before scorers have sought it, and the others stay
+  pub record OnPivot (p : ℕ) (h : Held) (l : List TermScorer) (before : ℕ) (h′ : Held) (l′ : List TermScorer) : Type 0 where
+    pub carried : Carried file lists h l h′ l′
+    pub aligned-are : (scoring : Scoring)
+        → alignScorers 128 p (map (scorerAt file lists scoring (h .places)) (take before l)) ≡ aligned (map (scorerAt file lists scoring (h′ .places)) (take before l′))
+    pub rest-are : (scoring : Scoring) → map (scorerAt file lists scoring (h′ .places)) (drop before l′) ≡ map (scorerAt file lists scoring (h .places)) (drop before l)
+
+  -- one went past it, and is in its place again, or gone
+  pub record PastPivot (p : ℕ) (h : Held) (l : List TermScorer) (before : ℕ) (h′ : Held) (l′ : List TermScorer) : Type 0 where
+    pub carried : Carried file lists h l h′ l′
+    pub missed-is : (scoring : Scoring) → (m : Around Float) × (alignScorers 128 p (map (scorerAt file lists scoring (h .places)) (take before l)) ≡ missed m)
+        × (map (scorerAt file lists scoring (h′ .places)) l′ ≡ missedOn m (map (scorerAt file lists scoring (h .places)) (drop before l)))
+
+  -- by `align_scorers`' answer
+  abbrev pub AlignedBy : Bool → ℕ → Held → List TermScorer → ℕ → Held → List TermScorer → Type 0
+  AlignedBy true = OnPivot
+  AlignedBy false = PastPivot
+
+  -- what `align_scorers` leaves of n scorers l
+  pub record Aligns (p : ℕ) (h : Held) (l : List TermScorer) (n before : ℕ) (h′ : Held) (r : Alignment) : Type 0 where
+    pub by : AlignedBy (r .«on_pivot») p h l before h′ (take (r .len) (r .scorers))
+    pub few : r .len ≤ n
+    pub all : r .«on_pivot» ≡ true → r .len ≡ n
+    pub long : Sixteen (r .scorers)
