@@ -3,3 +3,4 @@ pub mod Seats
 pub mod BlockBounds
 pub mod Lowest
 pub mod Alignments
+pub mod Advances

@@ -9,9 +9,10 @@ use Rattle.bm25.specs.declared.Scoring.{Scoring}
 use Rattle.route.specs.Lists.{All}
 use Rattle.route.specs.Score.{sum}
 use Rattle.route.specs.F32.{f32}
-use Rattle.route.specs.Scorer.{advance, blockMaxScore, seekBlock}
-use Rattle.route.specs.Union.{Around, aligned, alignScorers, blockMaxWasTooLow, missed, missedOn}
+use Rattle.route.specs.Scorer.{blockMaxScore, seekBlock}
+use Rattle.route.specs.Union.{Around, advanceAllScorersOnPivot, aligned, alignScorers, blockMaxWasTooLow, missed, missedOn}
 use Rattle.term_scorer.specs.Slots.{Held, lastAt, Sixteen}
+use Rattle.ordering.specs.declared.Scorers.{Scorers}
 use Rattle.ordering.specs.declared.TermScorer.{TermScorer}
 use Rattle.ordering.proofs.Moving.{Moving}
 use Rattle.block_wand_union.specs.declared.align.Alignment.{Alignment}
@@ -33,11 +34,6 @@ module _ (file : List ℕ) (lists : List (List ℕ)) where
     pub moving : Moving (seekBlock 128 doc) (scorerAt file lists (T .scoring) (h .places)) l len (scorerAt file lists (T .scoring) (h′ .places)) l
     pub sum-is : r ≡ sum f32 (map (blockMaxScore 128 f32) (map (scorerAt file lists (T .scoring) (h′ .places)) (take len l)))
     pub sixteen : Sixteen bounds′
-
-  -- the first len of l have advanced
-  pub record Advanced (h : Held) (l : List TermScorer) (len : ℕ) (h′ : Held) (l′ : List TermScorer) : Type 0 where
-    pub carried : Carried file lists h l h′ l′
-    pub moving : (scoring : Scoring) → Moving (advance 128) (scorerAt file lists scoring (h .places)) l len (scorerAt file lists scoring (h′ .places)) l′
 
   -- the blocks of the first len were too low, and one of them has gone on: the route's next scorers, whatever the scoring
   pub record TooLow (maxScores : List Float) (h : Held) (l : List TermScorer) (len : ℕ) (h′ : Held) (l′ : List TermScorer) : Type 0 where
@@ -69,4 +65,13 @@ module _ (file : List ℕ) (lists : List (List ℕ)) where
     pub by : AlignedBy (r .«on_pivot») p h l before h′ (take (r .len) (r .scorers))
     pub few : r .len ≤ n
     pub all : r .«on_pivot» ≡ true → r .len ≡ n
+    pub long : Sixteen (r .scorers)
+
+  -- the first len of n scorers l have advanced, the finished are gone, and the rest is in order
+  pub record AdvancedAll (h : Held) (l : List TermScorer) (n len : ℕ) (h′ : Held) (r : Scorers) : Type 0 where
+    pub carried : Carried file lists h l h′ (take (r .len) (r .scorers))
+    pub scorers-are : (scoring : Scoring)
+        → map (scorerAt file lists scoring (h′ .places)) (take (r .len) (r .scorers))
+        ≡ advanceAllScorersOnPivot 128 (map (scorerAt file lists scoring (h .places)) (take len l)) (map (scorerAt file lists scoring (h .places)) (drop len l))
+    pub few : r .len ≤ n
     pub long : Sixteen (r .scorers)

@@ -1,11 +1,13 @@
 -- The scorers of a union over the slots: what the lent arrays hold of each, and the route's scorer that it stands for.
 use mathlib.Core.Path.{_≡_}
 use mathlib.Core.List.{List}
-use Prim.Native.Nat.{ℕ, _<_}
+use Prim.Native.Nat.{ℕ, _≤_, _<_}
 use lib.ListN.{getD}
 use lib.Ieee.{Float, nan}
 use Rattle.bm25.specs.declared.Scoring.{Scoring}
+use Rattle.notefile.specs.Lists.{fullBlocks}
 use Rattle.route.specs.Lists.{All}
+use Rattle.route.specs.Postings.{TERMINATED}
 use Rattle.route.specs.Scorer.{Scorer}
 use Rattle.postings.specs.Decoded.{docIn}
 use Rattle.term_scorer.specs.Slots.{cursorAt, Held, listAt, partAt, SlotIn}
@@ -39,6 +41,16 @@ module _ (file : List ℕ) (lists : List (List ℕ)) where
     pub stand : Stand h s
     pub weighed : Weighed lists (T .weights) (T .caches) (s .slot)
     pub bound : BoundKept (T .scoring) file lists (h .places) (T .bounds) (s .slot)
+
+  -- a scorer whose posting can be scored: it is on a document
+  pub record Scorable (weights : List Float) (caches : List (List Float)) (h : Held) (s : TermScorer) : Type 0 where
+    pub stand : Stand h s
+    pub weighed : Weighed lists weights caches (s .slot)
+    pub live : s .doc < TERMINATED
+
+  -- a scorer whose skip reader has a block to stand on, so that it can advance
+  abbrev pub Inside : Held → TermScorer → Type 0
+  Inside h s = cursorAt (h .places) (s .slot) .blk ≤ fullBlocks (partAt lists (s .slot))
 
   -- the list bound of a scorer stands by its slot
   abbrev pub Topped : Scoring → List Float → TermScorer → Type 0

@@ -2,3 +2,4 @@
 pub mod align;
 pub mod blocks;
 pub mod low;
+pub mod pivot;
