@@ -4,3 +4,4 @@ pub mod BlockBounds
 pub mod Lowest
 pub mod Alignments
 pub mod Advances
+pub mod OnPivots

@@ -17,14 +17,14 @@ use Rattle.postings.specs.Decoded.{docIn, doc-is}
 use Rattle.postings.specs.Reader.{readerAt}
 use Rattle.term_scorer.specs.Rows.{cursorIn, placeRow, PlaceIn, postingsIn}
 use Rattle.term_scorer.specs.Slots.{cursorAt, held, Held, listAt, partAt, MovedSlot, Shallowed, Sixteen, StandingIn}
-use Rattle.term_scorer.specs.Weights.{Bounded}
+use Rattle.term_scorer.specs.Weights.{Bounded, Weighed}
 use Rattle.ordering.specs.declared.TermScorer.{TermScorer}
 use Rattle.ordering.specs.Scorers.{Apart, noScorer}
 use Rattle.ordering.proofs.Kept.{Kept, Off, kept-all, kept-apart, slots-all, slots-apart}
 use Rattle.ordering.proofs.OnRoute.{SameDoc}
 use Rattle.ordering.proofs.Places.{all-at, all-take}
 use Rattle.ordering.proofs.Turns.{SameOff, replaced-all, replaced-slots}
-use Rattle.block_wand_union.specs.Seats.{Carried, Seat, Stand, Terms, Topped, scorerAt, terms}
+use Rattle.block_wand_union.specs.Seats.{Carried, Seat, Stand, Terms, Topped, WeighedAt, scorerAt, terms}
 
 -- ---- rows
 
@@ -241,13 +241,14 @@ module _ (file : List ℕ) (lists : List (List ℕ)) where
   -- ---- all scorers
 
   pub carried-refl : (h : Held) (l : List TermScorer) → Apart l → All (Stand file lists h) l → Carried file lists h l h l
-  carried-refl h l apart a = record { stands = a; apart = apart; seats = λ T s. s; tops = λ _ _ t. t }
+  carried-refl h l apart a = record { stands = a; apart = apart; seats = λ T s. s; weights = λ _ _ w. w; tops = λ _ _ t. t }
 
   pub carried-trans : {h h′ h″ : Held} {l l′ l″ : List TermScorer} → Carried file lists h l h′ l′ → Carried file lists h′ l′ h″ l″ → Carried file lists h l h″ l″
   carried-trans C D = record {
     stands = D .stands;
     apart = D .apart;
     seats = λ T s. D .seats T (C .seats T s);
+    weights = λ weights caches w. D .weights weights caches (C .weights weights caches w);
     tops = λ scoring maxScores t. D .tops scoring maxScores (C .tops scoring maxScores t);
   }
 
@@ -257,6 +258,7 @@ module _ (file : List ℕ) (lists : List (List ℕ)) where
     stands = kept-all (Stand file lists h) k a;
     apart = kept-apart k apart;
     seats = λ T s. kept-all (Seat file lists T h) k s;
+    weights = λ weights caches w. kept-all (WeighedAt file lists weights caches) k w;
     tops = λ scoring maxScores t. kept-all (Topped file lists scoring maxScores) k t;
   }
 
@@ -279,5 +281,6 @@ module _ (file : List ℕ) (lists : List (List ℕ)) where
           apart = slots-apart l (set l i x′) slots apart;
           seats = λ T s. replaced-all l i x′ inside apart (Seat file lists T h) (Seat file lists T h′)
               (λ z o R. seat-same T (T .bounds) h h′ z n (others-rows M (z .slot) o) refl R) (moved-seat x M T (all-at (Seat file lists T h) l i noScorer inside s)) s;
+          weights = λ weights caches w. slots-all (Weighed lists weights caches) l (set l i x′) slots w;
           tops = λ scoring maxScores t. slots-all (λ (q : ℕ). listAt scoring file lists q .top ≡ getD maxScores q nan) l (set l i x′) slots t;
         }

@@ -1,3 +1,4 @@
 -- What the contracts of `block_wand_union` cite.
 pub mod Seats
 pub mod Moves
+pub mod Turns

@@ -10,7 +10,7 @@ use Rattle.route.specs.Lists.{All}
 use Rattle.route.specs.Postings.{TERMINATED}
 use Rattle.route.specs.Scorer.{Scorer}
 use Rattle.postings.specs.Decoded.{docIn}
-use Rattle.term_scorer.specs.Slots.{cursorAt, Held, listAt, partAt, SlotIn}
+use Rattle.term_scorer.specs.Slots.{cursorAt, Held, listAt, partAt, Sixteen, SlotIn}
 use Rattle.term_scorer.specs.Weights.{BoundKept, Weighed}
 use Rattle.ordering.specs.declared.TermScorer.{TermScorer}
 use Rattle.ordering.specs.Scorers.{Apart}
@@ -56,9 +56,21 @@ module _ (file : List ℕ) (lists : List (List ℕ)) where
   abbrev pub Topped : Scoring → List Float → TermScorer → Type 0
   Topped scoring maxScores s = listAt scoring file lists (s .slot) .top ≡ getD maxScores (s .slot) nan
 
+  -- and its list's weight and norms
+  abbrev pub WeighedAt : List Float → List (List Float) → TermScorer → Type 0
+  WeighedAt weights caches s = Weighed lists weights caches (s .slot)
+
   -- after moves of scorers l, those left are l′: each stands in a slot of its own, where it was right it still is
   pub record Carried (h : Held) (l : List TermScorer) (h′ : Held) (l′ : List TermScorer) : Type 0 where
     pub stands : All (Stand h′) l′
     pub apart : Apart l′
     pub seats : (T : Terms) → All (Seat T h) l → All (Seat T h′) l′
+    pub weights : (weights : List Float) (caches : List (List Float)) → All (WeighedAt weights caches) l → All (WeighedAt weights caches) l′
     pub tops : (scoring : Scoring) (maxScores : List Float) → All (Topped scoring maxScores) l → All (Topped scoring maxScores) l′
+
+  -- the scorers of a run, with what stands by their slots
+  pub record Seated (T : Terms) (maxScores : List Float) (h : Held) (l : List TermScorer) : Type 0 where
+    pub seats : All (Seat T h) l
+    pub apart : Apart l
+    pub tops : All (Topped (T .scoring) maxScores) l
+    pub sixteen : Sixteen (T .bounds)

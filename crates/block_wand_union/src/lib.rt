@@ -3,3 +3,4 @@ pub mod align;
 pub mod blocks;
 pub mod low;
 pub mod pivot;
+pub mod turn;

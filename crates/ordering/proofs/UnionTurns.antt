@@ -1,4 +1,4 @@
--- A turn of the union's loop, in the words of the scorers in their order: no pivot, blocks too low, a miss, a hit.
+-- A turn of the union's loop, in the words of the scorers in their order: no pivot, blocks too low, or the scorers sent to the pivot, with a miss or a hit.
 use mathlib.Core.Bool.{cond, false, true}
 use mathlib.Core.List.{List, map, _++_}
 use mathlib.Core.Path.{ap, sym, _∙_, _≡_}
@@ -66,14 +66,14 @@ module _ (B : ℕ) (t : Float) (l : List TermScorer) (before len p : ℕ) (first
     abbrev after : Turn (UnionPlace Float) Float
     after = afterAlign B f32 t (alignScorers B p (map g (take before l))) p (map g (drop before (take len l))) (map g (drop len l))
 
-    -- behind a miss
-    after-miss : (m : Around Float) → alignScorers B p (map g (take before l)) ≡ missed m → after ≡ quiet (goOn (missedOn m (map g (drop before l))))
+    -- one scorer missed the pivot, and was put back
+    pub after-miss : (m : Around Float) → alignScorers B p (map g (take before l)) ≡ missed m → after ≡ quiet (goOn (missedOn m (map g (drop before l))))
     after-miss m e =
         ap (λ a. afterAlign B f32 t a p (map g (drop before (take len l))) (map g (drop len l))) e
         ∙ ap (λ z. quiet (goOn (missedOn m z))) (sym (map-append g (drop before (take len l)) (drop len l)) ∙ ap (map g) (join before len l first))
 
-    -- behind `align_scorers`, all on the pivot
-    after-hit : (h : TermScorer → Scorer Float) (l′ : List TermScorer) → alignScorers B p (map g (take before l)) ≡ aligned (map h (take before l′))
+    -- all came to the pivot, which is scored; then the first len advance
+    pub after-hit : (h : TermScorer → Scorer Float) (l′ : List TermScorer) → alignScorers B p (map g (take before l)) ≡ aligned (map h (take before l′))
         → map h (drop before l′) ≡ map g (drop before l)
         → after ≡ record {
           next = goOn (advanceAllScorersOnPivot B (map h (take len l′)) (map h (drop len l′)));
@@ -115,18 +115,8 @@ module _ (B : ℕ) (t : Float) (l : List TermScorer) (maxScores : List Float) (f
         → unionTurn B f32 t (goOn (map f l)) ≡ quiet (goOn ss)
     low-turn ss low e = found-turn B t l before len p ordered maxScores fair found sought ∙ (rw low) ∙ ap (λ z. quiet (goOn z)) (sym e)
 
-    -- one scorer misses the pivot, and is put back
-    pub missed-turn : (m : Around Float) (ss : List (Scorer Float)) → f32 .above blockMaxSum t ≡ true → alignScorers B p (map g (take before l)) ≡ missed m
-        → ss ≡ missedOn m (map g (drop before l)) → unionTurn B f32 t (goOn (map f l)) ≡ quiet (goOn ss)
-    missed-turn m ss high e q =
-        found-turn B t l before len p ordered maxScores fair found sought ∙ (rw high) ∙ after-miss B t l before len p ordered g m e
-        ∙ ap (λ z. quiet (goOn z)) (sym q)
-
-    -- all come to the pivot, which is scored; then the first len advance
-    pub hit-turn : (h : TermScorer → Scorer Float) (l′ : List TermScorer) (ss : List (Scorer Float)) → f32 .above blockMaxSum t ≡ true
-        → alignScorers B p (map g (take before l)) ≡ aligned (map h (take before l′)) → map h (drop before l′) ≡ map g (drop before l)
-        → ss ≡ advanceAllScorersOnPivot B (map h (take len l′)) (map h (drop len l′))
-        → unionTurn B f32 t (goOn (map f l)) ≡ record { next = goOn ss; due = dueAt f32 t p (sum f32 (map scoreHere (map h (take len l′)))) }
-    hit-turn h l′ ss high e rest q =
-        found-turn B t l before len p ordered maxScores fair found sought ∙ (rw high) ∙ after-hit B t l before len p ordered g h l′ e rest
-        ∙ ap (λ z. record { next = goOn z; due = dueAt f32 t p (sum f32 (map scoreHere (map h (take len l′)))) }) (sym q)
+    -- the scorers before the pivot are sent to it
+    pub high-turn : (u : Turn (UnionPlace Float) Float) → f32 .above blockMaxSum t ≡ true
+        → u ≡ afterAlign B f32 t (alignScorers B p (map g (take before l))) p (map g (drop before (take len l))) (map g (drop len l))
+        → unionTurn B f32 t (goOn (map f l)) ≡ u
+    high-turn u high e = found-turn B t l before len p ordered maxScores fair found sought ∙ (rw high) ∙ sym e
