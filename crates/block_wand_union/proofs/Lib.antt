@@ -5,3 +5,4 @@ pub mod Lowest
 pub mod Alignments
 pub mod Advances
 pub mod OnPivots
+pub mod Steps

@@ -27,13 +27,12 @@ use Rattle.ordering.specs.declared.TermScorer.{TermScorer}
 use Rattle.ordering.specs.Scorers.{Apart, leastDocOf, moved, noScorer}
 use Rattle.ordering.specs.Pivots.{placeToSeek}
 use Rattle.ordering.proofs.Places.{all-at, all-take, drop-take-cons, drop-take-nil}
-use Rattle.ordering.proofs.OnRoute.{Fair}
 use Rattle.ordering.proofs.Found.{seek-inside}
 use Rattle.ordering.proofs.Kept.{moved-kept}
 use Rattle.ordering.proofs.Turns.{leastLast, too-low-on-route}
 use Rattle.block_wand_union.specs.Seats.{Carried, Stand, Topped, scorerAt}
 use Rattle.block_wand_union.specs.Moves.{LastRead, TooLow, leastLastOf}
-use Rattle.block_wand_union.proofs.Seats.{carried-kept, carried-move, carried-trans, moved-stand, same-doc, same-off, scorer-is}
+use Rattle.block_wand_union.proofs.Seats.{carried-kept, carried-move, carried-trans, fair, moved-stand, same-doc, same-off, scorer-is}
 
 -- ---- `least_last_doc`'s loop
 
@@ -112,11 +111,6 @@ module _ (file : List ℕ) (lists : List (List ℕ)) (maxScores : List Float) (s
   abbrev x′ : TermScorer
   x′ = record { doc = doc; slot = x .slot }
 
-  pub fair : (scoring : Scoring) (h : Held) (k : List TermScorer) → All (Stand file lists h) k → All (Topped file lists scoring maxScores) k
-      → All (Fair maxScores (scorerAt file lists scoring (h .places))) k
-  fair scoring h [] a b = tt
-  fair scoring h (y ∷ ys) a b = (record { doc-is = same-doc file lists scoring h y (a .0); max-is = b .0 }, fair scoring h ys (a .1) (b .1))
-
   module _ {h h′ : Held} (pos : 0 < len) (few : len ≤ n) (long : n ≤ length ss) (apart : Apart l) (a : All (Stand file lists h) l)
       (last-is : last ≡ leastLastOf (h .places) 2147483647 (take len ss)) (after-is : after ≡ behind last) (d-is : d ≡ leastDocOf after (drop len l))
       (at-is : at ≡ placeToSeek maxScores (take len ss))
@@ -151,7 +145,7 @@ module _ (file : List ℕ) (lists : List (List ℕ)) (maxScores : List Float) (s
               let f₀ = scorerAt file lists scoring (h .places) in
               let f₁ = scorerAt file lists scoring (h′ .places) in
               let first = rw cut at (all-take (Stand file lists h) len l a) in
-              too-low-on-route 128 maxScores f₀ f₁ l len at d x′ pos (omega (arith, length-take n ss)) (fair scoring h l a tops) apart
+              too-low-on-route 128 maxScores f₀ f₁ l len at d x′ pos (omega (arith, length-take n ss)) (fair file lists maxScores scoring h l a tops) apart
               (rw cut at-is)
               (d-is ∙ ap (λ (z : ℕ). leastDocOf z (drop len l)) (after-is ∙ ap behind (last-is ∙ least-is file lists h scoring (take len ss) first ∙ ap (leastLast 128 f₀) (sym cut))))
               (rw there (same-off file lists M scoring)) (rw there (scorer-is file lists x M scoring))

@@ -32,6 +32,7 @@ use Rattle.ordering.specs.declared.TermScorer.{TermScorer}
 use Rattle.ordering.specs.declared.Scorers.{Scorers}
 use Rattle.ordering.specs.Scorers.{noScorer}
 use Rattle.ordering.proofs.Places.{all-at, all-drop, all-take, drop-take, drop-take-cons, map-append, map-drop, map-take}
+use Rattle.ordering.proofs.Found.{Found}
 use Rattle.ordering.proofs.UnionTurns.{after-hit, after-miss}
 use Rattle.block_wand_union.specs.declared.align.Alignment.{Alignment}
 use Rattle.block_wand_union.specs.Seats.{Inside, Scorable, Stand, WeighedAt, scorerAt}
@@ -66,8 +67,8 @@ full-is : (scoring : Scoring) (file : List ℕ) (lists : List (List ℕ)) (q : �
 unfolding listOf
 full-is scoring file lists q = refl
 
-module _ (file : List ℕ) (lists : List (List ℕ)) (scoring : Scoring) (weights : List Float) (caches : List (List Float)) where
-  pub doc-low : (h : Held) (s : TermScorer) → Stand file lists h s → s .doc ≤ TERMINATED
+module _ (file : List ℕ) (lists : List (List ℕ)) where
+  doc-low : (h : Held) (s : TermScorer) → Stand file lists h s → s .doc ≤ TERMINATED
   doc-low h s S =
       omega (
         arith,
@@ -76,6 +77,16 @@ module _ (file : List ℕ) (lists : List (List ℕ)) (scoring : Scoring) (weight
             (cursorAt (h .places) (s .slot) .at),
       )
 
+  -- a pivot is a document
+  pub found-low : (h : Held) {l : List TermScorer} {before len p : ℕ} → All (Stand file lists h) l → Found l before len p → p < TERMINATED
+  found-low h {l} {before} {len} a q =
+      let k = q .first in
+      let n = q .inside in
+      let e = rw (drop-take-cons l len before noScorer k n) at (q .on) .0 in
+      let low = doc-low h (getD l before noScorer) (all-at (Stand file lists h) l before noScorer (omega arith) a) in
+      lt-of-ne (omega arith) (q .live)
+
+module _ (file : List ℕ) (lists : List (List ℕ)) (scoring : Scoring) (weights : List Float) (caches : List (List Float)) where
   module _ {h : Held} {l : List TermScorer} {before len p : ℕ} (A : AtPivot file lists scoring weights caches h l before len p) where
     abbrev f : TermScorer → Scorer Float
     f = scorerAt file lists scoring (h .places)
@@ -84,13 +95,7 @@ module _ (file : List ℕ) (lists : List (List ℕ)) (scoring : Scoring) (weight
     first = A .found .first
 
     pub pivot-low : p < TERMINATED
-    pivot-low =
-        let q = A .found in
-        let k = q .first in
-        let n = q .inside in
-        let e = rw (drop-take-cons l len before noScorer k n) at (q .on) .0 in
-        let low = doc-low h (getD l before noScorer) (all-at (Stand file lists h) l before noScorer (omega arith) (A .stands)) in
-        lt-of-ne (omega arith) (q .live)
+    pivot-low = found-low file lists h (A .stands) (A .found)
 
     -- a scorer on the pivot, safe on the route
     abbrev OnIt : Scorer Float → Type 0

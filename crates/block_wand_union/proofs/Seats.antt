@@ -1,9 +1,9 @@
 -- A move of one slot's scorer, seen from all the scorers of a union: the others stand as before, and the route's scorers with them.
-use mathlib.Core.List.{List, []}
+use mathlib.Core.List.{List, [], _∷_}
 use mathlib.Core.Path.{ap, refl, sym, _∙_, _≡_}
 use Prim.Native.Nat.{ℕ, _≤_, _<_}
 use native.Mathlib.Omega.{arith}
-use lib.ListN.{getD, length, length-set, set, take}
+use lib.ListN.{drop, getD, length, length-set, set, take, take-append-drop}
 use lib.Seq.{getD-set-other, getD-set-same, set-getD, take-take}
 use lib.Ieee.{Float, nan}
 use Rattle.bm25.specs.declared.Scoring.{Scoring}
@@ -13,6 +13,7 @@ use Rattle.route.specs.Postings.{Postings}
 use Rattle.route.specs.Cursor.{Cursor, blockMax}
 use Rattle.route.specs.F32.{f32}
 use Rattle.route.specs.Scorer.{onCur}
+use Rattle.route.proofs.Lists.{perm-eq}
 use Rattle.postings.specs.Decoded.{docIn, doc-is}
 use Rattle.postings.specs.Reader.{readerAt}
 use Rattle.term_scorer.specs.Rows.{cursorIn, placeRow, PlaceIn, postingsIn}
@@ -21,7 +22,7 @@ use Rattle.term_scorer.specs.Weights.{Bounded, Weighed}
 use Rattle.ordering.specs.declared.TermScorer.{TermScorer}
 use Rattle.ordering.specs.Scorers.{Apart, noScorer}
 use Rattle.ordering.proofs.Kept.{Kept, Off, kept-all, kept-apart, slots-all, slots-apart}
-use Rattle.ordering.proofs.OnRoute.{SameDoc}
+use Rattle.ordering.proofs.OnRoute.{Fair, SameDoc}
 use Rattle.ordering.proofs.Places.{all-at, all-take}
 use Rattle.ordering.proofs.Turns.{SameOff, replaced-all, replaced-slots}
 use Rattle.block_wand_union.specs.Seats.{Carried, Seat, Stand, Terms, Topped, WeighedAt, scorerAt, terms}
@@ -70,6 +71,11 @@ known-row file x row docs freqs P =
 -- of the first n, the first len
 pub first-of : (P : TermScorer → Type 0) (n len : ℕ) (l : List TermScorer) → len ≤ n → All P (take n l) → All P (take len l)
 first-of P n len l h a = rw (take-take len n l h) at (all-take P len (take n l) a)
+
+pub first-apart : (n len : ℕ) (l : List TermScorer) → len ≤ n → Apart (take n l) → Apart (take len l)
+first-apart n len l h a =
+    rw (take-take len n l h) at
+    (kept-apart {xs = take n l} {ys = take len (take n l)} (record { left-out = drop len (take n l); perm = perm-eq (sym (take-append-drop len (take n l))) }) a)
 
 module _ (file : List ℕ) (lists : List (List ℕ)) where
   -- ---- scorers whose rows stay
@@ -239,6 +245,12 @@ module _ (file : List ℕ) (lists : List (List ℕ)) where
       bound-here = B .bound-is ∙ ap (blockMax 128 f32 (listAt (T .scoring) file lists (s .slot))) (shallow-moved (S .stand) .moved .cursor-is (T .scoring))
 
   -- ---- all scorers
+
+  -- on their documents, with their list bounds by slot
+  pub fair : (maxScores : List Float) (scoring : Scoring) (h : Held) (l : List TermScorer) → All (Stand file lists h) l → All (Topped file lists scoring maxScores) l
+      → All (Fair maxScores (scorerAt file lists scoring (h .places))) l
+  fair maxScores scoring h [] a b = tt
+  fair maxScores scoring h (y ∷ ys) a b = (record { doc-is = same-doc scoring h y (a .0); max-is = b .0 }, fair maxScores scoring h ys (a .1) (b .1))
 
   pub carried-refl : (h : Held) (l : List TermScorer) → Apart l → All (Stand file lists h) l → Carried file lists h l h l
   carried-refl h l apart a = record { stands = a; apart = apart; seats = λ T s. s; weights = λ _ _ w. w; tops = λ _ _ t. t }
