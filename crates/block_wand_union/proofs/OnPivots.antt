@@ -41,7 +41,7 @@ use Rattle.block_wand_union.specs.Turns.{AtPivot, Pivoted}
 use Rattle.block_wand_union.proofs.Seats.{carried-trans, same-doc}
 
 module _ {A : Type 0} where
-  all-zip : (P Q R : A → Type 0) → ((x : A) → P x → Q x → R x) → (xs : List A) → All P xs → All Q xs → All R xs
+  pub all-zip : (P Q R : A → Type 0) → ((x : A) → P x → Q x → R x) → (xs : List A) → All P xs → All Q xs → All R xs
   all-zip P Q R f [] a b = tt
   all-zip P Q R f (x ∷ xs) a b = (f x (a .0) (b .0), all-zip P Q R f xs (a .1) (b .1))
 
