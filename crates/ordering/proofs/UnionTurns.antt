@@ -1,30 +1,26 @@
--- A turn of the union's loop, in the words of the scorers in their order: no pivot, blocks too low, a miss, a hit.
+-- A turn of the union's loop, in the words of the scorers in their order: no pivot, blocks too low, or the scorers sent to the pivot, with a miss or a hit.
 use mathlib.Core.Bool.{cond, false, true}
 use mathlib.Core.List.{List, map, _++_}
 use mathlib.Core.Path.{ap, sym, _∙_, _≡_}
-use Prim.Native.Nat.{suc, ℕ, _+_, _-_, _≤_}
+use Prim.Native.Nat.{ℕ, _+_, _-_, _≤_}
 use native.Mathlib.Omega.{arith}
-use lib.ListN.{drop, getD, length, set, take, take-append-drop}
+use lib.ListN.{drop, take, take-append-drop}
 use lib.Seq.{drop-drop, take-take}
 use lib.Ieee.{Float}
 use Rattle.route.specs.Lists.{All}
 use Rattle.route.specs.Score.{sum}
 use Rattle.route.specs.F32.{f32}
 use Rattle.route.specs.Report.{dueAt}
-use Rattle.route.specs.Ordering.{sortBy, sweep}
-use Rattle.route.specs.Scorer.{Scorer, advance, blockMaxScore, scoreHere, seek, seekBlock}
+use Rattle.route.specs.Scorer.{Scorer, blockMaxScore, scoreHere, seekBlock}
 use Rattle.route.specs.Route.{Turn, quiet}
-use Rattle.route.specs.Union.{Around, UnionPlace, advanceAllScorersOnPivot, afterAlign, afterPivot, alignScorers, behind, blockMaxWasTooLow, goOn, missedOn, onPivot, unionTurn}
+use Rattle.route.specs.Union.{Around, UnionPlace, advanceAllScorersOnPivot, afterAlign, afterPivot, alignScorers, aligned, blockMaxWasTooLow, goOn, missed, missedOn, onPivot, unionTurn}
 use Rattle.ordering.specs.declared.TermScorer.{TermScorer}
 use Rattle.ordering.specs.declared.Pivot.the-variants.{At, Nowhere}
-use Rattle.ordering.specs.Scorers.{Apart, byDoc, leastDocOf, moved, noScorer, returned}
-use Rattle.ordering.specs.Pivots.{pivotOf, placeToSeek}
-use Rattle.ordering.proofs.Places.{all-drop, all-take, drop-take, join, map-append, map-drop, map-take}
-use Rattle.ordering.proofs.OnRoute.{Fair, SameDoc, missed-on-route, pivot-on-route, pivotIn}
+use Rattle.ordering.specs.Pivots.{pivotOf}
+use Rattle.ordering.proofs.Places.{drop-take, join, map-append, map-drop, map-take}
+use Rattle.ordering.proofs.OnRoute.{Fair, pivot-on-route, pivotIn}
 use Rattle.ordering.proofs.Found.{Found, pivot-found}
-use Rattle.ordering.proofs.Turns.{SameOff, advanced-on-route, leastLast, too-low-on-route}
-use Rattle.ordering.proofs.Moving.{Moving, moved-all, Same, all-same, slots-length}
-use Rattle.ordering.proofs.Aligning.{Aligning, Missed, all-aligned}
+use Rattle.ordering.proofs.Moving.{Moving, all-same}
 
 module _ (B : ℕ) (t : Float) (l : List TermScorer) (before len p : ℕ) (first : before ≤ len) where
   -- the pivot's scorers follow those before it
@@ -66,42 +62,37 @@ module _ (B : ℕ) (t : Float) (l : List TermScorer) (before len p : ℕ) (first
   found-turn maxScores {f} fair e S =
       ap (λ o. afterPivot B f32 t o (map f l)) (pivot-on-route f maxScores t l fair ∙ ap (pivotIn f l) (sym e)) ∙ pivot-turn S
 
-  module _ {f g : TermScorer → Scorer Float} {l′ : List TermScorer} where
-    -- behind a miss at place j
-    after-miss : {j : ℕ} → Missed B p f l before j g l′ → before ≤ length l → All (SameDoc g) l′
-        → afterAlign B f32 t (alignScorers B p (map f (take before l))) p (map f (drop before (take len l))) (map f (drop len l))
-        ≡ quiet (goOn (map g (returned l′ j)))
-    after-miss {j} M fits docs =
-        let h = M .inside in
-        let long = slots-length l l′ (M .slots) in
-        let m : Around Float = record { left = map g (take j l′); one = g (getD l′ j noScorer); right = map g (drop (suc j) (take before l′)) } in
-        let rest : map f (drop before (take len l)) ++ map f (drop len l) ≡ map g (drop before l′) =
-        sym (map-append f (drop before (take len l)) (drop len l)) ∙ ap (map f) (join before len l first) ∙ sym (M .rest) in
-        ap (λ a. afterAlign B f32 t a p (map f (drop before (take len l))) (map f (drop len l))) (M .answer)
-        ∙ ap (λ z. quiet (goOn (missedOn m z))) rest ∙ ap (λ z. quiet (goOn z)) (sym (missed-on-route g l′ j before h (omega arith) docs))
+  module _ (g : TermScorer → Scorer Float) where
+    abbrev after : Turn (UnionPlace Float) Float
+    after = afterAlign B f32 t (alignScorers B p (map g (take before l))) p (map g (drop before (take len l))) (map g (drop len l))
 
-    -- behind `align_scorers`, all on the pivot
-    after-hit : {i : ℕ} → Aligning B p f l before i g l′ → i ≤ 0
-        → afterAlign B f32 t (alignScorers B p (map f (take before l))) p (map f (drop before (take len l))) (map f (drop len l))
-        ≡ record {
-          next = goOn (advanceAllScorersOnPivot B (map g (take len l′)) (map g (drop len l′)));
-          due = dueAt f32 t p (sum f32 (map scoreHere (map g (take len l′))));
+    -- one scorer missed the pivot, and was put back
+    pub after-miss : (m : Around Float) → alignScorers B p (map g (take before l)) ≡ missed m → after ≡ quiet (goOn (missedOn m (map g (drop before l))))
+    after-miss m e =
+        ap (λ a. afterAlign B f32 t a p (map g (drop before (take len l))) (map g (drop len l))) e
+        ∙ ap (λ z. quiet (goOn (missedOn m z))) (sym (map-append g (drop before (take len l)) (drop len l)) ∙ ap (map g) (join before len l first))
+
+    -- all came to the pivot, which is scored; then the first len advance
+    pub after-hit : (h : TermScorer → Scorer Float) (l′ : List TermScorer) → alignScorers B p (map g (take before l)) ≡ aligned (map h (take before l′))
+        → map h (drop before l′) ≡ map g (drop before l)
+        → after ≡ record {
+          next = goOn (advanceAllScorersOnPivot B (map h (take len l′)) (map h (drop len l′)));
+          due = dueAt f32 t p (sum f32 (map scoreHere (map h (take len l′))));
         }
-    after-hit S h =
+    after-hit h l′ e rest =
         let d = len - before in
-        let e : before + d ≡ len = omega arith in
-        let piv : map f (drop before (take len l)) ≡ map g (drop before (take len l′)) =
-        ap (map f) (drop-take before len l) ∙ sym (all-same f g (take d (drop before l)) (all-take (Same f g) d (drop before l) (S .rest-same)))
-        ∙ ap (map g) (ap (take d) (sym (S .rest)) ∙ sym (drop-take before len l′)) in
-        let behind : (k : List TermScorer) → drop d (drop before k) ≡ drop len k = λ k. drop-drop d before k ∙ ap (λ (z : ℕ). drop z k) e in
-        let post : map f (drop len l) ≡ map g (drop len l′) =
-        sym (ap (map f) (behind l)) ∙ sym (all-same f g (drop d (drop before l)) (all-drop (Same f g) d (drop before l) (S .rest-same)))
-        ∙ ap (map g) (ap (drop d) (sym (S .rest)) ∙ behind l′) in
+        let n : before + d ≡ len = omega arith in
+        let cut : (k : TermScorer → Scorer Float) (z : List TermScorer) → map k (drop before (take len z)) ≡ take d (map k (drop before z)) =
+        λ k z. ap (map k) (drop-take before len z) ∙ map-take k d (drop before z) in
+        let cut′ : (k : TermScorer → Scorer Float) (z : List TermScorer) → map k (drop len z) ≡ drop d (map k (drop before z)) =
+        λ k z. ap (map k) (ap (λ (y : ℕ). drop y z) (sym n) ∙ sym (drop-drop d before z)) ∙ map-drop k d (drop before z) in
+        let piv : map g (drop before (take len l)) ≡ map h (drop before (take len l′)) = cut g l ∙ ap (take d) (sym rest) ∙ sym (cut h l′) in
+        let post : map g (drop len l) ≡ map h (drop len l′) = cut′ g l ∙ ap (drop d) (sym rest) ∙ sym (cut′ h l′) in
         let next : List (Scorer Float) → List (Scorer Float) → Turn (UnionPlace Float) Float = λ x y.
         record { next = goOn (advanceAllScorersOnPivot B x y); due = dueAt f32 t p (sum f32 (map scoreHere x)) } in
-        let on = map g (take before l′) in
-        ap (λ a. afterAlign B f32 t a p (map f (drop before (take len l))) (map f (drop len l))) (all-aligned B p f l before S h)
-        ∙ ap (λ z. next (on ++ z) (map f (drop len l))) piv ∙ ap (λ z. next z (map f (drop len l))) (whole g l′) ∙ ap (next (map g (take len l′))) post
+        let on = map h (take before l′) in
+        ap (λ a. afterAlign B f32 t a p (map g (drop before (take len l))) (map g (drop len l))) e
+        ∙ ap (λ z. next (on ++ z) (map g (drop len l))) piv ∙ ap (λ z. next z (map g (drop len l))) (whole h l′) ∙ ap (next (map h (take len l′))) post
 
 module _ (B : ℕ) (t : Float) (l : List TermScorer) (maxScores : List Float) (f : TermScorer → Scorer Float) (fair : All (Fair maxScores f) l) where
   -- no pivot ends the loop
@@ -119,30 +110,13 @@ module _ (B : ℕ) (t : Float) (l : List TermScorer) (maxScores : List Float) (f
     ordered : before ≤ len
     ordered = let q = places in omega arith
 
-    -- one scorer goes on, at place at, and the order is restored from there
-    pub low-turn : (h : TermScorer → Scorer Float) (at d : ℕ) (x′ : TermScorer) → f32 .above blockMaxSum t ≡ false
-        → All (Fair maxScores g) l → Apart l → at ≡ placeToSeek maxScores (take len l) → d ≡ leastDocOf (behind (leastLast B g (take len l))) (drop len l)
-        → SameOff (getD l at noScorer .slot) g h → h x′ ≡ seek B d (g (getD l at noScorer)) → SameDoc h x′
-        → unionTurn B f32 t (goOn (map f l)) ≡ quiet (goOn (map h (moved (set l at x′) at)))
-    low-turn h at d x′ low fair′ apart qa qd same s doc =
-        let q = places in
-        found-turn B t l before len p ordered maxScores fair found sought ∙ (rw low)
-        ∙ ap (λ z. quiet (goOn z)) (sym (too-low-on-route B maxScores g h l len at d x′ (omega arith) (q .inside) fair′ apart qa qd same s doc))
+    -- one scorer goes on
+    pub low-turn : (ss : List (Scorer Float)) → f32 .above blockMaxSum t ≡ false → ss ≡ blockMaxWasTooLow B f32 (map g (take len l)) (map g (drop len l))
+        → unionTurn B f32 t (goOn (map f l)) ≡ quiet (goOn ss)
+    low-turn ss low e = found-turn B t l before len p ordered maxScores fair found sought ∙ (rw low) ∙ ap (λ z. quiet (goOn z)) (sym e)
 
-    -- one scorer misses the pivot, and is put back
-    pub missed-turn : (h : TermScorer → Scorer Float) (j : ℕ) (l′ : List TermScorer) → f32 .above blockMaxSum t ≡ true → Missed B p g l before j h l′
-        → All (SameDoc h) l′ → unionTurn B f32 t (goOn (map f l)) ≡ quiet (goOn (map h (returned l′ j)))
-    missed-turn h j l′ high M docs =
-        let q = places in
-        found-turn B t l before len p ordered maxScores fair found sought ∙ (rw high) ∙ after-miss B t l before len p ordered M (omega arith) docs
-
-    -- all come to the pivot, which is scored; then the first len advance, the finished go, and the rest is sorted
-    pub hit-turn : (h u : TermScorer → Scorer Float) (l′ l″ : List TermScorer) (n : ℕ) {i : ℕ} → f32 .above blockMaxSum t ≡ true → i ≤ 0 → Aligning B p g l before i h l′
-        → Moving (advance B) h l′ len u l″ → length l″ ≡ n → All (SameDoc u) l″
-        → unionTurn B f32 t (goOn (map f l))
-        ≡ record { next = goOn (map u (sortBy byDoc (sweep byDoc n l″))); due = dueAt f32 t p (sum f32 (map scoreHere (map h (take len l′)))) }
-    hit-turn h u l′ l″ n high z A D long docs =
-        let on = map h (take len l′) in
-        found-turn B t l before len p ordered maxScores fair found sought ∙ (rw high) ∙ after-hit B t l before len p ordered A z
-        ∙ ap (λ ss. record { next = goOn ss; due = dueAt f32 t p (sum f32 (map scoreHere on)) })
-        (sym (advanced-on-route B u l″ n on (map h (drop len l′)) long docs (moved-all (advance B) h l′ D)))
+    -- the scorers before the pivot are sent to it
+    pub high-turn : (u : Turn (UnionPlace Float) Float) → f32 .above blockMaxSum t ≡ true
+        → u ≡ afterAlign B f32 t (alignScorers B p (map g (take before l))) p (map g (drop before (take len l))) (map g (drop len l))
+        → unionTurn B f32 t (goOn (map f l)) ≡ u
+    high-turn u high e = found-turn B t l before len p ordered maxScores fair found sought ∙ (rw high) ∙ sym e

@@ -1,0 +1,194 @@
+-- At a pivot: scorers that all came to it can be scored and go on, and what the step leaves is the route's.
+use mathlib.Core.Bool.{Bool, false, true}
+use mathlib.Core.List.{List, map, [], _++_, _∷_}
+use mathlib.Core.Path.{ap, refl, subst, sym, _∙_, _≡_}
+use Prim.Native.Nat.{suc, ℕ, _-_, _<_, _≤_}
+use native.Mathlib.Omega.{arith}
+use lib.Dec.{leb}
+use lib.ListN.{drop, getD, take, take-append-drop}
+use lib.Seq.{take-take}
+use lib.Ieee.{Float}
+use borrow.Author.Tests.{leb-false, leb-true}
+use Rattle.bm25.specs.declared.Scoring.{Scoring}
+use Rattle.bm25.specs.declared.Scoring.the-variants.{Unstepped}
+use Rattle.notefile.specs.Header.{documents}
+use Rattle.route.specs.Lists.{All}
+use Rattle.route.specs.Score.{sum}
+use Rattle.route.specs.F32.{f32}
+use Rattle.route.specs.Postings.{TERMINATED, start}
+use Rattle.route.specs.Report.{dueAt}
+use Rattle.route.specs.Scorer.{Scorer, docOf, scoreHere, seek}
+use Rattle.route.specs.Union.{aligned, goOn}
+use Rattle.route.specs.Route.{quiet}
+use Rattle.route.proofs.Cases.{lt-of-ne, on-test}
+use Rattle.route.proofs.Lists.{all-append, all-imp, all-map}
+use Rattle.route.proofs.Places.{docAt-cap, docAt-lt, start-suc}
+use Rattle.route.proofs.Pivot.{AlignIs, align-is}
+use Rattle.route.proofs.UnionSafe.{SafeS, safe-seek}
+use Rattle.decoded.specs.Lists.{listOf}
+use Rattle.decoded.proofs.AcceptedLists.{list-ok}
+use Rattle.term_scorer.specs.Slots.{cursorAt, Held, listAt, partAt, Sixteen}
+use Rattle.ordering.specs.declared.TermScorer.{TermScorer}
+use Rattle.ordering.specs.declared.Scorers.{Scorers}
+use Rattle.ordering.specs.Scorers.{noScorer}
+use Rattle.ordering.proofs.Places.{all-at, all-drop, all-take, drop-take, drop-take-cons, map-append, map-drop, map-take}
+use Rattle.ordering.proofs.Found.{Found}
+use Rattle.ordering.proofs.UnionTurns.{after-hit, after-miss}
+use Rattle.block_wand_union.specs.declared.align.Alignment.{Alignment}
+use Rattle.block_wand_union.specs.Seats.{Inside, Scorable, Stand, WeighedAt, scorerAt}
+use Rattle.block_wand_union.specs.Moves.{AdvancedAll, AlignedBy, Aligns, OnPivot, PastPivot}
+use Rattle.block_wand_union.specs.Turns.{AtPivot, Pivoted}
+use Rattle.block_wand_union.proofs.Seats.{carried-trans, same-doc}
+
+module _ {A : Type 0} where
+  pub all-zip : (P Q R : A → Type 0) → ((x : A) → P x → Q x → R x) → (xs : List A) → All P xs → All Q xs → All R xs
+  all-zip P Q R f [] a b = tt
+  all-zip P Q R f (x ∷ xs) a b = (f x (a .0) (b .0), all-zip P Q R f xs (a .1) (b .1))
+
+  all-unmap : {B : Type 0} (P : B → Type 0) (g : A → B) (xs : List A) → All P (map g xs) → All (λ x. P (g x)) xs
+  all-unmap P g [] a = tt
+  all-unmap P g (x ∷ xs) a = (a .0, all-unmap P g xs (a .1))
+
+-- on a document, the skip reader is in the list
+block-inside : (B N : ℕ) {S : Type 0} (s : Scorer S) → SafeS B N s → docOf s < TERMINATED → s .cur .blk ≤ s .list .full
+block-inside B N s k d =
+    let l = s .list in
+    let c = s .cur in
+    let i = docAt-lt B N l (k .ok) (c .at) d in
+    let il = k .safe .in-list in
+    on-test (leb (c .blk) (l .full)) (λ e. leb-true (c .blk) (l .full) e)
+    (λ e.
+    let w = leb-false (c .blk) (l .full) e in
+    let b : c .blk ≡ suc (l .full) = omega arith in
+    let st = ap (start B) (k .safe .edge b ∙ b) in
+    absurd (omega (arith, start-suc B (l .full), k .ok .tail, k .safe .lo)))
+
+full-is : (scoring : Scoring) (file : List ℕ) (lists : List (List ℕ)) (q : ℕ) → listAt scoring file lists q .full ≡ Rattle.notefile.specs.Lists.fullBlocks (partAt lists q)
+unfolding listOf
+full-is scoring file lists q = refl
+
+module _ (file : List ℕ) (lists : List (List ℕ)) where
+  doc-low : (h : Held) (s : TermScorer) → Stand file lists h s → s .doc ≤ TERMINATED
+  doc-low h s S =
+      omega (
+        arith,
+        same-doc file lists Unstepped h s S,
+        docAt-cap 128 (documents file) (listAt Unstepped file lists (s .slot)) (list-ok Unstepped file (partAt lists (s .slot)) (S .slot .list .right) (S .slot .list .few))
+            (cursorAt (h .places) (s .slot) .at),
+      )
+
+  -- a pivot is a document
+  pub found-low : (h : Held) {l : List TermScorer} {before len p : ℕ} → All (Stand file lists h) l → Found l before len p → p < TERMINATED
+  found-low h {l} {before} {len} a q =
+      let k = q .first in
+      let n = q .inside in
+      let e = rw (drop-take-cons l len before noScorer k n) at (q .on) .0 in
+      let low = doc-low h (getD l before noScorer) (all-at (Stand file lists h) l before noScorer (omega arith) a) in
+      lt-of-ne (omega arith) (q .live)
+
+module _ (file : List ℕ) (lists : List (List ℕ)) (scoring : Scoring) (weights : List Float) (caches : List (List Float)) where
+  module _ {h : Held} {l : List TermScorer} {before len p : ℕ} (A : AtPivot file lists scoring weights caches h l before len p) where
+    abbrev f : TermScorer → Scorer Float
+    f = scorerAt file lists scoring (h .places)
+
+    first : before < len
+    first = A .found .first
+
+    pub pivot-low : p < TERMINATED
+    pivot-low = found-low file lists h (A .stands) (A .found)
+
+    -- a scorer on the pivot, safe on the route
+    abbrev OnIt : Scorer Float → Type 0
+    OnIt z = (docOf z ≡ p) × SafeS 128 (documents file) z
+
+    module _ {h′ : Held} {l′ : List TermScorer} (O : OnPivot file lists p h l before h′ l′) where
+      abbrev g : TermScorer → Scorer Float
+      g = scorerAt file lists scoring (h′ .places)
+
+      whole : map g (take before l′) ++ map g (drop before (take len l′)) ≡ map g (take len l′)
+      whole =
+          let k = first in
+          sym (map-append g (take before l′) (drop before (take len l′)))
+          ∙ ap (map g) (ap (λ z. z ++ drop before (take len l′)) (sym (take-take before len l′ (omega arith))) ∙ take-append-drop before (take len l′))
+
+      -- those before the pivot have come to it
+      came : All OnIt (map g (take before l′))
+      came =
+          let pre = map f (take before l) in
+          let low = pivot-low in
+          let is = subst (AlignIs 128 p pre) (O .aligned-are scoring) (align-is 128 p pre) in
+          let safe : All (SafeS 128 (documents file)) pre = rw (map-take f before l) (all-take (SafeS 128 (documents file)) before (map f l) (A .safe)) in
+          let sought = all-map (SafeS 128 (documents file)) (SafeS 128 (documents file)) (seek 128 p) pre (λ s k. safe-seek 128 (documents file) p s (omega arith) k .safe) safe in
+          all-zip (λ z. docOf z ≡ p) (SafeS 128 (documents file)) OnIt (λ _ d k. (d, k)) (map g (take before l′)) (is .1) (rw (is .0) sought)
+
+      -- the others were on it
+      were : All OnIt (map g (drop before (take len l′)))
+      were =
+          let d = len - before in
+          let part = drop before (take len l) in
+          let cut : (k : TermScorer → Scorer Float) (z : List TermScorer) → map k (drop before (take len z)) ≡ take d (map k (drop before z)) =
+          λ k z. ap (map k) (drop-take before len z) ∙ map-take k d (drop before z) in
+          let same : map g (drop before (take len l′)) ≡ map f part = cut g l′ ∙ ap (take d) (O .rest-are scoring) ∙ sym (cut f l) in
+          let stands = all-drop (Stand file lists h) before (take len l) (all-take (Stand file lists h) len l (A .stands)) in
+          let docs : All (λ z. docOf z ≡ p) (map f part) =
+          all-map (λ s. docOf (f s) ≡ p) (λ z. docOf z ≡ p) f part (λ _ e. e)
+          (all-zip (Stand file lists h) (λ s. s .doc ≡ p) (λ s. docOf (f s) ≡ p) (λ s S e. same-doc file lists scoring h s S ∙ e) part stands (A .found .on)) in
+          let safe : All (SafeS 128 (documents file)) (map f part) =
+          rw (map-drop f before (take len l), map-take f len l) (all-drop (SafeS 128 (documents file)) before (take len (map f l)) (all-take (SafeS 128 (documents file)) len (map f l) (A .safe))) in
+          rw same (all-zip (λ z. docOf z ≡ p) (SafeS 128 (documents file)) OnIt (λ _ e k. (e, k)) (map f part) docs safe)
+
+      on-it : All (λ s. OnIt (g s)) (take len l′)
+      on-it = all-unmap OnIt g (take len l′) (rw whole at (all-append OnIt (map g (take before l′)) (map g (drop before (take len l′))) came were))
+
+      pub scorable : All (Scorable file lists weights caches h′) (take len l′)
+      scorable =
+          let low = pivot-low in
+          let stands = all-take (Stand file lists h′) len l′ (O .carried .stands) in
+          let weighed = all-take (WeighedAt file lists weights caches) len l′ (O .carried .weights weights caches (A .weighed)) in
+          all-zip (λ s. Stand file lists h′ s × WeighedAt file lists weights caches s) (λ s. OnIt (g s)) (Scorable file lists weights caches h′)
+          (λ s z o. record { stand = z .0; weighed = z .1; live = omega (arith, same-doc file lists scoring h′ s (z .0), o .0) }) (take len l′)
+          (all-zip (Stand file lists h′) (WeighedAt file lists weights caches) (λ s. Stand file lists h′ s × WeighedAt file lists weights caches s) (λ _ a b. (a, b)) (take len l′) stands weighed) on-it
+
+      pub insides : All (Inside file lists h′) (take len l′)
+      insides =
+          let low = pivot-low in
+          all-imp (λ s. OnIt (g s)) (Inside file lists h′) (take len l′)
+          (λ s o. rw (full-is scoring file lists (s .slot)) at (block-inside 128 (documents file) (g s) (o .1) (omega (arith, o .0)))) on-it
+
+      -- what a hit leaves, at threshold t
+      pub hit : (t : Float) (n : ℕ) {h″ : Held} {left : Scorers} {score : Float} → AdvancedAll file lists h′ l′ n len h″ left
+          → {on : List TermScorer} → take len l′ ≡ on → score ≡ sum f32 (map scoreHere (map g on))
+          → Pivoted file lists scoring t h l n before len p h″ (record { scorers = left .scorers; len = left .len; more = true; due = f32 .above score t; doc = p; score = score })
+      hit t n {h″} {left} {score} D q e =
+          let k = first in
+          let next = map (scorerAt file lists scoring (h″ .places)) (take (left .len) (left .scorers)) in
+          record {
+            carried = carried-trans file lists (O .carried) (D .carried);
+            turn-is =
+                ap (λ (x : Float). record { next = goOn next; due = dueAt f32 t p x }) (e ∙ rw q)
+                ∙ ap (λ ss. record { next = goOn ss; due = dueAt f32 t p (sum f32 (map scoreHere (map g (take len l′)))) }) (D .scorers-are scoring)
+                ∙ sym (after-hit 128 t l before len p (omega arith) f g l′ (O .aligned-are scoring) (O .rest-are scoring));
+            few = D .few;
+            long = D .long;
+          }
+
+    -- what a miss leaves
+    pub miss : (t : Float) (n : ℕ) {h′ : Held} {out : List TermScorer} {len′ : ℕ} {score : Float} → PastPivot file lists p h l before h′ (take len′ out) → len′ ≤ n → Sixteen out
+        → Pivoted file lists scoring t h l n before len p h′ (record { scorers = out; len = len′; more = true; due = false; doc = p; score = score })
+    miss t n P few long =
+        let k = first in
+        let m = P .missed-is scoring in
+        record {
+          carried = P .carried;
+          turn-is = ap (λ ss. quiet (goOn ss)) (m .2) ∙ sym (after-miss 128 t l before len p (omega arith) f (m .0) (m .1));
+          few = few;
+          long = long;
+        }
+
+-- `align_scorers`' answer
+module _ (file : List ℕ) (lists : List (List ℕ)) {p : ℕ} {h h′ : Held} {l : List TermScorer} {n before : ℕ} {r : Alignment} (E : Aligns file lists p h l n before h′ r) where
+  pub came-to : r .«on_pivot» ≡ true → OnPivot file lists p h l before h′ (take n (r .scorers))
+  came-to e = rw (E .all e) at (subst (λ (b : Bool). AlignedBy file lists b p h l before h′ (take (r .len) (r .scorers))) e (E .by))
+
+  pub went-past : r .«on_pivot» ≡ false → PastPivot file lists p h l before h′ (take (r .len) (r .scorers))
+  went-past e = subst (λ (b : Bool). AlignedBy file lists b p h l before h′ (take (r .len) (r .scorers))) e (E .by)

@@ -1,0 +1,107 @@
+-- A turn is the route's: with no pivot, past blocks too low, or at the pivot.
+use mathlib.Core.Bool.{false, true}
+use mathlib.Core.List.{List, map, _++_}
+use mathlib.Core.Path.{ap, refl, sym, _∙_, _≡_}
+use Prim.Native.Nat.{ℕ, _≤_, _<_}
+use native.Mathlib.Omega.{arith}
+use lib.ListN.{drop, length-take, take}
+use lib.Seq.{take-take}
+use lib.Ieee.{Float}
+use Rattle.notefile.specs.Header.{documents}
+use Rattle.route.specs.Lists.{All}
+use Rattle.route.specs.F32.{f32}
+use Rattle.route.specs.Postings.{TERMINATED}
+use Rattle.route.specs.Scorer.{Scorer, seekBlock}
+use Rattle.route.specs.Union.{goOn}
+use Rattle.route.proofs.Lists.{all-append, all-imp, all-map}
+use Rattle.route.proofs.UnionSafe.{SafeS, safe-shallow}
+use Rattle.route.proofs.UnionEnds.{UnionKept}
+use Rattle.term_scorer.specs.Slots.{Held, Sixteen}
+use Rattle.ordering.specs.declared.TermScorer.{TermScorer}
+use Rattle.ordering.specs.declared.Pivot.the-variants.{At, Nowhere}
+use Rattle.ordering.specs.Pivots.{pivotOf}
+use Rattle.ordering.proofs.Places.{all-at, all-drop, all-take, drop-take-cons, map-drop, map-take}
+use Rattle.ordering.proofs.Found.{Found, pivot-found}
+use Rattle.ordering.proofs.Moving.{moved-all}
+use Rattle.ordering.proofs.UnionTurns.{high-turn, low-turn, nowhere-turn}
+use Rattle.block_wand_union.specs.declared.turn.Step.{Step}
+use Rattle.block_wand_union.specs.Seats.{Seat, Seated, Stand, Terms, WeighedAt, scorerAt, terms}
+use Rattle.block_wand_union.specs.Moves.{BlocksSought, TooLow}
+use Rattle.block_wand_union.specs.Turns.{AtPivot, Pivoted, Turned}
+use Rattle.block_wand_union.proofs.Seats.{fair}
+use Rattle.block_wand_union.proofs.OnPivots.{found-low}
+
+module _ (file : List ℕ) (lists : List (List ℕ)) (T : Terms) (maxScores : List Float) (t : Float) (h : Held) (l : List TermScorer) (S : Seated file lists T maxScores h l) where
+  abbrev f : TermScorer → Scorer Float
+  f = scorerAt file lists (T .scoring) (h .places)
+
+  pub stands : All (Stand file lists h) l
+  stands = all-imp (Seat file lists T h) (Stand file lists h) l (λ _ s. s .stand) (S .seats)
+
+  pub in-slots : All (λ s. s .slot < 16) l
+  in-slots = all-imp (Stand file lists h) (λ s. s .slot < 16) l (λ _ s. s .slot-in) stands
+
+  -- no pivot: the loop ends
+  pub nowhere : Nowhere ≡ pivotOf maxScores t l → (ss : List TermScorer) (n : ℕ) → take n ss ≡ l → Sixteen ss → (doc : ℕ) (score : Float)
+      → Turned file lists T maxScores t h l n h (T .bounds) (record { scorers = ss; len = n; more = false; due = false; doc = doc; score = score })
+  nowhere e ss n q long doc score = record {
+    turn-is = nowhere-turn 128 t l maxScores f (fair file lists maxScores (T .scoring) h l stands (S .tops)) e ∙ rw q;
+    seated = rw q S;
+    few = omega arith;
+    long = long;
+  }
+
+  module _ {before len p : ℕ} (e : At before len p ≡ pivotOf maxScores t l) where
+    pub found : Found l before len p
+    found = pivot-found maxScores t l e
+
+    module _ (kept : UnionKept 128 (documents file) f32 (goOn (map f l))) {h′ : Held} {bounds′ : List Float} {sum : Float}
+        (B : BlocksSought file lists T h p len h′ bounds′ sum l) where
+      abbrev g : TermScorer → Scorer Float
+      g = scorerAt file lists (T .scoring) (h′ .places)
+
+      abbrev T′ : Terms
+      T′ = terms (T .scoring) (T .weights) (T .caches) bounds′
+
+      pub stands′ : All (Stand file lists h′) l
+      stands′ = all-imp (Seat file lists T′ h′) (Stand file lists h′) l (λ _ s. s .stand) (B .seats)
+
+      -- shallow seeks keep the scorers safe
+      safe′ : All (SafeS 128 (documents file)) (map g l)
+      safe′ =
+          let low = found-low file lists h stands found in
+          let part : All (SafeS 128 (documents file)) (map f (take len l)) = rw (map-take f len l) (all-take (SafeS 128 (documents file)) len (map f l) (kept .scs)) in
+          let rest : All (SafeS 128 (documents file)) (map f (drop len l)) = rw (map-drop f len l) (all-drop (SafeS 128 (documents file)) len (map f l) (kept .scs)) in
+          rw (moved-all (seekBlock 128 p) f l (B .moving))
+          (all-append (SafeS 128 (documents file)) (map (seekBlock 128 p) (map f (take len l))) (map f (drop len l))
+          (all-map (SafeS 128 (documents file)) (SafeS 128 (documents file)) (seekBlock 128 p) (map f (take len l)) (λ s k. safe-shallow 128 (documents file) p s (omega arith) k .safe) part) rest)
+
+      pub at-pivot : AtPivot file lists (T .scoring) (T .weights) (T .caches) h′ l before len p
+      at-pivot = record {
+        found = found;
+        stands = stands′;
+        weighed = all-imp (Seat file lists T′ h′) (WeighedAt file lists (T .weights) (T .caches)) l (λ _ s. s .weighed) (B .seats);
+        safe = safe′;
+      }
+
+      sum-above : {b : mathlib.Core.Bool.Bool} → f32 .above sum t ≡ b → f32 .above (Rattle.route.specs.Score.sum f32 (map (Rattle.route.specs.Scorer.blockMaxScore 128 f32) (map g (take len l)))) t ≡ b
+      sum-above q = rw (B .sum-is) at q
+
+      -- at the pivot
+      pub high : f32 .above sum t ≡ true → {n : ℕ} {h″ : Held} {r : Step} → Pivoted file lists (T .scoring) t h′ l n before len p h″ r → Turned file lists T maxScores t h l n h″ bounds′ r
+      high q P = record {
+        turn-is = high-turn 128 t l maxScores f (fair file lists maxScores (T .scoring) h l stands (S .tops)) before len p e g (B .moving) _ (sum-above q) (P .turn-is);
+        seated = record { seats = P .carried .seats T′ (B .seats); apart = P .carried .apart; tops = P .carried .tops (T .scoring) maxScores (S .tops); sixteen = B .sixteen };
+        few = P .few;
+        long = P .long;
+      }
+
+      -- past blocks too low
+      pub low : f32 .above sum t ≡ false → {n : ℕ} {h″ : Held} {out : List TermScorer} → TooLow file lists maxScores h′ l len h″ (take n out) → Sixteen out → (doc : ℕ) (score : Float)
+          → Turned file lists T maxScores t h l n h″ bounds′ (record { scorers = out; len = n; more = true; due = false; doc = doc; score = score })
+      low q P long doc score = record {
+        turn-is = low-turn 128 t l maxScores f (fair file lists maxScores (T .scoring) h l stands (S .tops)) before len p e g (B .moving) _ (sum-above q) (P .scorers-are (T .scoring) (S .tops));
+        seated = record { seats = P .carried .seats T′ (B .seats); apart = P .carried .apart; tops = P .carried .tops (T .scoring) maxScores (S .tops); sixteen = B .sixteen };
+        few = omega arith;
+        long = long;
+      }

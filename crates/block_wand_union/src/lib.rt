@@ -1,0 +1,90 @@
+// The union's skipping run: `block_wand` over two or more scorers, each in its slot.
+pub mod align;
+pub mod blocks;
+pub mod low;
+pub mod pivot;
+pub mod turn;
+
+ghost use mathlib.Core.List.{map};
+ghost use mathlib.Core.Path.{_≡_};
+ghost use Prim.Native.Nat.{_≤_};
+ghost use lib.ListN.{take};
+ghost use lib.Ieee.{Float};
+ghost use Rattle.notefile.specs.Header.{normReader};
+ghost use Rattle.route.specs.Lists.{All};
+ghost use Rattle.route.specs.F32.{f32};
+ghost use Rattle.route.specs.Union.{UnionPlace, pivotRoute};
+ghost use Rattle.rule.specs.Follows.{Keeps};
+ghost use Rattle.reports.specs.Runs.{Ran};
+ghost use Rattle.term_scorer.specs.Slots.{held};
+ghost use Rattle.block_wand_union.specs.Seats.{Seated, scorerAt, terms};
+ghost use Rattle.block_wand_union.specs.Fresh.{Fresh};
+use bm25::Scoring;
+use crate::turn::turn;
+use fieldnorm::FieldNormReader;
+use ordering::TermScorer;
+use ordering::sort_by_doc;
+use reports::report;
+use reports::rows;
+use rule::Rule;
+use rule::Threshold;
+
+// Whether a report found every row full, and how many rows are written.
+pub struct Ended {
+    pub full: bool,
+    pub count: usize,
+}
+
+// From scorers just opened to the route's end, or to a report for which no row is left. Then the route stands before the turn that found it.
+pub fn block_wand(
+    file: &[u8],
+    norms: FieldNormReader,
+    weights: &[f32; 16],
+    caches: &[[f32; 256]; 16],
+    max_scores: &[f32; 16],
+    scoring: Scoring,
+    lists: &[[usize; 8]; 16],
+    scorers: [TermScorer; 16],
+    n: usize,
+    rule: Rule,
+    script: &[f32],
+    places: &mut [[usize; 8]; 16],
+    docs: &mut [[u32; 128]; 16],
+    freqs: &mut [[u32; 128]; 16],
+    bounds: &mut [f32; 16],
+    documents: &mut [u32],
+    scores: &mut [f32],
+) -> Ended
+    requires { ⌜ (n ≤ 16) × (norms ≡ normReader (now file)) × Keeps rule × Seated (now file) (now lists) (terms scoring (now weights) (now caches) (now bounds)) (now «max_scores») (held (now places) (now docs) (now freqs)) (take n scorers) × All (Fresh (now places)) (take n scorers) ⌝ }
+    ensures { λ r. ⌜ ((place : UnionPlace Float) × Ran (pivotRoute 128 f32 (map (scorerAt (now (file .entry)) (now (lists .entry)) scoring (now (places .entry))) (take n scorers))) rule (now (script .entry)) (now (documents .entry)) (now (scores .entry)) (r .full) (r .count) (now (documents .exit)) (now (scores .exit)) place) ⌝ }
+{
+    let all = rows(documents, scores);
+    let mut t = Threshold::new(rule);
+    let mut alive = sort_by_doc(scorers, n);
+    let mut len = n;
+    let mut more = true;
+    while more {
+        let step = turn(
+            file, norms, weights, caches, max_scores, scoring, lists, t.now, alive, len, places,
+            docs, freqs, bounds,
+        );
+        let left = step.scorers;
+        alive = left;
+        len = step.len;
+        more = step.more;
+        if step.due {
+            if t.reports == all {
+                return Ended {
+                    full: true,
+                    count: t.reports,
+                };
+            }
+            let told = report(rule, script, t, step.doc, step.score, documents, scores);
+            t = told;
+        }
+    }
+    Ended {
+        full: false,
+        count: t.reports,
+    }
+}

@@ -1,0 +1,81 @@
+// Past blocks that are too low: one scorer goes on.
+ghost use mathlib.Core.Path.{_≡_};
+ghost use Prim.Native.Nat.{_≤_, _<_};
+ghost use lib.ListN.{take};
+ghost use Rattle.route.specs.Lists.{All};
+ghost use Rattle.route.specs.Union.{behind};
+ghost use Rattle.term_scorer.specs.Slots.{held};
+ghost use Rattle.ordering.specs.Scorers.{Apart};
+ghost use Rattle.block_wand_union.specs.Seats.{Stand};
+ghost use Rattle.block_wand_union.specs.Moves.{leastLastOf, LastRead, TooLow};
+use ordering::TERMINATED;
+use ordering::TermScorer;
+use ordering::least_doc;
+use ordering::restore_ordering;
+use ordering::scorer_to_seek;
+use term_scorer::slot;
+
+// The least last document of the first scorers' present blocks.
+fn least_last_doc(
+    scorers: [TermScorer; 16],
+    pivot_len: usize,
+    places: &[[usize; 8]; 16],
+) -> u32
+    requires { ⌜ («pivot_len» ≤ 16) × All (LastRead (now places)) (take «pivot_len» scorers) ⌝ }
+    ensures { λ r. ⌜ r ≡ leastLastOf (now (places .entry)) 2147483647 (take «pivot_len» scorers) ⌝ }
+{
+    let mut least = TERMINATED;
+    let mut i = 0usize;
+    while i < pivot_len {
+        let scorer = scorers[i];
+        let q = scorer.slot as usize;
+        let last = slot::last_doc_in_block(q, places);
+        i += 1;
+        if last <= least {
+            least = last;
+        }
+    }
+    least
+}
+
+// One document further, unless there is none.
+fn behind(last: u32) -> u32
+    requires { ⌜ last ≤ 2147483647 ⌝ }
+    ensures { λ r. ⌜ r ≡ behind last ⌝ }
+{
+    if last == TERMINATED {
+        return last;
+    }
+    last + 1
+}
+
+// The scorer with the highest list bound goes past the first of the present blocks to end, but not past a scorer behind the pivot.
+pub fn block_max_was_too_low_advance_one_scorer(
+    file: &[u8],
+    lists: &[[usize; 8]; 16],
+    max_scores: &[f32; 16],
+    scorers: [TermScorer; 16],
+    n: usize,
+    pivot_len: usize,
+    places: &mut [[usize; 8]; 16],
+    docs: &mut [[u32; 128]; 16],
+    freqs: &mut [[u32; 128]; 16],
+) -> [TermScorer; 16]
+    requires { ⌜ (0 < «pivot_len») × («pivot_len» ≤ n) × (n ≤ 16) × Apart (take n scorers) × All (Stand (now file) (now lists) (held (now places) (now docs) (now freqs))) (take n scorers) ⌝ }
+    ensures { λ r. ⌜ TooLow (now (file .entry)) (now (lists .entry)) (now («max_scores» .entry)) (held (now (places .entry)) (now (docs .entry)) (now (freqs .entry))) (take n scorers) «pivot_len» (held (now (places .exit)) (now (docs .exit)) (now (freqs .exit))) (take n r) ⌝ }
+{
+    let doc_to_seek_after = least_last_doc(scorers, pivot_len, places);
+    let target = least_doc(scorers, n, pivot_len, behind(doc_to_seek_after));
+    let at = scorer_to_seek(scorers, pivot_len, max_scores);
+    let scorer = scorers[at];
+    let q = scorer.slot as usize;
+    let doc = slot::seek(
+        file, lists, q, scorer.doc, target, places, docs, freqs,
+    );
+    let mut out = scorers;
+    out[at] = TermScorer {
+        doc,
+        slot: scorer.slot,
+    };
+    restore_ordering(out, n, at)
+}

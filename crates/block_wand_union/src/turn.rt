@@ -1,0 +1,166 @@
+// One turn of `block_wand`'s loop.
+ghost use mathlib.Core.List.{map};
+ghost use mathlib.Core.Path.{_≡_};
+ghost use Prim.Native.Nat.{_≤_};
+ghost use lib.ListN.{take};
+ghost use Rattle.notefile.specs.Header.{documents, normReader};
+ghost use Rattle.route.specs.F32.{f32};
+ghost use Rattle.route.specs.Union.{goOn};
+ghost use Rattle.route.proofs.UnionEnds.{UnionKept};
+ghost use Rattle.term_scorer.specs.Slots.{held};
+ghost use Rattle.ordering.specs.Scorers.{Apart};
+ghost use Rattle.block_wand_union.specs.Seats.{Seated, scorerAt, terms};
+ghost use Rattle.block_wand_union.specs.Turns.{AtPivot, Pivoted, Turned};
+use crate::align::align_scorers;
+use crate::blocks::seek_blocks;
+use crate::low::block_max_was_too_low_advance_one_scorer;
+use crate::pivot::advance_all_scorers_on_pivot;
+use crate::pivot::score_on_pivot;
+use bm25::Scoring;
+use fieldnorm::FieldNormReader;
+use ordering::Pivot;
+use ordering::TermScorer;
+use ordering::find_pivot_doc;
+
+// The scorers left and whether the loop goes on, and whether document doc is due with its score.
+pub struct Step {
+    pub scorers: [TermScorer; 16],
+    pub len: usize,
+    pub more: bool,
+    pub due: bool,
+    pub doc: u32,
+    pub score: f32,
+}
+
+// The scorers before the pivot are sent to it. If all come, it is scored, and they go on.
+fn on_pivot(
+    file: &[u8],
+    norms: FieldNormReader,
+    weights: &[f32; 16],
+    caches: &[[f32; 256]; 16],
+    scoring: Scoring,
+    lists: &[[usize; 8]; 16],
+    threshold: f32,
+    scorers: [TermScorer; 16],
+    n: usize,
+    before_pivot_len: usize,
+    pivot_len: usize,
+    pivot_doc: u32,
+    places: &mut [[usize; 8]; 16],
+    docs: &mut [[u32; 128]; 16],
+    freqs: &mut [[u32; 128]; 16],
+) -> Step
+    requires { ⌜ (n ≤ 16) × (norms ≡ normReader (now file)) × Apart (take n scorers) × AtPivot (now file) (now lists) scoring (now weights) (now caches) (held (now places) (now docs) (now freqs)) (take n scorers) «before_pivot_len» «pivot_len» «pivot_doc» ⌝ }
+    ensures { λ r. ⌜ Pivoted (now (file .entry)) (now (lists .entry)) scoring threshold (held (now (places .entry)) (now (docs .entry)) (now (freqs .entry))) (take n scorers) n «before_pivot_len» «pivot_len» «pivot_doc» (held (now (places .exit)) (now (docs .exit)) (now (freqs .exit))) r ⌝ }
+{
+    let alignment = align_scorers(
+        file,
+        lists,
+        scorers,
+        n,
+        pivot_doc,
+        before_pivot_len,
+        places,
+        docs,
+        freqs,
+    );
+    let aligned = alignment.scorers;
+    if alignment.on_pivot {
+        let score = score_on_pivot(
+            file, norms, weights, caches, scoring, lists, aligned, pivot_len, places, docs, freqs,
+        );
+        let left = advance_all_scorers_on_pivot(
+            file, lists, aligned, n, pivot_len, places, docs, freqs,
+        );
+        let scorers_left = left.scorers;
+        return Step {
+            scorers: scorers_left,
+            len: left.len,
+            more: true,
+            due: score > threshold,
+            doc: pivot_doc,
+            score,
+        };
+    }
+    Step {
+        scorers: aligned,
+        len: alignment.len,
+        more: true,
+        due: false,
+        doc: pivot_doc,
+        score: 0.0,
+    }
+}
+
+// A pivot, if there is one; then one scorer past blocks that are too low, or the scorers to the pivot.
+pub fn turn(
+    file: &[u8],
+    norms: FieldNormReader,
+    weights: &[f32; 16],
+    caches: &[[f32; 256]; 16],
+    max_scores: &[f32; 16],
+    scoring: Scoring,
+    lists: &[[usize; 8]; 16],
+    threshold: f32,
+    scorers: [TermScorer; 16],
+    n: usize,
+    places: &mut [[usize; 8]; 16],
+    docs: &mut [[u32; 128]; 16],
+    freqs: &mut [[u32; 128]; 16],
+    bounds: &mut [f32; 16],
+) -> Step
+    requires { ⌜ (n ≤ 16) × (norms ≡ normReader (now file)) × Seated (now file) (now lists) (terms scoring (now weights) (now caches) (now bounds)) (now «max_scores») (held (now places) (now docs) (now freqs)) (take n scorers) × UnionKept 128 (documents (now file)) f32 (goOn (map (scorerAt (now file) (now lists) scoring (now places)) (take n scorers))) ⌝ }
+    ensures { λ r. ⌜ Turned (now (file .entry)) (now (lists .entry)) (terms scoring (now (weights .entry)) (now (caches .entry)) (now (bounds .entry))) (now («max_scores» .entry)) threshold (held (now (places .entry)) (now (docs .entry)) (now (freqs .entry))) (take n scorers) n (held (now (places .exit)) (now (docs .exit)) (now (freqs .exit))) (now (bounds .exit)) r ⌝ }
+{
+    let pivot = find_pivot_doc(scorers, n, max_scores, threshold);
+    match pivot {
+        Pivot::Nowhere => Step {
+            scorers,
+            len: n,
+            more: false,
+            due: false,
+            doc: 0,
+            score: 0.0,
+        },
+        Pivot::At {
+            before_pivot_len,
+            pivot_len,
+            pivot_doc,
+        } => {
+            let sum = seek_blocks(
+                file, norms, weights, caches, scoring, lists, scorers, pivot_len, pivot_doc,
+                places, docs, freqs, bounds,
+            );
+            if sum > threshold {
+                return on_pivot(
+                    file,
+                    norms,
+                    weights,
+                    caches,
+                    scoring,
+                    lists,
+                    threshold,
+                    scorers,
+                    n,
+                    before_pivot_len,
+                    pivot_len,
+                    pivot_doc,
+                    places,
+                    docs,
+                    freqs,
+                );
+            }
+            let moved = block_max_was_too_low_advance_one_scorer(
+                file, lists, max_scores, scorers, n, pivot_len, places, docs, freqs,
+            );
+            Step {
+                scorers: moved,
+                len: n,
+                more: true,
+                due: false,
+                doc: pivot_doc,
+                score: 0.0,
+            }
+        }
+    }
+}
