@@ -102,10 +102,12 @@ module _ (file : List ℕ) (lists : List (List ℕ)) (p : ℕ) (h : Held) (ss : 
                   misses 128 p (at-route scoring h) l before (S .on scoring) pos (omega (arith, length-take n ss)) apart g x′
                   (rw there refl) (rw there (same-off file lists M scoring)) (rw there (scorer-is file lists x M scoring)) (λ q. ne (sym (doc-there scoring) ∙ q)) in
                   let same = slots-length l (set (take n out) j x′) (W .slots) in
-                  let m : Around Float = record { left = map g (take j (set (take n out) j x′)); one = g (getD (set (take n out) j x′) j noScorer); right = map g (drop (suc j) (take before (set (take n out) j x′))) } in
-                  (m, W .answer,
-                  missed-on-route g (set (take n out) j x′) j before (W .inside) (omega (arith, length-take n ss)) (all-imp (Stand file lists h″) (SameDoc g) (set (take n out) j x′) (same-doc file lists scoring h″) (carries .stands))
-                  ∙ ap (missedOn m) (W .rest));
+                  let m : Around Float = record { left = map g (take j (set (take n out) j x′)); one = g (getD (set (take n out) j x′) j noScorer); right = map g (drop (suc j) (take before (set (take n out) j x′))) } in (
+                    m,
+                    W .answer,
+                    missed-on-route g (set (take n out) j x′) j before (W .inside) (omega (arith, length-take n ss)) (all-imp (Stand file lists h″) (SameDoc g) (set (take n out) j x′) (same-doc file lists scoring h″) (carries .stands))
+                        ∙ ap (missedOn m) (W .rest),
+                  );
             })
 
     pub all-on : i ≤ 0 → OnPivot file lists p h l before h′ (take n out)

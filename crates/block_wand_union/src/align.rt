@@ -39,9 +39,7 @@ pub fn align_scorers(
         i -= 1;
         let scorer = out[i];
         let q = scorer.slot as usize;
-        let doc = slot::seek(
-            file, lists, q, scorer.doc, pivot_doc, places, docs, freqs,
-        );
+        let doc = slot::seek(file, lists, q, scorer.doc, pivot_doc, places, docs, freqs);
         out[i] = TermScorer {
             doc,
             slot: scorer.slot,

@@ -1,20 +1,28 @@
 // The skipping run of each mode.
 ghost use mathlib.Core.Path.{_≡_};
-ghost use Prim.Native.Nat.{ℕ, _<_};
+ghost use Prim.Native.Nat.{ℕ, _≤_, _<_};
+ghost use lib.ListN.{length};
 ghost use Rattle.notefile.specs.Header.{headerOf, listCount};
 ghost use Rattle.notefile.specs.Refusal.{fileRefusal};
 ghost use Rattle.rule.specs.Follows.{Keeps};
 ghost use Rattle.route.specs.F32.{f32};
+ghost use Rattle.route.specs.Plain.{union};
 ghost use Rattle.route.specs.Single.{blockWandSingleScorer};
+ghost use Rattle.route.specs.Skipping.{route};
+ghost use Rattle.decoded.specs.Lists.{queried};
+ghost use Rattle.query.specs.Fresh.{Named};
 ghost use Rattle.ranking.specs.Answers.{scorerOf, Finished};
 use crate::outcome::Outcome;
 use crate::outcome::finish;
 use block_wand_single::scan::block_wand_single_scorer;
+use block_wand_union::block_wand;
 use bm25::Bm25Weight;
 use bm25::Scoring;
 use notefile::header::Header;
 use notefile::header::norm_reader;
 use notefile::part::read_part;
+use ordering::retain;
+use query::open_lists;
 use rule::Rule;
 
 // The single scan over list l.
@@ -35,5 +43,71 @@ fn run_single(
     let x = read_part(file, h, l);
     let w = Bm25Weight::new(f32::from_bits(x.weight), f32::from_bits(x.average));
     let r = block_wand_single_scorer(file, norms, x, w, scoring, rule, script, documents, scores);
+    finish(r.full, r.count)
+}
+
+// The union: empty lists drop out; of one that is left the single scan runs.
+fn run_union(
+    file: &[u8],
+    h: Header,
+    query: &[u32],
+    scoring: Scoring,
+    rule: Rule,
+    script: &[f32],
+    documents: &mut [u32],
+    scores: &mut [f32],
+) -> Outcome
+    requires { ⌜ (fileRefusal (now file) ≡ 0) × (h ≡ headerOf (now file)) × (length (now query) ≤ 16) × Named (now file) (now query) × Keeps rule ⌝ }
+    ensures { λ r. ⌜ Finished (route 128 f32 union (queried scoring (now (file .entry)) (now (query .entry)))) rule (now (script .entry)) (now (documents .entry)) (now (scores .entry)) r (now (documents .exit)) (now (scores .exit)) ⌝ }
+{
+    let norms = norm_reader(file, h);
+    let mut lists = [[0usize; 8]; 16];
+    let mut places = [[0usize; 8]; 16];
+    let mut docs = [[0u32; 128]; 16];
+    let mut freqs = [[0u32; 128]; 16];
+    let mut weights = [0.0f32; 16];
+    let mut caches = [[0.0f32; 256]; 16];
+    let mut max_scores = [0.0f32; 16];
+    let mut bounds = [0.0f32; 16];
+    let scorers = open_lists(
+        file,
+        h,
+        scoring,
+        query,
+        &mut lists,
+        &mut places,
+        &mut docs,
+        &mut freqs,
+        &mut weights,
+        &mut caches,
+        &mut max_scores,
+    );
+    let live = retain(scorers, query.len());
+    let alive = live.scorers;
+    if live.len == 1 {
+        let only = alive[0];
+        let slot = only.slot as usize;
+        let l = query[slot] as usize;
+        return run_single(file, h, l, scoring, rule, script, documents, scores);
+    }
+    let r = block_wand(
+        file,
+        norms,
+        &weights,
+        &caches,
+        &max_scores,
+        scoring,
+        &lists,
+        alive,
+        live.len,
+        rule,
+        script,
+        &mut places,
+        &mut docs,
+        &mut freqs,
+        &mut bounds,
+        documents,
+        scores,
+    );
     finish(r.full, r.count)
 }

@@ -82,8 +82,7 @@ loop-less c = search needs
 loop-again : tie.Need-loop-again Inv-loop μ-loop
 loop-again c =
     let b = c .before .before .before .before .before .before .before in
-    let a = b .before .before .before in
-    (
+    let a = b .before .before .before in (
       omega arith,
       λ l e apart s.
           let w = first-same (a .args .pivot-len) l (a .args .t7) (b .before .loop .i) e (omega arith) (long a) in

@@ -50,7 +50,7 @@ stand-in c =
 
 -- src/low.rt:67:9
 least-last-doc-requires : tie.Need-least-last-doc-requires
-least-last-doc-requires c κs = 
+least-last-doc-requires c κs =
     let a = c .before .before in
     let first = first-of (Stand (a .args .file .now) (a .args .lists .now) (held (a .args .places .now) (a .args .docs .now) (a .args .freqs .now))) (a .args .n) (a .args .pivot-len) (a .args .t4) (omega arith) (a .pre .4) in
     (omega arith, all-imp (Stand (a .args .file .now) (a .args .lists .now) (held (a .args .places .now) (a .args .docs .now) (a .args .freqs .now))) (LastRead (a .args .places .now)) (take (a .args .pivot-len) (a .args .t4)) (last-read _ _ _) first)
@@ -65,7 +65,7 @@ least-doc-requires c κs = search needs
 
 -- src/low.rt:69:9
 scorer-to-seek-requires : tie.Need-scorer-to-seek-requires
-scorer-to-seek-requires c κs = 
+scorer-to-seek-requires c κs =
     let a = c .before .before .before .before .before in
     (omega arith, omega arith, all-imp (Stand (a .args .file .now) (a .args .lists .now) (held (a .args .places .now) (a .args .docs .now) (a .args .freqs .now))) (λ s. s .slot < 16) (take (a .args .pivot-len) (a .args .t4)) (λ s S. S .slot-in) (first-of (Stand (a .args .file .now) (a .args .lists .now) (held (a .args .places .now) (a .args .docs .now) (a .args .freqs .now))) (a .args .n) (a .args .pivot-len) (a .args .t4) (omega arith) (a .pre .4)))
 
