@@ -48,7 +48,7 @@ module _ (scoring : Scoring) (file : List ℕ) (lists : List (List ℕ)) where
     unfolding listOf
     in-list = A .wf .in-list
 
-    -- never a document of the file is TERMINATED
+    -- TERMINATED is behind every document of the file
     pub few-documents : documents file ≤ 2147483647
     few-documents = k .few
 

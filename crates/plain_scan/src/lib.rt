@@ -21,9 +21,9 @@ ghost use Rattle.plain_scan.specs.Heads.{leastIn, AllWeighed, HeadsOf, R
 ghost use Rattle.plain_scan.specs.Runs.{needsAll, plainOf, PlainRan, scanned};
 
 // What the lists have of a document: how many have it, and the sum of its scores there.
-pub struct Found {
-    pub matched: usize,
-    pub total: f32,
+struct Found {
+    matched: usize,
+    total: f32,
 }
 
 // What a run leaves beside its rows: whether they were full when a report was due, and how many are written.

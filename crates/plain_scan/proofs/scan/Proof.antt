@@ -1,6 +1,7 @@
 -- `scan` meets its contract: each turn takes the least document and reports it if it is due and there is a row.
 use mathlib.Core.Path.{sym, _∙_}
 use Prim.Native.Nat.{_-_}
+use native.Mathlib.Omega.{arith}
 use borrow.Author.Needs.{needs}
 use Rattle.reports.proofs.RowLaws.{documents-long, scores-long}
 use Rattle.term_scorer.specs.Slots.{held}
@@ -38,7 +39,7 @@ same-length-2 : tie.Need-same-length-2 Inv-loop μ-loop
 same-length-2 c = scores-long (c .before .before .before .loop .inv .kept .written)
 
 returns : tie.Need-returns Inv-loop μ-loop
-returns c = scanning-ends _ _ _ _ _ _ _ _ _ (c .before .before .before .loop .inv) (c .before .least .ensures) (c .if1 .taken)
+returns c = scanning-ends _ _ _ _ _ _ _ _ _ (c .before .before .before .loop .inv) (c .before .least .ensures) (omega (arith, c .if1 .taken))
 
 take-document-requires : tie.Need-take-document-requires Inv-loop μ-loop
 take-document-requires c κs =
@@ -63,7 +64,7 @@ returns-2 c =
     let t = u .before in
     let e = t .before .before .before .before .before in
     let l = e .before .before .before in
-    scanning-full _ _ _ _ _ _ _ _ _ (l .loop .inv) (e .before .least .ensures) (e .if1 .left) (t .take-document .ensures) (sym (u .due .ensures) ∙ c .before .before .if2 .taken) (c .if3 .taken ∙ l .before .before .rows .ensures)
+    scanning-full _ _ _ _ _ _ _ _ _ (l .loop .inv) (e .before .least .ensures) (e .if1 .left) (t .take-document .ensures) (sym (u .due .ensures) ∙ c .before .before .if2 .taken) (omega (arith, c .if3 .taken, l .before .before .rows .ensures))
 
 report-requires : tie.Need-report-requires Inv-loop μ-loop
 report-requires c κs =

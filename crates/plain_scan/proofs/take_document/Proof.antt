@@ -1,5 +1,4 @@
 -- `take_document` meets its contract: after q turns the first q slots have been asked.
-use mathlib.Core.Path.{sym, _∙_}
 use Prim.Native.Nat.{_-_}
 use native.Mathlib.Omega.{arith}
 use lib.Ieee.{ofBits}
@@ -36,7 +35,7 @@ score-requires c κs =
     let l = i .before in
     let a = l .before .before in
     let S = this _ _ _ _ _ (l .loop .inv) (i .loop-test .taken) in
-    (omega (arith, i .loop-test .taken, a .pre .0), a .pre .1, S .slot, a .pre .2 (l .loop .q) (i .loop-test .taken), sym (t .if1 .taken) ∙ S .head-is, a .pre .4)
+    (omega (arith, i .loop-test .taken, a .pre .0), a .pre .1, S .slot, a .pre .2 (l .loop .q) (i .loop-test .taken), omega (arith, t .if1 .taken, S .head-is), a .pre .4)
 
 with-requires : tie.Need-with-requires Inv-loop μ-loop
 with-requires c κs =
