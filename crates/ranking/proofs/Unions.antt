@@ -2,9 +2,9 @@
 use mathlib.Core.Path.{_≡_, refl, sym, ap, _∙_, subst}
 use mathlib.Core.List.{List, [], _∷_, map}
 use Prim.Native.Nat.{ℕ, zero, suc, _+_, _≤_, _<_}
-use native.Mathlib.Nat.{add-zero, zero-add}
+use native.Mathlib.Nat.{zero-add}
 use native.Mathlib.Omega.{arith}
-use lib.ListN.{length, getD, take, length-map}
+use lib.ListN.{length, getD, take}
 use lib.Seq.{length-take-le}
 use lib.Ieee.{Float}
 use Rattle.bm25.specs.declared.Scoring.{Scoring}
@@ -12,12 +12,12 @@ use Rattle.notefile.specs.Parts.{partOf}
 use Rattle.notefile.specs.declared.part.Part.{Part}
 use Rattle.route.specs.Lists.{All}
 use Rattle.route.specs.F32.{f32}
-use Rattle.route.specs.Cursor.{Cursor, fresh}
+use Rattle.route.specs.Cursor.{Cursor}
 use Rattle.route.specs.Ordering.{retain}
 use Rattle.route.specs.Scorer.{Scorer, docOf, scorersFrom}
 use Rattle.route.specs.Route.{Route}
 use Rattle.route.specs.Single.{blockWandSingleScorer}
-use Rattle.route.specs.Union.{UnionPlace, blockWand, pivotRoute}
+use Rattle.route.specs.Union.{blockWand, pivotRoute}
 use Rattle.route.specs.Skipping.{route}
 use Rattle.route.specs.Plain.{union}
 use Rattle.decoded.specs.Lists.{listOf, queried}
@@ -26,10 +26,10 @@ use Rattle.term_scorer.specs.Slots.{Sixteen, cursorAt, partAt}
 use Rattle.ordering.specs.Scorers.{Apart, Left, byDoc, noScorer}
 use Rattle.ordering.specs.declared.Scorers.{Scorers}
 use Rattle.ordering.specs.declared.TermScorer.{TermScorer}
-use Rattle.ordering.proofs.Kept.{kept-all, kept-apart, kept-length, retain-kept}
+use Rattle.ordering.proofs.Kept.{kept-all, kept-apart, retain-kept}
 use Rattle.ordering.proofs.OnRoute.{SameDoc, retained-on-route}
 use Rattle.query.specs.Fresh.{Arrays, QueryOpened}
-use Rattle.query.proofs.Opening.{scorerIn, opened-scorers}
+use Rattle.query.proofs.Opening.{opened-scorers}
 use Rattle.block_wand_union.specs.Seats.{Seat, Seated, Topped, scorerAt, terms}
 use Rattle.block_wand_union.specs.Fresh.{Fresh}
 use Rattle.rule.specs.declared.Rule.{Rule}
@@ -54,8 +54,7 @@ apart-first (x ∷ xs) (suc n) i k h = (
     next : (i q : ℕ) → i + suc q ≡ suc i + q
     next i q = omega arith
 
-module _ (scoring : Scoring) (file query : List ℕ) (few : length query ≤ 16) (a : Arrays) (scorers : List TermScorer) (Q : QueryOpened scoring file query (length query) a scorers)
-    (bounds : List Float) (sixteen : Sixteen bounds) where
+module _ (scoring : Scoring) (file query : List ℕ) (few : length query ≤ 16) (a : Arrays) (scorers : List TermScorer) (Q : QueryOpened scoring file query (length query) a scorers) where
   abbrev n : ℕ
   n = length query
 
@@ -64,7 +63,7 @@ module _ (scoring : Scoring) (file query : List ℕ) (few : length query ≤ 16)
 
   -- what holds of each scorer that was opened
   record Opened (s : TermScorer) : Type 0 where
-    seat : Seat file (a .lists) (terms scoring (a .weights) (a .caches) bounds) (a .held) s
+    seat : (bounds : List Float) → Seat file (a .lists) (terms scoring (a .weights) (a .caches) bounds) (a .held) s
     top : Topped file (a .lists) scoring (a .max-scores) s
     begins : Fresh (a .held .places) s
     doc : SameDoc f s
@@ -79,7 +78,7 @@ module _ (scoring : Scoring) (file query : List ℕ) (few : length query ≤ 16)
       ap (λ (x : Part). docIn file x 0) (sym (F .part-is)) ∙ ap (λ (c : Cursor). docIn file (partAt (a .lists) q) (c .at)) (sym (F .cursor-is)) in
       subst Opened (sym e)
       (record {
-        seat = record {
+        seat = λ bounds. record {
           stand = record { slot-in = omega (arith, h, few); slot = F .slot; doc-is = d };
           weighed = F .weighed;
           bound = λ k. absurd (omega (arith, k, F .unknown));
@@ -113,9 +112,9 @@ module _ (scoring : Scoring) (file query : List ℕ) (few : length query ≤ 16)
     left-opened : All Opened left
     left-opened = subst (All Opened) (sym (L .are)) (kept-all Opened (retain-kept byDoc (take n scorers)) all-opened)
 
-    pub left-seated : Seated file (a .lists) (terms scoring (a .weights) (a .caches) bounds) (a .max-scores) (a .held) left
-    left-seated = record {
-      seats = imp _ (λ s o. o .seat) left left-opened;
+    pub left-seated : (bounds : List Float) → Sixteen bounds → Seated file (a .lists) (terms scoring (a .weights) (a .caches) bounds) (a .max-scores) (a .held) left
+    left-seated bounds sixteen = record {
+      seats = imp _ (λ s o. o .seat bounds) left left-opened;
       apart = subst Apart (sym (L .are)) (kept-apart (retain-kept byDoc (take n scorers)) all-apart);
       tops = imp _ (λ s o. o .top) left left-opened;
       sixteen = sixteen;
@@ -136,12 +135,16 @@ module _ (scoring : Scoring) (file query : List ℕ) (few : length query ≤ 16)
     pivots (s ∷ []) ne = absurd (ne refl)
     pivots (x ∷ y ∷ ss) ne = refl
 
+    map-long : (l : List TermScorer) → length (map f l) ≡ length l
+    map-long [] = refl
+    map-long (s ∷ l) = ap suc (map-long l)
+
     abbrev W : Route Float
     W = route 128 f32 union (queried scoring file query)
 
     pub by-pivots : (live .len ≡ 1 → ⊥) → pivotRoute 128 f32 (map f left) ≡ W
     by-pivots ne =
-        let k : length (map f left) ≡ live .len = length-map f left ∙ length-take-le (live .len) (live .scorers) (omega (arith, L .few, L .long, few)) in
+        let k : length (map f left) ≡ live .len = map-long left ∙ length-take-le (live .len) (live .scorers) (omega (arith, L .few, L .long, few)) in
         pivots (map f left) (λ e. ne (sym k ∙ e)) ∙ ap (blockWand 128 f32) left-are
 
     abbrev only : TermScorer
