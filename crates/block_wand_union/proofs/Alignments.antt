@@ -12,6 +12,7 @@ use Rattle.route.specs.Lists.{All}
 use Rattle.route.specs.Cursor.{Cursor, seekIn}
 use Rattle.route.specs.Scorer.{Scorer, docOf}
 use Rattle.route.specs.Union.{Around, missedOn}
+use Rattle.route.proofs.Lists.{all-imp}
 use Rattle.term_scorer.specs.Slots.{cursorAt, Held, listAt, MovedSlot, Sixteen}
 use Rattle.ordering.specs.declared.TermScorer.{TermScorer}
 use Rattle.ordering.specs.declared.Scorers.{Scorers}
@@ -21,7 +22,6 @@ use Rattle.ordering.proofs.Kept.{returned-kept}
 use Rattle.ordering.proofs.OnRoute.{SameDoc, missed-on-route}
 use Rattle.ordering.proofs.Moving.{all-same, slots-length}
 use Rattle.ordering.proofs.Aligning.{Aligning, aligning, aligns, all-aligned, misses}
-use Rattle.route.proofs.Lists.{all-imp}
 use Rattle.block_wand_union.specs.Seats.{Carried, Stand, scorerAt}
 use Rattle.block_wand_union.specs.Moves.{OnPivot, PastPivot}
 use Rattle.block_wand_union.proofs.Seats.{carried-kept, carried-move, carried-refl, carried-trans, moved-stand, same-doc, same-off, scorer-is}
@@ -102,10 +102,12 @@ module _ (file : List ℕ) (lists : List (List ℕ)) (p : ℕ) (h : Held) (ss : 
                   misses 128 p (at-route scoring h) l before (S .on scoring) pos (omega (arith, length-take n ss)) apart g x′
                   (rw there refl) (rw there (same-off file lists M scoring)) (rw there (scorer-is file lists x M scoring)) (λ q. ne (sym (doc-there scoring) ∙ q)) in
                   let same = slots-length l (set (take n out) j x′) (W .slots) in
-                  let m : Around Float = record { left = map g (take j (set (take n out) j x′)); one = g (getD (set (take n out) j x′) j noScorer); right = map g (drop (suc j) (take before (set (take n out) j x′))) } in
-                  (m, W .answer,
-                  missed-on-route g (set (take n out) j x′) j before (W .inside) (omega (arith, length-take n ss)) (all-imp (Stand file lists h″) (SameDoc g) (set (take n out) j x′) (same-doc file lists scoring h″) (carries .stands))
-                  ∙ ap (missedOn m) (W .rest));
+                  let m : Around Float = record { left = map g (take j (set (take n out) j x′)); one = g (getD (set (take n out) j x′) j noScorer); right = map g (drop (suc j) (take before (set (take n out) j x′))) } in (
+                    m,
+                    W .answer,
+                    missed-on-route g (set (take n out) j x′) j before (W .inside) (omega (arith, length-take n ss)) (all-imp (Stand file lists h″) (SameDoc g) (set (take n out) j x′) (same-doc file lists scoring h″) (carries .stands))
+                        ∙ ap (missedOn m) (W .rest),
+                  );
             })
 
     pub all-on : i ≤ 0 → OnPivot file lists p h l before h′ (take n out)

@@ -1,5 +1,4 @@
 // The scorers before the pivot come onto it, or one goes past it.
-ghost use mathlib.Core.Path.{_≡_};
 ghost use Prim.Native.Nat.{_≤_, _<_};
 ghost use lib.ListN.{take};
 ghost use Rattle.route.specs.Lists.{All};
@@ -39,9 +38,7 @@ pub fn align_scorers(
         i -= 1;
         let scorer = out[i];
         let q = scorer.slot as usize;
-        let doc = slot::seek(
-            file, lists, q, scorer.doc, pivot_doc, places, docs, freqs,
-        );
+        let doc = slot::seek(file, lists, q, scorer.doc, pivot_doc, places, docs, freqs);
         out[i] = TermScorer {
             doc,
             slot: scorer.slot,

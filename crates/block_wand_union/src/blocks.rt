@@ -42,7 +42,17 @@ pub fn seek_blocks(
         let q = scorer.slot as usize;
         slot::seek_block(file, lists, q, pivot_doc, places);
         let bound = score::block_max(
-            file, norms, weights, caches, scoring, lists, q, places, docs, freqs, bounds,
+            file,
+            norms,
+            weights,
+            caches,
+            scoring,
+            lists,
+            q,
+            places,
+            docs,
+            freqs,
+            bounds,
         );
         sum = sum + bound;
         i += 1;

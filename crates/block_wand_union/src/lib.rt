@@ -19,8 +19,8 @@ ghost use Rattle.reports.specs.Runs.{Ran};
 ghost use Rattle.term_scorer.specs.Slots.{held};
 ghost use Rattle.block_wand_union.specs.Seats.{Seated, scorerAt, terms};
 ghost use Rattle.block_wand_union.specs.Fresh.{Fresh};
-use bm25::Scoring;
 use crate::turn::turn;
+use bm25::Scoring;
 use fieldnorm::FieldNormReader;
 use ordering::TermScorer;
 use ordering::sort_by_doc;
@@ -65,8 +65,20 @@ pub fn block_wand(
     let mut more = true;
     while more {
         let step = turn(
-            file, norms, weights, caches, max_scores, scoring, lists, t.now, alive, len, places,
-            docs, freqs, bounds,
+            file,
+            norms,
+            weights,
+            caches,
+            max_scores,
+            scoring,
+            lists,
+            t.now,
+            alive,
+            len,
+            places,
+            docs,
+            freqs,
+            bounds,
         );
         let left = step.scorers;
         alive = left;

@@ -16,11 +16,7 @@ use ordering::scorer_to_seek;
 use term_scorer::slot;
 
 // The least last document of the first scorers' present blocks.
-fn least_last_doc(
-    scorers: [TermScorer; 16],
-    pivot_len: usize,
-    places: &[[usize; 8]; 16],
-) -> u32
+fn least_last_doc(scorers: [TermScorer; 16], pivot_len: usize, places: &[[usize; 8]; 16]) -> u32
     requires { ⌜ («pivot_len» ≤ 16) × All (LastRead (now places)) (take «pivot_len» scorers) ⌝ }
     ensures { λ r. ⌜ r ≡ leastLastOf (now (places .entry)) 2147483647 (take «pivot_len» scorers) ⌝ }
 {
@@ -69,9 +65,7 @@ pub fn block_max_was_too_low_advance_one_scorer(
     let at = scorer_to_seek(scorers, pivot_len, max_scores);
     let scorer = scorers[at];
     let q = scorer.slot as usize;
-    let doc = slot::seek(
-        file, lists, q, scorer.doc, target, places, docs, freqs,
-    );
+    let doc = slot::seek(file, lists, q, scorer.doc, target, places, docs, freqs);
     let mut out = scorers;
     out[at] = TermScorer {
         doc,

@@ -67,10 +67,27 @@ fn on_pivot(
     let aligned = alignment.scorers;
     if alignment.on_pivot {
         let score = score_on_pivot(
-            file, norms, weights, caches, scoring, lists, aligned, pivot_len, places, docs, freqs,
+            file,
+            norms,
+            weights,
+            caches,
+            scoring,
+            lists,
+            aligned,
+            pivot_len,
+            places,
+            docs,
+            freqs,
         );
         let left = advance_all_scorers_on_pivot(
-            file, lists, aligned, n, pivot_len, places, docs, freqs,
+            file,
+            lists,
+            aligned,
+            n,
+            pivot_len,
+            places,
+            docs,
+            freqs,
         );
         let scorers_left = left.scorers;
         return Step {
@@ -128,8 +145,19 @@ pub fn turn(
             pivot_doc,
         } => {
             let sum = seek_blocks(
-                file, norms, weights, caches, scoring, lists, scorers, pivot_len, pivot_doc,
-                places, docs, freqs, bounds,
+                file,
+                norms,
+                weights,
+                caches,
+                scoring,
+                lists,
+                scorers,
+                pivot_len,
+                pivot_doc,
+                places,
+                docs,
+                freqs,
+                bounds,
             );
             if sum > threshold {
                 return on_pivot(
@@ -151,7 +179,15 @@ pub fn turn(
                 );
             }
             let moved = block_max_was_too_low_advance_one_scorer(
-                file, lists, max_scores, scorers, n, pivot_len, places, docs, freqs,
+                file,
+                lists,
+                max_scores,
+                scorers,
+                n,
+                pivot_len,
+                places,
+                docs,
+                freqs,
             );
             Step {
                 scorers: moved,
