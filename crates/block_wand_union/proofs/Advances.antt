@@ -5,15 +5,15 @@ use Prim.Native.Nat.{ℕ, _+_, _<_, _≤_}
 use native.Mathlib.Nat.{add-zero}
 use native.Mathlib.Numerals.{add-one}
 use native.Mathlib.Omega.{arith}
-use lib.ListN.{drop, getD, length, length-drop, length-set, length-take, set, take}
-use lib.Seq.{drop-cons, getD-drop, getD-take, take-set-lt, take-suc, take-take}
+use lib.ListN.{drop, getD, length, length-set, length-take, set, take}
+use lib.Seq.{drop-cons, getD-drop, getD-take, take-set-lt, take-suc}
 use lib.Ieee.{Float}
 use Rattle.bm25.specs.declared.Scoring.{Scoring}
 use Rattle.bm25.specs.declared.Scoring.the-variants.{Unstepped}
 use Rattle.notefile.specs.Lists.{fullBlocks}
 use Rattle.route.specs.Lists.{All}
-use Rattle.route.specs.Score.{sum, sumFrom}
-use Rattle.route.specs.Cursor.{Cursor, advanceIn}
+use Rattle.route.specs.Score.{sum}
+use Rattle.route.specs.Cursor.{advanceIn}
 use Rattle.route.specs.F32.{f32}
 use Rattle.route.specs.Ordering.{sortBy, sweep}
 use Rattle.route.specs.Scorer.{Scorer, advance, scoreHere}

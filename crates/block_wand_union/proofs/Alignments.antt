@@ -12,6 +12,7 @@ use Rattle.route.specs.Lists.{All}
 use Rattle.route.specs.Cursor.{Cursor, seekIn}
 use Rattle.route.specs.Scorer.{Scorer, docOf}
 use Rattle.route.specs.Union.{Around, missedOn}
+use Rattle.route.proofs.Lists.{all-imp}
 use Rattle.term_scorer.specs.Slots.{cursorAt, Held, listAt, MovedSlot, Sixteen}
 use Rattle.ordering.specs.declared.TermScorer.{TermScorer}
 use Rattle.ordering.specs.declared.Scorers.{Scorers}
@@ -21,7 +22,6 @@ use Rattle.ordering.proofs.Kept.{returned-kept}
 use Rattle.ordering.proofs.OnRoute.{SameDoc, missed-on-route}
 use Rattle.ordering.proofs.Moving.{all-same, slots-length}
 use Rattle.ordering.proofs.Aligning.{Aligning, aligning, aligns, all-aligned, misses}
-use Rattle.route.proofs.Lists.{all-imp}
 use Rattle.block_wand_union.specs.Seats.{Carried, Stand, scorerAt}
 use Rattle.block_wand_union.specs.Moves.{OnPivot, PastPivot}
 use Rattle.block_wand_union.proofs.Seats.{carried-kept, carried-move, carried-refl, carried-trans, moved-stand, same-doc, same-off, scorer-is}

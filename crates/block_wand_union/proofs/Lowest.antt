@@ -1,7 +1,7 @@
 -- The document that the one scorer seeks past blocks that are too low, and the scorers that this leaves.
 use mathlib.Core.List.{List, map, [], _∷_}
 use mathlib.Core.Path.{ap, refl, sym, _∙_, _≡_}
-use Prim.Native.Nat.{min, suc, ℕ, _+_, _<_, _≤_}
+use Prim.Native.Nat.{min, ℕ, _+_, _<_, _≤_}
 use native.Mathlib.Numerals.{add-one}
 use native.Mathlib.Omega.{arith}
 use lib.ListN.{drop, getD, length, length-take, set, take}
@@ -14,11 +14,9 @@ use Rattle.route.specs.Postings.{TERMINATED}
 use Rattle.route.specs.Cursor.{seekIn}
 use Rattle.route.specs.Scorer.{Scorer, lastDocInBlock}
 use Rattle.route.specs.Union.{behind, leastLastDoc}
-use Rattle.route.proofs.Lists.{all-imp}
 use Rattle.route.proofs.Places.{last-cap}
 use Rattle.route.proofs.Pivot.{leastLast-le}
 use Rattle.decoded.proofs.AcceptedLists.{list-ok}
-use Rattle.postings.specs.Decoded.{ListIn}
 use Rattle.postings.proofs.Readers.{end-is}
 use Rattle.term_scorer.specs.Rows.{cursorIn}
 use Rattle.term_scorer.specs.Slots.{cursorAt, Held, lastAt, listAt, partAt, MovedSlot}
@@ -30,7 +28,7 @@ use Rattle.ordering.proofs.Places.{all-at, all-take, drop-take-cons, drop-take-
 use Rattle.ordering.proofs.Found.{seek-inside}
 use Rattle.ordering.proofs.Kept.{moved-kept}
 use Rattle.ordering.proofs.Turns.{leastLast, too-low-on-route}
-use Rattle.block_wand_union.specs.Seats.{Carried, Stand, Topped, scorerAt}
+use Rattle.block_wand_union.specs.Seats.{Carried, Stand, scorerAt}
 use Rattle.block_wand_union.specs.Moves.{LastRead, TooLow, leastLastOf}
 use Rattle.block_wand_union.proofs.Seats.{carried-kept, carried-move, carried-trans, fair, moved-stand, same-doc, same-off, scorer-is}
 

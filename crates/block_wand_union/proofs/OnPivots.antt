@@ -12,13 +12,14 @@ use borrow.Author.Tests.{leb-false, leb-true}
 use Rattle.bm25.specs.declared.Scoring.{Scoring}
 use Rattle.bm25.specs.declared.Scoring.the-variants.{Unstepped}
 use Rattle.notefile.specs.Header.{documents}
+use Rattle.notefile.specs.Lists.{fullBlocks}
 use Rattle.route.specs.Lists.{All}
 use Rattle.route.specs.Score.{sum}
 use Rattle.route.specs.F32.{f32}
 use Rattle.route.specs.Postings.{TERMINATED, start}
 use Rattle.route.specs.Report.{dueAt}
 use Rattle.route.specs.Scorer.{Scorer, docOf, scoreHere, seek}
-use Rattle.route.specs.Union.{aligned, goOn}
+use Rattle.route.specs.Union.{goOn}
 use Rattle.route.specs.Route.{quiet}
 use Rattle.route.proofs.Cases.{lt-of-ne, on-test}
 use Rattle.route.proofs.Lists.{all-append, all-imp, all-map}
@@ -63,7 +64,7 @@ block-inside B N s k d =
     let st = ap (start B) (k .safe .edge b ∙ b) in
     absurd (omega (arith, start-suc B (l .full), k .ok .tail, k .safe .lo)))
 
-full-is : (scoring : Scoring) (file : List ℕ) (lists : List (List ℕ)) (q : ℕ) → listAt scoring file lists q .full ≡ Rattle.notefile.specs.Lists.fullBlocks (partAt lists q)
+full-is : (scoring : Scoring) (file : List ℕ) (lists : List (List ℕ)) (q : ℕ) → listAt scoring file lists q .full ≡ fullBlocks (partAt lists q)
 unfolding listOf
 full-is scoring file lists q = refl
 

@@ -10,18 +10,15 @@ use lib.Ieee.{Float}
 use Rattle.bm25.specs.declared.Scoring.{Scoring}
 use Rattle.notefile.specs.Header.{documents}
 use Rattle.route.specs.Lists.{All}
-use Rattle.route.specs.Cursor.{Cursor, fresh}
+use Rattle.route.specs.Cursor.{fresh}
 use Rattle.route.specs.F32.{f32}
 use Rattle.route.specs.Ordering.{sortBy}
-use Rattle.route.specs.Postings.{Postings}
-use Rattle.route.specs.Report.{Report}
 use Rattle.route.specs.Scorer.{Scorer, docOf}
-use Rattle.route.specs.Route.{Route, Turn, quiet}
+use Rattle.route.specs.Route.{Route, Turn}
 use Rattle.route.specs.Union.{UnionPlace, goOn, pivotRoute, unionTurn}
 use Rattle.route.proofs.Cases.{lt-of-ne}
 use Rattle.route.proofs.Lists.{all-imp, all-map, all-perm}
 use Rattle.route.proofs.Ordering.{sort-perm, sort-sorted}
-use Rattle.route.proofs.ListLaws.{ListOk}
 use Rattle.route.proofs.Cursor.{fresh-is}
 use Rattle.route.proofs.UnionSafe.{Safe, SafeS}
 use Rattle.route.proofs.UnionEnds.{UnionKept, union-nears, unionCost}
@@ -33,7 +30,7 @@ use Rattle.reports.specs.Rows.{rowsOf, Reported}
 use Rattle.reports.specs.Runs.{Going, Ran}
 use Rattle.reports.proofs.RunLaws.{run-begun, run-ends, run-full, run-quiet, run-reports}
 use Rattle.reports.proofs.RowLaws.{count-is, documents-long, scores-long}
-use Rattle.term_scorer.specs.Slots.{cursorAt, Held, listAt, partAt, Sixteen}
+use Rattle.term_scorer.specs.Slots.{Held, listAt, partAt, Sixteen}
 use Rattle.ordering.specs.declared.TermScorer.{TermScorer}
 use Rattle.ordering.specs.Scorers.{byDoc}
 use Rattle.ordering.proofs.Kept.{kept-all, kept-apart, sort-kept}

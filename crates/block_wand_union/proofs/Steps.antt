@@ -1,17 +1,16 @@
 -- A turn is the route's: with no pivot, past blocks too low, or at the pivot.
-use mathlib.Core.Bool.{false, true}
-use mathlib.Core.List.{List, map, _++_}
-use mathlib.Core.Path.{ap, refl, sym, _∙_, _≡_}
-use Prim.Native.Nat.{ℕ, _≤_, _<_}
+use mathlib.Core.Bool.{Bool, false, true}
+use mathlib.Core.List.{List, map}
+use mathlib.Core.Path.{_∙_, _≡_}
+use Prim.Native.Nat.{ℕ, _<_}
 use native.Mathlib.Omega.{arith}
-use lib.ListN.{drop, length-take, take}
-use lib.Seq.{take-take}
+use lib.ListN.{drop, take}
 use lib.Ieee.{Float}
 use Rattle.notefile.specs.Header.{documents}
 use Rattle.route.specs.Lists.{All}
 use Rattle.route.specs.F32.{f32}
-use Rattle.route.specs.Postings.{TERMINATED}
-use Rattle.route.specs.Scorer.{Scorer, seekBlock}
+use Rattle.route.specs.Score.{sum}
+use Rattle.route.specs.Scorer.{Scorer, blockMaxScore, seekBlock}
 use Rattle.route.specs.Union.{goOn}
 use Rattle.route.proofs.Lists.{all-append, all-imp, all-map}
 use Rattle.route.proofs.UnionSafe.{SafeS, safe-shallow}
@@ -20,7 +19,7 @@ use Rattle.term_scorer.specs.Slots.{Held, Sixteen}
 use Rattle.ordering.specs.declared.TermScorer.{TermScorer}
 use Rattle.ordering.specs.declared.Pivot.the-variants.{At, Nowhere}
 use Rattle.ordering.specs.Pivots.{pivotOf}
-use Rattle.ordering.proofs.Places.{all-at, all-drop, all-take, drop-take-cons, map-drop, map-take}
+use Rattle.ordering.proofs.Places.{all-drop, all-take, map-drop, map-take}
 use Rattle.ordering.proofs.Found.{Found, pivot-found}
 use Rattle.ordering.proofs.Moving.{moved-all}
 use Rattle.ordering.proofs.UnionTurns.{high-turn, low-turn, nowhere-turn}
@@ -55,8 +54,8 @@ module _ (file : List ℕ) (lists : List (List ℕ)) (T : Terms) (maxScores : Li
     pub found : Found l before len p
     found = pivot-found maxScores t l e
 
-    module _ (kept : UnionKept 128 (documents file) f32 (goOn (map f l))) {h′ : Held} {bounds′ : List Float} {sum : Float}
-        (B : BlocksSought file lists T h p len h′ bounds′ sum l) where
+    module _ (kept : UnionKept 128 (documents file) f32 (goOn (map f l))) {h′ : Held} {bounds′ : List Float} {upper : Float}
+        (B : BlocksSought file lists T h p len h′ bounds′ upper l) where
       abbrev g : TermScorer → Scorer Float
       g = scorerAt file lists (T .scoring) (h′ .places)
 
@@ -84,11 +83,11 @@ module _ (file : List ℕ) (lists : List (List ℕ)) (T : Terms) (maxScores : Li
         safe = safe′;
       }
 
-      sum-above : {b : mathlib.Core.Bool.Bool} → f32 .above sum t ≡ b → f32 .above (Rattle.route.specs.Score.sum f32 (map (Rattle.route.specs.Scorer.blockMaxScore 128 f32) (map g (take len l)))) t ≡ b
+      sum-above : {b : Bool} → f32 .above upper t ≡ b → f32 .above (sum f32 (map (blockMaxScore 128 f32) (map g (take len l)))) t ≡ b
       sum-above q = rw (B .sum-is) at q
 
       -- at the pivot
-      pub high : f32 .above sum t ≡ true → {n : ℕ} {h″ : Held} {r : Step} → Pivoted file lists (T .scoring) t h′ l n before len p h″ r → Turned file lists T maxScores t h l n h″ bounds′ r
+      pub high : f32 .above upper t ≡ true → {n : ℕ} {h″ : Held} {r : Step} → Pivoted file lists (T .scoring) t h′ l n before len p h″ r → Turned file lists T maxScores t h l n h″ bounds′ r
       high q P = record {
         turn-is = high-turn 128 t l maxScores f (fair file lists maxScores (T .scoring) h l stands (S .tops)) before len p e g (B .moving) _ (sum-above q) (P .turn-is);
         seated = record { seats = P .carried .seats T′ (B .seats); apart = P .carried .apart; tops = P .carried .tops (T .scoring) maxScores (S .tops); sixteen = B .sixteen };
@@ -97,7 +96,7 @@ module _ (file : List ℕ) (lists : List (List ℕ)) (T : Terms) (maxScores : Li
       }
 
       -- past blocks too low
-      pub low : f32 .above sum t ≡ false → {n : ℕ} {h″ : Held} {out : List TermScorer} → TooLow file lists maxScores h′ l len h″ (take n out) → Sixteen out → (doc : ℕ) (score : Float)
+      pub low : f32 .above upper t ≡ false → {n : ℕ} {h″ : Held} {out : List TermScorer} → TooLow file lists maxScores h′ l len h″ (take n out) → Sixteen out → (doc : ℕ) (score : Float)
           → Turned file lists T maxScores t h l n h″ bounds′ (record { scorers = out; len = n; more = true; due = false; doc = doc; score = score })
       low q P long doc score = record {
         turn-is = low-turn 128 t l maxScores f (fair file lists maxScores (T .scoring) h l stands (S .tops)) before len p e g (B .moving) _ (sum-above q) (P .scorers-are (T .scoring) (S .tops));

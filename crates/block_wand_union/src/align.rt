@@ -1,5 +1,4 @@
 // The scorers before the pivot come onto it, or one goes past it.
-ghost use mathlib.Core.Path.{_≡_};
 ghost use Prim.Native.Nat.{_≤_, _<_};
 ghost use lib.ListN.{take};
 ghost use Rattle.route.specs.Lists.{All};

@@ -1,23 +1,16 @@
-use borrow.Author.Needs.{needs}
-use native.Mathlib.Omega.{arith}
+-- `block_wand` meets its contract: the loop begins at the route's first place, each turn is the route's next and brings it nearer to its end, and a report is written before the rule is told.
 use mathlib.Core.List.{map}
 use mathlib.Core.Path.{_∙_}
 use lib.ListN.{take}
+use borrow.Author.Needs.{needs}
 use Rattle.notefile.specs.Header.{documents}
-use Rattle.route.specs.F32.{f32}
 use Rattle.route.proofs.UnionEnds.{unionCost}
+use Rattle.route.specs.F32.{f32}
 use Rattle.term_scorer.specs.Slots.{held}
 use Rattle.block_wand_union.specs.Seats.{scorerAt, terms}
 use Rattle.block_wand_union.proofs.Runs.{Running, ends, filled, kept-on, lengths, less, quietly, reporting, row-left, running, whole-run}
 use Rattle.block_wand_union.proofs.block_wand.Statement.{statement}
 use Rattle.block_wand_union.proofs.block_wand.Tie as tie
-use Rattle.block_wand_union.proofs.block_wand.Reads as reads
-use Rattle.block_wand_union.proofs.block_wand.Lts as lts
-use Rattle.block_wand_union.proofs.turn.turn.Reads as turn-reads
-use Rattle.ordering.proofs.sort_by_doc.Reads as sort-by-doc-reads
-use Rattle.reports.proofs.report.Reads as report-reads
-use Rattle.reports.proofs.rows.Reads as rows-reads
-use Rattle.rule.proofs.Threshold.new.Reads as new-reads
 
 abbrev Inv-loop : tie.InvT-loop
 Inv-loop file norms weights caches max-scores scoring lists n rule script places₀ docs₀ freqs₀ bounds₀ documents₀ scores₀ all t₀ alive₀ len₀ more₀ places docs freqs bounds documents scores t alive len more =
@@ -30,25 +23,20 @@ abbrev μ-loop : tie.MeasureT-loop
 abbrev start : tie.After-sort-by-doc Inv-loop μ-loop → tie.Start Inv-loop μ-loop
 start c = c .before .before .before .before .before .before .before .before .before
 
--- src/lib.rt:61:9
 rows-requires : tie.Need-rows-requires Inv-loop μ-loop
 rows-requires c κs = search needs
 
--- src/lib.rt:62:9
 new-requires : tie.Need-new-requires Inv-loop μ-loop
 new-requires c κs = search needs
 
--- src/lib.rt:63:9
 sort-by-doc-requires : tie.Need-sort-by-doc-requires Inv-loop μ-loop
 sort-by-doc-requires c κs = search needs
 
--- src/lib.rt:66:5
 loop-holds : tie.Need-loop-holds Inv-loop μ-loop
 loop-holds c =
     let a = start c in
     running (a .args .file .now) (a .args .lists .now) (a .args .max-scores .now) _ (a .args .rule) (a .args .script .now) (a .args .documents .now) (a .args .scores .now) _ (take (a .args .n) (a .args .scorers)) (a .pre .3) (a .pre .4) (c .sort-by-doc .result) (a .args .n) (c .sort-by-doc .ensures) (a .pre .0) (search needs) (c .before .new .ensures (a .args .script .now))
 
--- src/lib.rt:67:13
 turn-requires : tie.Need-turn-requires Inv-loop μ-loop
 turn-requires c κs =
     let k = c .before .before .before .before in
@@ -56,7 +44,6 @@ turn-requires c κs =
     let S = k .before .loop .inv in
     (S .few, a .pre .1, S .seated, kept-on (a .args .file .now) (a .args .lists .now) (a .args .max-scores .now) _ (a .args .rule) (a .args .script .now) (a .args .documents .now) (a .args .scores .now) _ S (k .loop-test .taken))
 
--- src/lib.rt:77:17
 same-length : tie.Need-same-length Inv-loop μ-loop
 same-length c =
     let k = c .before .before .before .before .before .before .before .before .before in
@@ -64,7 +51,6 @@ same-length c =
     let S = k .before .loop .inv in
     lengths (a .args .file .now) (a .args .lists .now) (a .args .max-scores .now) _ (a .args .rule) (a .args .script .now) (a .args .documents .now) (a .args .scores .now) _ S .0
 
--- src/lib.rt:77:17
 same-length-2 : tie.Need-same-length-2 Inv-loop μ-loop
 same-length-2 c =
     let k = c .before .before .before .before .before .before .before .before .before in
@@ -72,7 +58,6 @@ same-length-2 c =
     let S = k .before .loop .inv in
     lengths (a .args .file .now) (a .args .lists .now) (a .args .max-scores .now) _ (a .args .rule) (a .args .script .now) (a .args .documents .now) (a .args .scores .now) _ S .1
 
--- src/lib.rt:77:17
 returns : tie.Need-returns Inv-loop μ-loop
 returns c =
     let k = c .before .before .before .before .before .before .before .before .before in
@@ -81,7 +66,6 @@ returns c =
     let W = k .before .before in
     whole-run (a .args .file .now) (a .args .lists .now) (a .args .max-scores .now) _ (a .args .rule) (a .args .script .now) (a .args .documents .now) (a .args .scores .now) _ (take (a .args .n) (a .args .scorers)) (a .pre .3) (a .pre .4) (W .sort-by-doc .result) (a .args .n) (W .sort-by-doc .ensures) (filled (a .args .file .now) (a .args .lists .now) (a .args .max-scores .now) _ (a .args .rule) (a .args .script .now) (a .args .documents .now) (a .args .scores .now) _ S (k .loop-test .taken) (c .before .before .before .before .turn .ensures) (c .before .before .if1 .taken) (c .if2 .taken ∙ W .before .before .rows .ensures))
 
--- src/lib.rt:82:17
 report-requires : tie.Need-report-requires Inv-loop μ-loop
 report-requires c κs =
     let k = c .before .before .before .before .before .before .before .before .before .before .before in
@@ -90,7 +74,6 @@ report-requires c κs =
     let w = row-left (a .args .file .now) (a .args .lists .now) (a .args .max-scores .now) _ (a .args .rule) (a .args .script .now) (a .args .documents .now) (a .args .scores .now) _ S (k .before .before .before .before .rows .ensures) (c .before .before .if2 .left) in
     (a .pre .2, w .0, w .1)
 
--- src/lib.rt:66:5
 loop-less : tie.Need-loop-less Inv-loop μ-loop
 loop-less c =
     let k = c .before .before .before .before .before .before .before .before .before .before .before .before .before .before .before .before in
@@ -98,7 +81,6 @@ loop-less c =
     let S = k .before .loop .inv in
     less (a .args .file .now) (a .args .lists .now) (a .args .max-scores .now) _ (a .args .rule) (a .args .script .now) (a .args .documents .now) (a .args .scores .now) _ S (k .loop-test .taken) (c .before .before .before .before .before .before .before .before .before .before .before .turn .ensures)
 
--- src/lib.rt:66:5
 loop-again : tie.Need-loop-again Inv-loop μ-loop
 loop-again c =
     let k = c .before .before .before .before .before .before .before .before .before .before .before .before .before .before .before .before in
@@ -106,7 +88,6 @@ loop-again c =
     let S = k .before .loop .inv in
     reporting (a .args .file .now) (a .args .lists .now) (a .args .max-scores .now) _ (a .args .rule) (a .args .script .now) (a .args .documents .now) (a .args .scores .now) _ S (k .loop-test .taken) (c .before .before .before .before .before .before .before .before .before .before .before .turn .ensures) (c .before .before .before .before .before .before .before .before .before .if1 .taken) (row-left (a .args .file .now) (a .args .lists .now) (a .args .max-scores .now) _ (a .args .rule) (a .args .script .now) (a .args .documents .now) (a .args .scores .now) _ S (k .before .before .before .before .rows .ensures) (c .before .before .before .before .before .before .before .if2 .left) .2) (c .before .before .before .before .report .ensures)
 
--- src/lib.rt:66:5
 loop-less-2 : tie.Need-loop-less-2 Inv-loop μ-loop
 loop-less-2 c =
     let k = c .before .before .before .before .before .before .before in
@@ -114,7 +95,6 @@ loop-less-2 c =
     let S = k .before .loop .inv in
     less (a .args .file .now) (a .args .lists .now) (a .args .max-scores .now) _ (a .args .rule) (a .args .script .now) (a .args .documents .now) (a .args .scores .now) _ S (k .loop-test .taken) (c .before .before .turn .ensures)
 
--- src/lib.rt:66:5
 loop-again-2 : tie.Need-loop-again-2 Inv-loop μ-loop
 loop-again-2 c =
     let k = c .before .before .before .before .before .before .before in
@@ -122,21 +102,18 @@ loop-again-2 c =
     let S = k .before .loop .inv in
     quietly (a .args .file .now) (a .args .lists .now) (a .args .max-scores .now) _ (a .args .rule) (a .args .script .now) (a .args .documents .now) (a .args .scores .now) _ S (k .loop-test .taken) (c .before .before .turn .ensures) (c .if1 .left)
 
--- src/lib.rt:39:1
 same-length-3 : tie.Need-same-length-3 Inv-loop μ-loop
 same-length-3 c =
     let a = start (c .before .before) in
     let S = c .before .loop .inv in
     lengths (a .args .file .now) (a .args .lists .now) (a .args .max-scores .now) _ (a .args .rule) (a .args .script .now) (a .args .documents .now) (a .args .scores .now) _ S .0
 
--- src/lib.rt:39:1
 same-length-4 : tie.Need-same-length-4 Inv-loop μ-loop
 same-length-4 c =
     let a = start (c .before .before) in
     let S = c .before .loop .inv in
     lengths (a .args .file .now) (a .args .lists .now) (a .args .max-scores .now) _ (a .args .rule) (a .args .script .now) (a .args .documents .now) (a .args .scores .now) _ S .1
 
--- src/lib.rt:39:1
 returns-2 : tie.Need-returns-2 Inv-loop μ-loop
 returns-2 c =
     let a = start (c .before .before) in

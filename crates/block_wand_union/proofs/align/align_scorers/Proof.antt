@@ -1,19 +1,16 @@
-use borrow.Author.Needs.{needs}
-use native.Mathlib.Omega.{arith}
+-- `align::align_scorers` meets its contract: each turn one scorer seeks the pivot in its slot, which is one step of the route's alignment; a miss is put back.
 use mathlib.Core.Bool.{true≢false}
 use mathlib.Core.Path.{refl, sym}
 use Prim.Native.Nat.{_-_, _≤_}
+use native.Mathlib.Omega.{arith}
 use lib.ListN.{getD, length}
+use borrow.Author.Needs.{needs}
 use Rattle.term_scorer.specs.Slots.{held}
 use Rattle.ordering.specs.Scorers.{noScorer}
 use Rattle.block_wand_union.specs.Seats.{Stand}
 use Rattle.block_wand_union.proofs.Alignments.{Seeking, all-on, goes-past, seeking, seeks, stand-before}
 use Rattle.block_wand_union.proofs.align.align_scorers.Statement.{statement}
 use Rattle.block_wand_union.proofs.align.align_scorers.Tie as tie
-use Rattle.block_wand_union.proofs.align.align_scorers.Reads as reads
-use Rattle.block_wand_union.proofs.align.align_scorers.Lts as lts
-use Rattle.ordering.proofs.put_back.Reads as put-back-reads
-use Rattle.term_scorer.proofs.slot.seek.Reads as seek-reads
 
 abbrev Inv-loop : tie.InvT-loop
 Inv-loop file lists n pivot-doc before-pivot-len places₀ docs₀ freqs₀ out₀ i₀ places docs freqs out i =
@@ -31,43 +28,33 @@ stand-in c =
     let a = c .before .before .before in
     stand-before _ _ _ _ _ _ _ (a .pre .3) (omega arith) (long a) (omega arith) (c .before .loop .inv .1) (omega arith)
 
--- src/align.rt:38:5
 loop-holds : tie.Need-loop-holds Inv-loop μ-loop
 loop-holds c = let a = c .before in (omega arith, seeking _ _ _ _ _ _ _ (search needs) (a .pre .3) (a .pre .4))
 
--- src/align.rt:39:9
 sub-i : tie.Need-sub-i Inv-loop μ-loop
 sub-i c = search needs
 
--- src/align.rt:40:22
 mul-scorer : tie.Need-mul-scorer Inv-loop μ-loop
 mul-scorer c = search needs
 
--- src/align.rt:40:22
 array-copy-out-scorer : tie.Need-array-copy-out-scorer Inv-loop μ-loop
 array-copy-out-scorer c = search needs
 
--- src/align.rt:41:17
 cast-q : tie.Need-cast-q Inv-loop μ-loop
 cast-q c = search needs
 
--- src/align.rt:42:13
 seek-requires : tie.Need-seek-requires Inv-loop μ-loop
 seek-requires c κs = let b = c .before .before .before .before .before in let S = stand-in b in (S .slot-in, S .slot, S .doc-is, b .before .before .before .pre .2)
 
--- src/align.rt:45:9
 mul-out : tie.Need-mul-out Inv-loop μ-loop
 mul-out c = search needs
 
--- src/align.rt:45:9
 array-set-from-out : tie.Need-array-set-from-out Inv-loop μ-loop
 array-set-from-out c = search needs
 
--- src/align.rt:50:17
 put-back-requires : tie.Need-put-back-requires Inv-loop μ-loop
 put-back-requires c κs = search needs
 
--- src/align.rt:52:13
 returns : tie.Need-returns Inv-loop μ-loop
 returns c =
     let b = c .before .before .before .before .before .before .before .before .before in
@@ -80,18 +67,15 @@ returns c =
       long = L .long;
     }
 
--- src/align.rt:38:5
 loop-less : tie.Need-loop-less Inv-loop μ-loop
 loop-less c = search needs
 
--- src/align.rt:38:5
 loop-again : tie.Need-loop-again Inv-loop μ-loop
 loop-again c =
     let b = c .before .before .before .before .before .before .before in
     let a = b .before .before .before in
     (omega arith, seeks _ _ _ _ _ _ _ (a .pre .3) (omega arith) (long a) (omega arith) (b .before .loop .inv .1) (omega arith) (c .before .seek .ensures) (omega arith))
 
--- src/align.rt:22:1
 returns-2 : tie.Need-returns-2 Inv-loop μ-loop
 returns-2 c =
     let a = c .before .before .before in

@@ -1,17 +1,17 @@
 -- `blocks::seek_blocks` meets its contract: each turn one skip reader seeks the pivot in its slot, which leaves every other scorer, and its block's bound is added.
-use borrow.Author.Needs.{needs}
-use native.Mathlib.Omega.{arith}
 use mathlib.Core.List.{List}
 use mathlib.Core.Path.{_≡_}
 use Prim.Native.Nat.{_-_, _≤_}
+use native.Mathlib.Omega.{arith}
+use lib.Ieee.{ofBits}
 use lib.ListN.{getD, length, take}
 use lib.Seq.{take-take}
-use lib.Ieee.{ofBits}
+use borrow.Author.Needs.{needs}
+use Rattle.route.specs.Cursor.{seekBlockIn}
 use Rattle.route.specs.Lists.{All}
 use Rattle.term_scorer.specs.Slots.{cursorAt, held, listAt, Sixteen}
-use Rattle.route.specs.Cursor.{seekBlockIn}
-use Rattle.ordering.specs.declared.TermScorer.{TermScorer}
 use Rattle.ordering.specs.Scorers.{Apart, noScorer}
+use Rattle.ordering.specs.declared.TermScorer.{TermScorer}
 use Rattle.block_wand_union.specs.Seats.{Seat, terms}
 use Rattle.block_wand_union.proofs.BlockBounds.{Bounding, bounded, bounding, bounds-next, first-same, seat-of}
 use Rattle.block_wand_union.proofs.Seats.{shallow-seat, standing-in}

@@ -1,29 +1,21 @@
-use borrow.Author.Needs.{needs}
-use native.Mathlib.Omega.{arith}
+-- `low::block_max_was_too_low_advance_one_scorer` meets its contract: the document sought and the scorer that seeks are the route's, and the order is restored from its place.
 use Prim.Native.Nat.{_≤_, _<_}
+use native.Mathlib.Omega.{arith}
 use lib.ListN.{drop, getD, length, take}
-use Rattle.route.proofs.Pivot.{behind-is}
-use Rattle.route.proofs.Lists.{all-imp}
-use Rattle.term_scorer.specs.Slots.{held}
-use Rattle.ordering.specs.Scorers.{noScorer}
-use Rattle.ordering.proofs.Places.{all-first}
-use Rattle.block_wand_union.specs.Seats.{Stand}
-use Rattle.block_wand_union.specs.Moves.{LastRead}
-use Rattle.block_wand_union.proofs.Seats.{first-of}
-use Rattle.block_wand_union.proofs.Lowest.{last-read, least-low, lowest-low, seeks-inside, too-low}
 use borrow.Author.Needs.{needs}
+use Rattle.route.proofs.Lists.{all-imp}
+use Rattle.route.proofs.Pivot.{behind-is}
+use Rattle.term_scorer.specs.Slots.{held}
+use Rattle.ordering.proofs.Places.{all-first}
+use Rattle.ordering.specs.Scorers.{noScorer}
+use Rattle.block_wand_union.specs.Moves.{LastRead}
+use Rattle.block_wand_union.specs.Seats.{Stand}
+use Rattle.block_wand_union.proofs.Lowest.{last-read, least-low, lowest-low, seeks-inside, too-low}
+use Rattle.block_wand_union.proofs.Seats.{first-of}
 use Rattle.block_wand_union.proofs.low.block_max_was_too_low_advance_one_scorer.Statement.{
   statement,
 }
 use Rattle.block_wand_union.proofs.low.block_max_was_too_low_advance_one_scorer.Tie as tie
-use Rattle.block_wand_union.proofs.low.block_max_was_too_low_advance_one_scorer.Reads as reads
-use Rattle.block_wand_union.proofs.low.block_max_was_too_low_advance_one_scorer.Lts as lts
-use Rattle.block_wand_union.proofs.low.behind.Reads as behind-reads
-use Rattle.block_wand_union.proofs.low.least_last_doc.Reads as least-last-doc-reads
-use Rattle.ordering.proofs.least_doc.Reads as least-doc-reads
-use Rattle.ordering.proofs.restore_ordering.Reads as restore-ordering-reads
-use Rattle.ordering.proofs.scorer_to_seek.Reads as scorer-to-seek-reads
-use Rattle.term_scorer.proofs.slot.seek.Reads as seek-reads
 
 long : (a : tie.Start) → a .args .n ≤ length (a .args .t4)
 long a = search needs
@@ -48,40 +40,32 @@ stand-in c =
     let a = c .before .before .before .before .before .before in
     all-first (Stand _ _ _) (a .args .t4) (a .args .n) (c .scorer-to-seek .result) noScorer (omega (arith, at-in c)) (long a) (a .pre .4)
 
--- src/low.rt:67:9
 least-last-doc-requires : tie.Need-least-last-doc-requires
 least-last-doc-requires c κs =
     let a = c .before .before in
     let first = first-of (Stand (a .args .file .now) (a .args .lists .now) (held (a .args .places .now) (a .args .docs .now) (a .args .freqs .now))) (a .args .n) (a .args .pivot-len) (a .args .t4) (omega arith) (a .pre .4) in
     (omega arith, all-imp (Stand (a .args .file .now) (a .args .lists .now) (held (a .args .places .now) (a .args .docs .now) (a .args .freqs .now))) (LastRead (a .args .places .now)) (take (a .args .pivot-len) (a .args .t4)) (last-read _ _ _) first)
 
--- src/low.rt:68:51
 behind-requires : tie.Need-behind-requires
 behind-requires c κs = let a = c .before .before .before in omega (arith, c .least-last-doc .ensures, lowest-low (a .args .places .now) 2147483647 (take (a .args .pivot-len) (a .args .t4)))
 
--- src/low.rt:68:9
 least-doc-requires : tie.Need-least-doc-requires
 least-doc-requires c κs = search needs
 
--- src/low.rt:69:9
 scorer-to-seek-requires : tie.Need-scorer-to-seek-requires
 scorer-to-seek-requires c κs =
     let a = c .before .before .before .before .before in
     (omega arith, omega arith, all-imp (Stand (a .args .file .now) (a .args .lists .now) (held (a .args .places .now) (a .args .docs .now) (a .args .freqs .now))) (λ s. s .slot < 16) (take (a .args .pivot-len) (a .args .t4)) (λ s S. S .slot-in) (first-of (Stand (a .args .file .now) (a .args .lists .now) (held (a .args .places .now) (a .args .docs .now) (a .args .freqs .now))) (a .args .n) (a .args .pivot-len) (a .args .t4) (omega arith) (a .pre .4)))
 
--- src/low.rt:70:18
 mul-scorer : tie.Need-mul-scorer
 mul-scorer c = omega (arith, at-in c)
 
--- src/low.rt:70:18
 array-copy-out-scorer : tie.Need-array-copy-out-scorer
 array-copy-out-scorer c = omega (arith, at-in c)
 
--- src/low.rt:71:13
 cast-q : tie.Need-cast-q
 cast-q c = search needs
 
--- src/low.rt:72:9
 seek-requires : tie.Need-seek-requires
 seek-requires c κs =
     let b = c .before .before .before .before .before in
@@ -89,19 +73,15 @@ seek-requires c κs =
     let S = stand-in b in
     (S .slot-in, S .slot, S .doc-is, target-low (b .before))
 
--- src/low.rt:76:5
 mul-out : tie.Need-mul-out
 mul-out c = omega (arith, at-in (c .before .before .before .before .before .before))
 
--- src/low.rt:76:5
 array-set-from-out : tie.Need-array-set-from-out
 array-set-from-out c = omega (arith, at-in (c .before .before .before .before .before .before))
 
--- src/low.rt:80:5
 restore-ordering-requires : tie.Need-restore-ordering-requires
 restore-ordering-requires c κs = omega (arith, at-in (c .before .before .before .before .before .before))
 
--- src/low.rt:53:1
 returns : tie.Need-returns
 returns c =
     let b = c .before .before .before .before .before .before .before in

@@ -1,17 +1,15 @@
-use borrow.Author.Needs.{needs}
+-- `low::least_last_doc` meets its contract: the least of what was found and of the last documents from place i on stays the same.
+use mathlib.Core.Path.{refl}
+use Prim.Native.Nat.{_-_}
 use native.Mathlib.Omega.{arith}
-use mathlib.Core.Path.{refl, _∙_}
-use Prim.Native.Nat.{_-_, _<_}
 use lib.ListN.{getD, take}
-use Rattle.ordering.specs.Scorers.{noScorer}
+use borrow.Author.Needs.{needs}
 use Rattle.ordering.proofs.Places.{all-first}
+use Rattle.ordering.specs.Scorers.{noScorer}
 use Rattle.block_wand_union.specs.Moves.{LastRead, leastLastOf}
 use Rattle.block_wand_union.proofs.Lowest.{Lowering, lowers, lowest}
 use Rattle.block_wand_union.proofs.low.least_last_doc.Statement.{statement}
 use Rattle.block_wand_union.proofs.low.least_last_doc.Tie as tie
-use Rattle.block_wand_union.proofs.low.least_last_doc.Reads as reads
-use Rattle.block_wand_union.proofs.low.least_last_doc.Lts as lts
-use Rattle.term_scorer.proofs.slot.last_doc_in_block.Reads as last-doc-in-block-reads
 
 abbrev Inv-loop : tie.InvT-loop
 Inv-loop pivot-len places scorers least₀ i₀ least i = Lowering places scorers pivot-len (leastLastOf places 2147483647 (take pivot-len scorers)) least i
@@ -22,47 +20,36 @@ abbrev μ-loop : tie.MeasureT-loop
 read : (c : tie.In-loop Inv-loop μ-loop) → LastRead (c .before .before .args .places .now) (getD (c .before .before .args .t1) (c .before .loop .i) noScorer)
 read c = let a = c .before .before in all-first (LastRead (a .args .places .now)) (a .args .t1) (a .args .pivot-len) (c .before .loop .i) noScorer (omega arith) (search needs) (a .pre .1)
 
--- src/low.rt:28:5
 loop-holds : tie.Need-loop-holds Inv-loop μ-loop
 loop-holds c = record { inside = omega arith; whole = refl }
 
--- src/low.rt:29:22
 mul-scorer : tie.Need-mul-scorer Inv-loop μ-loop
 mul-scorer c = search needs
 
--- src/low.rt:29:22
 array-copy-out-scorer : tie.Need-array-copy-out-scorer Inv-loop μ-loop
 array-copy-out-scorer c = search needs
 
--- src/low.rt:30:17
 cast-q : tie.Need-cast-q Inv-loop μ-loop
 cast-q c = search needs
 
--- src/low.rt:31:13
 last-doc-in-block-requires : tie.Need-last-doc-in-block-requires Inv-loop μ-loop
 last-doc-in-block-requires c κs = read (c .before .before)
 
--- src/low.rt:32:9
 add-i : tie.Need-add-i Inv-loop μ-loop
 add-i c = search needs
 
--- src/low.rt:28:5
 loop-less : tie.Need-loop-less Inv-loop μ-loop
 loop-less c = search needs
 
--- src/low.rt:28:5
 loop-again : tie.Need-loop-again Inv-loop μ-loop
 loop-again c = lowers _ _ _ _ (search needs) (c .before .before .before .before .before .loop .inv) (omega arith) (omega (arith, c .before .last-doc-in-block .ensures))
 
--- src/low.rt:28:5
 loop-less-2 : tie.Need-loop-less-2 Inv-loop μ-loop
 loop-less-2 c = search needs
 
--- src/low.rt:28:5
 loop-again-2 : tie.Need-loop-again-2 Inv-loop μ-loop
 loop-again-2 c = lowers _ _ _ _ (search needs) (c .before .before .before .before .before .loop .inv) (omega arith) (omega (arith, c .before .last-doc-in-block .ensures))
 
--- src/low.rt:18:1
 returns : tie.Need-returns Inv-loop μ-loop
 returns c = lowest _ _ _ _ (search needs) (c .before .loop .inv) (omega arith)
 

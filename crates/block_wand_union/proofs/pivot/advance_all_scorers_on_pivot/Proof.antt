@@ -1,16 +1,12 @@
-use borrow.Author.Needs.{needs}
-use native.Mathlib.Omega.{arith}
+-- `pivot::advance_all_scorers_on_pivot` meets its contract: each turn one scorer advances in its slot, and the sweep and the sort are the route's.
 use Prim.Native.Nat.{_-_, _≤_}
+use native.Mathlib.Omega.{arith}
 use lib.ListN.{length}
+use borrow.Author.Needs.{needs}
 use Rattle.term_scorer.specs.Slots.{held}
 use Rattle.block_wand_union.proofs.Advances.{Advancing, advanced, advances, advancing, inside-at, stand-at}
 use Rattle.block_wand_union.proofs.pivot.advance_all_scorers_on_pivot.Statement.{statement}
 use Rattle.block_wand_union.proofs.pivot.advance_all_scorers_on_pivot.Tie as tie
-use Rattle.block_wand_union.proofs.pivot.advance_all_scorers_on_pivot.Reads as reads
-use Rattle.block_wand_union.proofs.pivot.advance_all_scorers_on_pivot.Lts as lts
-use Rattle.ordering.proofs.sort_by_doc.Reads as sort-by-doc-reads
-use Rattle.ordering.proofs.sweep.Reads as sweep-reads
-use Rattle.term_scorer.proofs.slot.advance.Reads as advance-reads
 
 abbrev Inv-loop : tie.InvT-loop
 Inv-loop file lists n pivot-len places₀ docs₀ freqs₀ out₀ i₀ places docs freqs out i =
@@ -22,23 +18,18 @@ abbrev μ-loop : tie.MeasureT-loop
 long : (a : tie.Start Inv-loop μ-loop) → a .args .n ≤ length (a .args .scorers)
 long a = search needs
 
--- src/pivot.rt:81:5
 loop-holds : tie.Need-loop-holds Inv-loop μ-loop
 loop-holds c = let a = c .before in (omega arith, advancing _ _ _ _ _ (search needs) (a .pre .2) (a .pre .3))
 
--- src/pivot.rt:82:22
 mul-scorer : tie.Need-mul-scorer Inv-loop μ-loop
 mul-scorer c = search needs
 
--- src/pivot.rt:82:22
 array-copy-out-scorer : tie.Need-array-copy-out-scorer Inv-loop μ-loop
 array-copy-out-scorer c = search needs
 
--- src/pivot.rt:83:17
 cast-q : tie.Need-cast-q Inv-loop μ-loop
 cast-q c = search needs
 
--- src/pivot.rt:84:13
 advance-requires : tie.Need-advance-requires Inv-loop μ-loop
 advance-requires c κs =
     let b = c .before .before .before .before .before in
@@ -47,38 +38,30 @@ advance-requires c κs =
     let X = stand-at _ _ _ _ _ (a .pre .2) (omega arith) (long a) S (omega arith) in
     (X .slot-in, X .slot, inside-at _ _ _ _ _ (a .pre .2) (omega arith) (long a) S (omega arith) (a .args .pivot-len) (omega arith) (omega arith) (a .pre .4))
 
--- src/pivot.rt:85:9
 mul-out : tie.Need-mul-out Inv-loop μ-loop
 mul-out c = search needs
 
--- src/pivot.rt:85:9
 array-set-from-out : tie.Need-array-set-from-out Inv-loop μ-loop
 array-set-from-out c = search needs
 
--- src/pivot.rt:89:9
 add-i : tie.Need-add-i Inv-loop μ-loop
 add-i c = search needs
 
--- src/pivot.rt:81:5
 loop-less : tie.Need-loop-less Inv-loop μ-loop
 loop-less c = search needs
 
--- src/pivot.rt:81:5
 loop-again : tie.Need-loop-again Inv-loop μ-loop
 loop-again c =
     let b = c .before .before .before .before .before .before in
     let a = b .before .before .before in
     (omega arith, advances _ _ _ _ _ (a .pre .2) (omega arith) (long a) (b .before .loop .inv .1) (omega arith) (c .advance .ensures))
 
--- src/pivot.rt:91:9
 sweep-requires : tie.Need-sweep-requires Inv-loop μ-loop
 sweep-requires c κs = search needs
 
--- src/pivot.rt:93:9
 sort-by-doc-requires : tie.Need-sort-by-doc-requires Inv-loop μ-loop
 sort-by-doc-requires c κs = search needs
 
--- src/pivot.rt:66:1
 returns : tie.Need-returns Inv-loop μ-loop
 returns c =
     let b = c .before .before .before in

@@ -1,23 +1,21 @@
-use borrow.Author.Needs.{needs}
-use native.Mathlib.Omega.{arith}
+-- `pivot::score_on_pivot` meets its contract: each turn adds the next scorer's score.
 use mathlib.Core.List.{map}
 use mathlib.Core.Path.{ap, refl, _∙_, _≡_}
 use Prim.Native.Nat.{ℕ, _-_, _≤_}
-use lib.ListN.{getD, length, take}
+use native.Mathlib.Omega.{arith}
 use lib.Ieee.{ofBits}
-use Rattle.route.specs.Score.{sum}
+use lib.ListN.{getD, length, take}
+use borrow.Author.Needs.{needs}
 use Rattle.route.specs.F32.{f32}
+use Rattle.route.specs.Score.{sum}
 use Rattle.route.specs.Scorer.{scoreHere}
 use Rattle.term_scorer.specs.Slots.{held}
-use Rattle.ordering.specs.Scorers.{noScorer}
 use Rattle.ordering.proofs.Places.{all-first}
+use Rattle.ordering.specs.Scorers.{noScorer}
 use Rattle.block_wand_union.specs.Seats.{Scorable, scorerAt}
 use Rattle.block_wand_union.proofs.Advances.{scored-next}
 use Rattle.block_wand_union.proofs.pivot.score_on_pivot.Statement.{statement}
 use Rattle.block_wand_union.proofs.pivot.score_on_pivot.Tie as tie
-use Rattle.block_wand_union.proofs.pivot.score_on_pivot.Reads as reads
-use Rattle.block_wand_union.proofs.pivot.score_on_pivot.Lts as lts
-use Rattle.term_scorer.proofs.score.score.Reads as score-reads
 
 abbrev Inv-loop : tie.InvT-loop
 Inv-loop file norms weights caches scoring lists pivot-len places docs freqs scorers acc₀ i₀ acc i =
@@ -35,43 +33,34 @@ scorable c =
     let a = c .before .before .before in
     all-first (Scorable _ _ _ _ _) (a .args .t7) (a .args .pivot-len) (c .before .loop .i) noScorer (omega arith) (long a) (a .pre .2)
 
--- src/pivot.rt:43:5
 loop-holds : tie.Need-loop-holds Inv-loop μ-loop
 unfolding ofBits
 loop-holds c = (omega arith, refl)
 
--- src/pivot.rt:44:22
 mul-scorer : tie.Need-mul-scorer Inv-loop μ-loop
 mul-scorer c = search needs
 
--- src/pivot.rt:44:22
 array-copy-out-scorer : tie.Need-array-copy-out-scorer Inv-loop μ-loop
 array-copy-out-scorer c = search needs
 
--- src/pivot.rt:45:17
 cast-q : tie.Need-cast-q Inv-loop μ-loop
 cast-q c = search needs
 
--- src/pivot.rt:46:13
 score-requires : tie.Need-score-requires Inv-loop μ-loop
 score-requires c κs = let b = c .before .before in let S = scorable b in (S .stand .slot-in, b .before .before .before .pre .1, S .stand .slot, S .weighed, S .stand .doc-is, S .live)
 
--- src/pivot.rt:60:9
 add-i : tie.Need-add-i Inv-loop μ-loop
 add-i c = search needs
 
--- src/pivot.rt:43:5
 loop-less : tie.Need-loop-less Inv-loop μ-loop
 loop-less c = search needs
 
--- src/pivot.rt:43:5
 loop-again : tie.Need-loop-again Inv-loop μ-loop
 loop-again c =
     let b = c .before .before .before in
     let a = b .before .before .before in
     (omega arith, scored-next (scorerAt (a .args .file .now) (a .args .lists .now) (a .args .scoring) (a .args .places .now)) (a .args .t7) (b .before .loop .i) (omega (arith, long a)) (b .before .loop .inv .1) (c .score .ensures))
 
--- src/pivot.rt:25:1
 returns : tie.Need-returns Inv-loop μ-loop
 returns c =
     let a = c .before .before .before in

@@ -1,23 +1,17 @@
-use borrow.Author.Needs.{needs}
-use native.Mathlib.Omega.{arith}
+-- `turn::turn` meets its contract: the pivot's places are the route's, and each of the three ways on is one of its turns.
 use mathlib.Core.Path.{refl, sym, _∙_, _≡_}
 use Prim.Native.Nat.{_≤_}
+use native.Mathlib.Omega.{arith}
 use lib.ListN.{length-take, take}
 use lib.Seq.{take-take}
-use Rattle.ordering.specs.declared.Pivot.the-variants.{At}
+use borrow.Author.Needs.{needs}
 use Rattle.ordering.specs.Pivots.{pivotOf}
+use Rattle.ordering.specs.declared.Pivot.the-variants.{At}
 use Rattle.block_wand_union.specs.Seats.{Seat}
 use Rattle.block_wand_union.proofs.Seats.{first-apart, first-of}
 use Rattle.block_wand_union.proofs.Steps.{at-pivot, found, high, in-slots, low, nowhere, stands′}
-use borrow.Author.Needs.{needs}
 use Rattle.block_wand_union.proofs.turn.turn.Statement.{statement}
 use Rattle.block_wand_union.proofs.turn.turn.Tie as tie
-use Rattle.block_wand_union.proofs.turn.turn.Reads as reads
-use Rattle.block_wand_union.proofs.turn.turn.Lts as lts
-use Rattle.block_wand_union.proofs.blocks.seek_blocks.Reads as seek-blocks-reads
-use Rattle.block_wand_union.proofs.low.block_max_was_too_low_advance_one_scorer.Reads as block-max-was-too-low-advance-one-scorer-reads
-use Rattle.block_wand_union.proofs.turn.on_pivot.Reads as on-pivot-reads
-use Rattle.ordering.proofs.find_pivot_doc.Reads as find-pivot-doc-reads
 
 abbrev start : tie.After-known-told → tie.Start
 start k = k .before .before .before .before .before
@@ -29,19 +23,15 @@ at k = sym (k .before .pivot .given .1) ∙ k .before .before .before .find-pivo
 few : (k : tie.After-known-told) → k .before .pivot .given .0 .1 .0 ≤ start k .args .n
 few k = let a = start k in omega (arith, found _ _ _ _ _ _ _ (a .pre .2) (at k) .inside, length-take (a .args .n) (a .args .scorers))
 
--- src/turn.rt:115:9
 find-pivot-doc-requires : tie.Need-find-pivot-doc-requires
 find-pivot-doc-requires c κs = let a = c .before in (a .pre .0, in-slots _ _ _ _ (a .args .threshold) _ _ (a .pre .2))
 
--- src/turn.rt:117:27
 enum-told : tie.Need-enum-told
 enum-told c = search needs
 
--- src/turn.rt:126:13
 enum-known-pivot : tie.Need-enum-known-pivot
 enum-known-pivot c = search needs
 
--- src/turn.rt:130:17
 seek-blocks-requires : tie.Need-seek-blocks-requires
 seek-blocks-requires c κs =
     let k = c .before .before .before .before in
@@ -49,7 +39,6 @@ seek-blocks-requires c κs =
     let S = a .pre .2 in
     (omega (arith, few k), a .pre .1, S .sixteen, first-apart (a .args .n) _ (a .args .scorers) (few k) (S .apart), first-of (Seat _ _ _ _) (a .args .n) _ (a .args .scorers) (few k) (S .seats))
 
--- src/turn.rt:135:17
 on-pivot-requires : tie.Need-on-pivot-requires
 on-pivot-requires c κs =
     let k = c .before .before .before .before .before .before .before .before .before in
@@ -58,7 +47,6 @@ on-pivot-requires c κs =
     let B = c .before .before .before .before .seek-blocks .ensures (take (a .args .n) (a .args .scorers)) (take-take _ (a .args .n) (a .args .scorers) (few k)) (S .apart) (S .seats) in
     (a .pre .0, a .pre .1, S .apart, at-pivot (a .args .file .now) (a .args .lists .now) _ (a .args .max-scores .now) (a .args .threshold) _ _ S (at k) (a .pre .3) B)
 
--- src/turn.rt:135:17
 returns : tie.Need-returns
 returns c =
     let k = c .before .before .before .before .before .before .before .before .before .before in
@@ -67,7 +55,6 @@ returns c =
     let B = c .before .before .before .before .before .seek-blocks .ensures (take (a .args .n) (a .args .scorers)) (take-take _ (a .args .n) (a .args .scorers) (few k)) (S .apart) (S .seats) in
     high (a .args .file .now) (a .args .lists .now) _ (a .args .max-scores .now) (a .args .threshold) _ _ S (at k) (a .pre .3) B (c .before .before .before .before .if1 .taken) (c .on-pivot .ensures)
 
--- src/turn.rt:153:17
 block-max-was-too-low-advance-one-scorer-requires :
     tie.Need-block-max-was-too-low-advance-one-scorer-requires
 block-max-was-too-low-advance-one-scorer-requires c κs =
@@ -78,14 +65,12 @@ block-max-was-too-low-advance-one-scorer-requires c κs =
     let F = found (a .args .file .now) (a .args .lists .now) _ (a .args .max-scores .now) (a .args .threshold) _ _ S (at k) in
     (omega (arith, F .first), few k, a .pre .0, S .apart, stands′ (a .args .file .now) (a .args .lists .now) _ (a .args .max-scores .now) (a .args .threshold) _ _ S (at k) (a .pre .3) B)
 
--- src/turn.rt:96:1
 returns-2 : tie.Need-returns-2
 returns-2 c =
     let a = c .before .before .before .before in
     let e = sym (c .enum-told .given .1) ∙ c .before .before .find-pivot-doc .ensures in
     nowhere _ _ _ _ _ _ _ (a .pre .2) e (a .args .scorers) (a .args .n) refl (search needs) 0 _
 
--- src/turn.rt:96:1
 returns-3 : tie.Need-returns-3
 returns-3 c =
     let k = c .before .before .before .before .before .before .before .before .before .before in
