@@ -74,6 +74,15 @@ module _ (file : List ℕ) (x : Part) where
         placed = subst (λ (q : SegmentPostings). Placed file x q docs freqs) (sym e) P;
       }
 
+  -- to know its bound moves nothing
+  pub bound-in : {row docs freqs : List ℕ} → PlaceIn file x row docs freqs → PlaceIn file x (set row 7 1) docs freqs × (cursorIn (set row 7 1) ≡ cursorIn row)
+  bound-in {row} {docs} {freqs} P =
+      let p = postingsIn file x row in
+      let e : set row 7 1 ≡ placeRow p 1 = ap (λ (z : List ℕ). set z 7 1) (P .standing .row-is) in (
+        subst (λ (z : List ℕ). PlaceIn file x z docs freqs) (sym e) (kept-in p 1 (P .standing .narrow) (P .placed)),
+        ap cursorIn e ∙ sym (cursor-is (placeRow p 1)) ∙ ap cursorOf (place-back p 1 (P .placed .stands)) ∙ cursor-is row,
+      )
+
   -- a row's document, whatever the scoring
   here : (p : SegmentPostings) {docs freqs : List ℕ} → Placed file x p docs freqs → {doc : ℕ} → Here p docs doc → doc ≡ docIn file x (cursorOf p .at)
   here p {docs} {freqs} P h = h file x freqs P Unstepped ∙ doc-is file x Unstepped (cursorOf p .at)
@@ -197,7 +206,7 @@ module _ (file list row : List ℕ) (L : ListIn file (partIn list)) {docs freqs 
   cur-inside = P .placed .inside
 
   -- the document that the scorer stands on is in the array
-  doc-in-array : docIn file (partIn list) (cursorIn row .at) ≡ getD docs (getD row 6 0) 0
+  pub doc-in-array : docIn file (partIn list) (cursorIn row .at) ≡ getD docs (getD row 6 0) 0
   unfolding postingsIn
   doc-in-array =
       sym (here file (partIn list) (postingsIn file (partIn list) row) (P .placed) (doc-here (postingsIn file (partIn list) row) docs)

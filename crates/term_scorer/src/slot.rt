@@ -1,6 +1,8 @@
 // A scorer's moves by its slot. The other slots stay as they are.
 ghost use mathlib.Core.Path.{_≡_};
+ghost use mathlib.Core.List.{[]};
 ghost use Prim.Native.Nat.{_≤_, _<_};
+ghost use lib.ListN.{getD};
 ghost use lib.Dec.{ltb};
 ghost use Rattle.notefile.specs.Lists.{fullBlocks};
 ghost use Rattle.notefile.specs.declared.part.Part.{Part};
@@ -12,6 +14,7 @@ ghost use Rattle.term_scorer.specs.Rows.{firstOf};
 ghost use Rattle.term_scorer.specs.Slots.{cursorAt, held, lastAt, listAt, partAt, MovedSlot, Opened, Shallowed, SlotIn, StandingIn, Sixteen};
 use crate::place::BLOCK;
 use crate::place::COUNT;
+use crate::place::CUR;
 use crate::place::LAST;
 use crate::place::keep_part;
 use crate::row;
@@ -32,6 +35,15 @@ pub fn open(
 {
     keep_part(x, &mut lists[q]);
     row::open(file, x, &mut places[q], &mut docs[q], &mut freqs[q])
+}
+
+// The document that slot q's scorer stands on.
+pub fn doc(q: usize, places: &[[usize; 8]; 16], docs: &[[u32; 128]; 16]) -> u32
+    requires { ⌜ (q < 16) × (getD (getD (now places) q []) 6 0 < 128) ⌝ }
+    ensures { λ r. ⌜ r ≡ getD (getD (now (docs .entry)) q []) (getD (getD (now (places .entry)) q []) 6 0) 0 ⌝ }
+{
+    let cur = places[q][CUR];
+    docs[q][cur]
 }
 
 // The last document of the block on which the skip reader stands.
