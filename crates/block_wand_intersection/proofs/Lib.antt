@@ -1,0 +1,4 @@
+-- Laws of the intersection's run that belong to no one function.
+pub mod Parts
+pub mod Seats
+pub mod Trying

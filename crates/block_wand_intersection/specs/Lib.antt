@@ -1,0 +1,3 @@
+-- What the contracts of `block_wand_intersection` cite.
+pub mod Scorers
+pub mod Candidates
