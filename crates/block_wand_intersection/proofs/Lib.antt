@@ -2,3 +2,4 @@
 pub mod Parts
 pub mod Seats
 pub mod Trying
+pub mod Gathering

@@ -10,17 +10,22 @@ use lib.Seq.{getD-set-other, getD-set-same, set-getD}
 use lib.Ieee.{Float, nan}
 use borrow.Author.Tests.{eqb-false, eqb-true}
 use Rattle.bm25.specs.declared.Scoring.{Scoring}
+use Rattle.notefile.specs.Header.{documents}
 use Rattle.route.specs.F32.{f32}
 use Rattle.route.specs.Postings.{Postings}
 use Rattle.route.specs.Cursor.{Cursor, blockMax}
-use Rattle.route.specs.Scorer.{Scorer}
+use Rattle.route.specs.Scorer.{lastDocInBlock}
 use Rattle.route.proofs.Cases.{on-test}
+use Rattle.route.proofs.ListLaws.{ListOk}
+use Rattle.route.proofs.Places.{last-cap}
+use Rattle.decoded.proofs.AcceptedLists.{list-ok}
 use Rattle.postings.specs.Decoded.{docIn}
-use Rattle.term_scorer.specs.Rows.{PlaceIn}
-use Rattle.term_scorer.specs.Slots.{Held, MovedSlot, Shallowed, Sixteen, SlotIn, StandingIn, cursorAt, held, partAt}
+use Rattle.postings.proofs.Readers.{end-is}
+use Rattle.term_scorer.specs.Rows.{PlaceIn, cursorIn}
+use Rattle.term_scorer.specs.Slots.{Held, MovedSlot, Shallowed, Sixteen, SlotIn, StandingIn, cursorAt, held, lastAt, partAt}
 use Rattle.term_scorer.specs.Weights.{Bounded, BoundKept}
-use Rattle.term_scorer.proofs.Rows.{bound-in, cur-inside, doc-in-array}
-use Rattle.block_wand_intersection.specs.Scorers.{InOrder, Query, Seated, StillKept, BoundsKept, Unmoved, listIn, scorerAt, scorersBetween, slotAt}
+use Rattle.term_scorer.proofs.Rows.{bound-in, cur-inside, doc-in-array, last-is, last-small}
+use Rattle.block_wand_intersection.specs.Scorers.{InOrder, Query, Ready, Seated, StillKept, BoundsKept, Unmoved, listIn, scorerAt, scorersBetween, slotAt}
 use Rattle.block_wand_intersection.proofs.Parts.{part-same}
 
 -- what holds of slot q, and of every other
@@ -118,3 +123,56 @@ module _ {x : Query} {h : Held} (S : Seated x h) {q : ℕ} (hq : q < x .len) whe
 
   pub doc-here : {doc : ℕ} → doc ≡ getD (getD (h .docs) q []) (getD (getD (h .places) q []) 6 0) 0 → doc ≡ docIn (x .file) (partAt (x .lists) q) (cursorAt (h .places) q .at)
   doc-here e = e ∙ sym (doc-in-array (x .file) (getD (x .lists) q []) (getD (h .places) q []) (S .slot q hq .list) (S .slot q hq .place))
+
+  pub list-right : ListOk 128 (documents (x .file)) (listIn x q)
+  list-right = list-ok (x .scoring) (x .file) (partAt (x .lists) q) (S .slot q hq .list .right) (S .slot q hq .list .few)
+
+  pub last-fits : lastAt (h .places) q < 4294967296
+  last-fits = last-small (x .file) (partAt (x .lists) q) (getD (h .places) q []) (S .slot q hq .place .standing)
+
+  -- the last document of the skip reader's block is the route's
+  pub last-here : lastDocInBlock 128 (scorerAt x (h .places) q) ≡ lastAt (h .places) q
+  unfolding cursorIn
+  last-here =
+      end-is (x .file) (partAt (x .lists) q) (S .slot q hq .list) (x .scoring) (getD (getD (h .places) q []) 0 0)
+      ∙ sym (last-is (x .file) (partAt (x .lists) q) (getD (h .places) q []) (S .slot q hq .place .standing))
+
+  pub last-low : lastAt (h .places) q ≤ 2147483647
+  last-low = subst (λ (z : ℕ). z ≤ 2147483647) last-here (last-cap 128 (documents (x .file)) (listIn x q) list-right (cursorAt (h .places) q .blk))
+
+-- a bound that has become known moves nothing
+module _ (x : Query) (few : x .len ≤ 16) {h : Held} (S : Seated x h) {q : ℕ} (hq : q < x .len) {bounds : List Float} {places′ : List (List ℕ)} {bounds′ : List Float} {b : Float}
+    (B : Bounded (x .scoring) (x .file) (x .lists) q (h .places) bounds places′ bounds′ b) where
+  abbrev h′ : Held
+  h′ = held places′ (h .docs) (h .freqs)
+
+  row-there : getD places′ q [] ≡ set (getD (h .places) q []) 7 1
+  row-there = let s = S .sixteen .0 in ap (λ (z : List (List ℕ)). getD z q []) (B .places-are) ∙ getD-set-same (h .places) q (set (getD (h .places) q []) 7 1) [] (omega arith)
+
+  pub known-only : Only q h h′
+  known-only r n = record { place = other (h .places) places′ q r _ (B .places-are) n; docs = refl; freqs = refl }
+
+  pub known-cursor : cursorAt places′ q ≡ cursorAt (h .places) q
+  known-cursor = ap cursorIn row-there ∙ bound-in (x .file) (partAt (x .lists) q) (S .slot q hq .place) .1
+
+  known-seated : Seated x h′
+  known-seated =
+      seated-by x S hq (ap length (B .places-are) ∙ length-set (h .places) q _ ∙ S .sixteen .0, S .sixteen .1, S .sixteen .2) known-only
+      (rw row-there (bound-in (x .file) (partAt (x .lists) q) (S .slot q hq .place) .0))
+
+  module _ (long : Sixteen bounds) where
+    pub known-bound : getD bounds′ q nan ≡ blockMax 128 f32 (listIn x q) (cursorAt (h .places) q)
+    known-bound = ap (λ (z : List Float). getD z q nan) (B .bounds-are) ∙ getD-set-same bounds q b nan (omega arith) ∙ B .bound-is
+
+    pub known-others : (r : ℕ) → (r ≡ q → ⊥) → getD bounds′ r nan ≡ getD bounds r nan
+    known-others r n = ap (λ (z : List Float). getD z r nan) (B .bounds-are) ∙ getD-set-other bounds q r b nan n
+
+    pub known-ready : BoundsKept x (h .places) bounds → Ready x h′ bounds′
+    known-ready K = record {
+      seated = known-seated;
+      kept =
+          at-slot (λ r. r < x .len → BoundKept (x .scoring) (x .file) (x .lists) places′ bounds′ r) q
+          (λ _ _. known-bound ∙ ap (blockMax 128 f32 (listIn x q)) (sym known-cursor))
+          (λ r n hr. let u = known-only r n .place in rw u (λ k. known-others r n ∙ K r hr k));
+      long = ap length (B .bounds-are) ∙ length-set bounds q b ∙ long;
+    }

@@ -1,3 +1,4 @@
 -- What the contracts of `block_wand_intersection` cite.
 pub mod Scorers
 pub mod Candidates
+pub mod Windows

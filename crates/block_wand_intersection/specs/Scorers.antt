@@ -77,6 +77,12 @@ module _ (x : Query) where
   abbrev pub StillKept : List (List ℕ) → List (List ℕ) → Type 0
   StillKept places places′ = (bounds : List Float) → BoundsKept places bounds → BoundsKept places′ bounds
 
+-- a run's arrays between two of its steps
+pub record Ready (x : Query) (h : Held) (bounds : List Float) : Type 0 where
+  pub seated : Seated x h
+  pub kept : BoundsKept x (h .places) bounds
+  pub long : Sixteen bounds
+
 -- what stands in slot q is as it was
 pub record Unmoved (q : ℕ) (h h′ : Held) : Type 0 where
   pub place : getD (h′ .places) q [] ≡ getD (h .places) q []

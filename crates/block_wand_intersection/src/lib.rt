@@ -1,2 +1,3 @@
 // The intersection's skipping run: windows in which all block bounds hold, and in each the leader's candidates against the secondaries.
 mod candidate;
+mod window;

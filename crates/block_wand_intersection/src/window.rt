@@ -1,0 +1,77 @@
+// A window: all skip readers on the blocks that may hold a document, and the bounds of these blocks against the threshold.
+ghost use mathlib.Core.Path.{_≡_};
+ghost use Prim.Native.Nat.{min, _≤_, _<_};
+ghost use Rattle.term_scorer.specs.Slots.{held};
+ghost use Rattle.block_wand_intersection.specs.Scorers.{query, InOrder, Ready, WeightsIn};
+ghost use Rattle.block_wand_intersection.specs.Windows.{Gathers, Windowed};
+use bm25::Scoring;
+use fieldnorm::FieldNormReader;
+use term_scorer::score;
+use term_scorer::slot;
+
+// Whether every secondary has documents left, where the first of all present blocks ends, and the secondaries' bounds summed.
+pub struct Secondaries {
+    pub remain: bool,
+    pub window_end: u32,
+    pub block_max_sum: f32,
+}
+
+// No more windows; a window too low, by its end; or an open one, by its end and the secondaries' bounds.
+pub enum Window {
+    Over,
+    Low(u32),
+    Open(u32, f32),
+}
+
+fn least(a: u32, b: u32) -> u32
+    ensures { λ r. ⌜ r ≡ min a b ⌝ }
+{
+    if a < b { a } else { b }
+}
+
+// The secondaries go on to the blocks that may hold doc, up to the first that has none.
+fn gather(
+    file: &[u8],
+    norms: FieldNormReader,
+    weights: &[f32; 16],
+    caches: &[[f32; 256]; 16],
+    scoring: Scoring,
+    lists: &[[usize; 8]; 16],
+    n: usize,
+    order: &[usize; 16],
+    doc: u32,
+    leader_end: u32,
+    places: &mut [[usize; 8]; 16],
+    docs: &[[u32; 128]; 16],
+    freqs: &[[u32; 128]; 16],
+    bounds: &mut [f32; 16],
+) -> Secondaries
+    requires { ⌜ InOrder (query scoring (now file) (now lists) n (now order)) × WeightsIn (query scoring (now file) (now lists) n (now order)) norms (now weights) (now caches) × Ready (query scoring (now file) (now lists) n (now order)) (held (now places) (now docs) (now freqs)) (now bounds) × (doc ≤ 2147483647) ⌝ }
+    ensures { λ r. ⌜ Gathers (query scoring (now (file .entry)) (now (lists .entry)) n (now (order .entry))) doc «leader_end» (held (now (places .entry)) (now (docs .entry)) (now (freqs .entry))) (now (places .exit)) (now (bounds .exit)) r ⌝ }
+{
+    let mut window_end = leader_end;
+    let mut block_max_sum = 0.0f32;
+    let mut i = 1usize;
+    while i < n {
+        let q = order[i];
+        slot::seek_block(file, lists, q, doc, places);
+        if !slot::has_remaining_docs(file, lists, q, places) {
+            return Secondaries {
+                remain: false,
+                window_end,
+                block_max_sum,
+            };
+        }
+        window_end = least(window_end, slot::last_doc_in_block(q, places));
+        let bound = score::block_max(
+            file, norms, weights, caches, scoring, lists, q, places, docs, freqs, bounds,
+        );
+        block_max_sum = block_max_sum + bound;
+        i += 1;
+    }
+    Secondaries {
+        remain: true,
+        window_end,
+        block_max_sum,
+    }
+}
