@@ -61,7 +61,7 @@ module _ (l : Postings Float) (d : ℕ) (h : d ≤ TERMINATED) where
       on-test (ltb (lastDoc l 128 (c .blk)) d) (λ e. rw e (skip-covers (l .full - c .blk) (c .blk) (omega arith)))
       (λ e. rw e (ltb-false (lastDoc l 128 (c .blk)) d e))
 
-not-back : (b c : Bool) → not b ≡ c → b ≡ not c
+pub not-back : (b c : Bool) → not b ≡ c → b ≡ not c
 not-back true c e = ap not e
 not-back false c e = ap not e
 

@@ -3,3 +3,4 @@ pub mod Parts
 pub mod Seats
 pub mod Trying
 pub mod Gathering
+pub mod Opening

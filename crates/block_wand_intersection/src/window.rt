@@ -75,3 +75,43 @@ fn gather(
         block_max_sum,
     }
 }
+
+// The window from doc on: over where a list has run out, else too low or open, the leader's block loaded.
+pub fn next_window(
+    file: &[u8],
+    norms: FieldNormReader,
+    weights: &[f32; 16],
+    caches: &[[f32; 256]; 16],
+    scoring: Scoring,
+    lists: &[[usize; 8]; 16],
+    n: usize,
+    order: &[usize; 16],
+    doc: u32,
+    threshold: f32,
+    places: &mut [[usize; 8]; 16],
+    docs: &mut [[u32; 128]; 16],
+    freqs: &mut [[u32; 128]; 16],
+    bounds: &mut [f32; 16],
+) -> Window
+    requires { ⌜ InOrder (query scoring (now file) (now lists) n (now order)) × WeightsIn (query scoring (now file) (now lists) n (now order)) norms (now weights) (now caches) × Ready (query scoring (now file) (now lists) n (now order)) (held (now places) (now docs) (now freqs)) (now bounds) × (doc < 2147483647) ⌝ }
+    ensures { λ r. ⌜ Windowed (query scoring (now (file .entry)) (now (lists .entry)) n (now (order .entry))) threshold doc (held (now (places .entry)) (now (docs .entry)) (now (freqs .entry))) r (held (now (places .exit)) (now (docs .exit)) (now (freqs .exit))) (now (bounds .exit)) ⌝ }
+{
+    let leader = order[0];
+    slot::seek_block(file, lists, leader, doc, places);
+    let leader_block_max = score::block_max(
+        file, norms, weights, caches, scoring, lists, leader, places, docs, freqs, bounds,
+    );
+    let leader_end = slot::last_doc_in_block(leader, places);
+    let found = gather(
+        file, norms, weights, caches, scoring, lists, n, order, doc, leader_end, places, docs,
+        freqs, bounds,
+    );
+    if !found.remain {
+        return Window::Over;
+    }
+    if leader_block_max + found.block_max_sum > threshold {
+        slot::load(file, lists, leader, places, docs, freqs);
+        return Window::Open(found.window_end, found.block_max_sum);
+    }
+    Window::Low(found.window_end)
+}
