@@ -4,3 +4,5 @@ pub mod Seats
 pub mod Trying
 pub mod Gathering
 pub mod Opening
+pub mod Summing
+pub mod Hitting

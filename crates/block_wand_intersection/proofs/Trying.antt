@@ -187,7 +187,7 @@ module _ (x : Query) (c : ℕ) (score t : Float) (suffix : List Float) (h₀ : H
               score-is = ap scoreHere (sym sought-is) ∙ sym ev
 
               bound-is : (bs : List Float) → Suffixes (x .len) bs suffix → sumBack f32 (tailOf (drop i (f32 .nil ∷ bs))) ≡ getD suffix i nan
-              bound-is bs k = ap (sumBack f32) (tail-drop i (f32 .nil ∷ bs)) ∙ sym (k i hi)
+              bound-is bs k = ap (sumBack f32) (tail-drop i (f32 .nil ∷ bs)) ∙ sym (k i (T .low) hi)
 
               test-is : (bs : List Float) → Suffixes (x .len) bs suffix
                   → f32 .above (f32 .add (f32 .add total (scoreHere (seek 128 c s))) (sumBack f32 (tailOf (drop i (f32 .nil ∷ bs))))) t

@@ -17,8 +17,11 @@ use Rattle.block_wand_intersection.specs.declared.window.Window.{Window}
 use Rattle.block_wand_intersection.specs.declared.window.Window.the-variants.{Low, Open, Over}
 
 -- the secondaries' bounds, in their order
+abbrev pub boundsAlong : ℕ → List ℕ → List Float → List Float
+boundsAlong len order bounds = map (λ q. getD bounds q nan) (drop 1 (take len order))
+
 abbrev pub boundsOf : Query → List Float → List Float
-boundsOf x bounds = map (λ q. getD bounds q nan) (drop 1 (take (x .len) (x .order)))
+boundsOf x bounds = boundsAlong (x .len) (x .order) bounds
 
 -- every secondary's skip reader has gone on to document d
 pub record Gathered (x : Query) (d leaderEnd : ℕ) (h : Held) (places′ : List (List ℕ)) (bounds′ : List Float) (r : Secondaries) : Type 0 where

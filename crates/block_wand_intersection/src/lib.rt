@@ -1,3 +1,4 @@
 // The intersection's skipping run: windows in which all block bounds hold, and in each the leader's candidates against the secondaries.
 mod candidate;
+mod hit;
 mod window;

@@ -1,9 +1,11 @@
 // A window: all skip readers on the blocks that may hold a document, and the bounds of these blocks against the threshold.
 ghost use mathlib.Core.Path.{_≡_};
-ghost use Prim.Native.Nat.{min, _≤_, _<_};
-ghost use Rattle.term_scorer.specs.Slots.{held};
+ghost use Prim.Native.Nat.{ℕ, min, _≤_, _<_};
+ghost use lib.ListN.{getD};
+ghost use Rattle.term_scorer.specs.Slots.{held, Sixteen};
 ghost use Rattle.block_wand_intersection.specs.Scorers.{query, InOrder, Ready, WeightsIn};
-ghost use Rattle.block_wand_intersection.specs.Windows.{Gathers, Windowed};
+ghost use Rattle.block_wand_intersection.specs.Windows.{boundsAlong, Gathers, Windowed};
+ghost use Rattle.block_wand_intersection.specs.Candidates.{Suffixes};
 use bm25::Scoring;
 use fieldnorm::FieldNormReader;
 use term_scorer::score;
@@ -114,4 +116,19 @@ pub fn next_window(
         return Window::Open(found.window_end, found.block_max_sum);
     }
     Window::Low(found.window_end)
+}
+
+// Behind each secondary the sum of the bounds that follow, added from the last on.
+pub fn sum_suffixes(n: usize, order: &[usize; 16], bounds: &[f32; 16], suffix: &mut [f32; 16])
+    requires { ⌜ (0 < n) × (n ≤ 16) × Sixteen (now order) × ((i : ℕ) → i < n → getD (now order) i 0 < 16) × Sixteen (now suffix) ⌝ }
+    ensures { λ _. ⌜ Suffixes n (boundsAlong n (now (order .entry)) (now (bounds .entry))) (now (suffix .exit)) × Sixteen (now (suffix .exit)) ⌝ }
+{
+    let mut running = 0.0f32;
+    let mut i = n;
+    while 1 < i {
+        i -= 1;
+        suffix[i] = running;
+        let q = order[i];
+        running = running + bounds[q];
+    }
 }
