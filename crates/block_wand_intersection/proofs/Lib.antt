@@ -6,3 +6,4 @@ pub mod Gathering
 pub mod Opening
 pub mod Summing
 pub mod Hitting
+pub mod Walking

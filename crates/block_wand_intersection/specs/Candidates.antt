@@ -63,12 +63,11 @@ abbrev pub leaderBlock : Query → Held → ℕ
 leaderBlock x h = cursorAt (h .places) (slotAt x 0) .dec
 
 -- quiet turns lead to a turn whose report is due, with the secondaries where they stand now; or to the next window
-abbrev pub HitBy : Query → Float → Float → ℕ → List Float → ℕ → ℕ → Held → Held → Hit → Type 0
-HitBy x t ts e bs d from h h′ Nowhere =
-    Quietly interTurn interEnded t (withinAt x (h .places) (leaderBlock x h) ts e bs d from) (placeAt x (h′ .places) window (suc e))
-HitBy x t ts e bs d from h h′ (At next doc score) =
-    (p : InterPlace Float) × Quietly interTurn interEnded t (withinAt x (h .places) (leaderBlock x h) ts e bs d from) p
-    × (interTurn t p ≡ record { next = placeAt x (h′ .places) (called (candidatesLeft x (leaderBlock x h) ts e next) e bs) d; due = some (record { doc = doc; score = score }) })
+abbrev pub HitBy : Query → Float → Float → ℕ → List Float → ℕ → ℕ → ℕ → Held → Held → Hit → Type 0
+HitBy x t ts e bs d b from h h′ Nowhere = Quietly interTurn interEnded t (withinAt x (h .places) b ts e bs d from) (placeAt x (h′ .places) window (suc e))
+HitBy x t ts e bs d b from h h′ (At next doc score) =
+    (p : InterPlace Float) × Quietly interTurn interEnded t (withinAt x (h .places) b ts e bs d from) p
+    × (interTurn t p ≡ record { next = placeAt x (h′ .places) (called (candidatesLeft x b ts e next) e bs) d; due = some (record { doc = doc; score = score }) })
 
 -- a report's candidate lies behind `from`
 abbrev pub HitIn : ℕ → Hit → Type 0
@@ -81,4 +80,4 @@ pub record Hits (x : Query) (t ts : Float) (e : ℕ) (suffix : List Float) (from
   pub leader : Unmoved (slotAt x 0) h h′
   pub bounds : StillKept x (h .places) (h′ .places)
   pub place : HitIn from r
-  pub turns : (bs : List Float) → Suffixes (x .len) bs suffix → (d : ℕ) → HitBy x t ts e bs d from h h′ r
+  pub turns : (bs : List Float) → Suffixes (x .len) bs suffix → (d : ℕ) → HitBy x t ts e bs d (leaderBlock x h) from h h′ r

@@ -2,3 +2,4 @@
 pub mod Scorers
 pub mod Candidates
 pub mod Windows
+pub mod Walks

@@ -1,4 +1,5 @@
 // The intersection's skipping run: windows in which all block bounds hold, and in each the leader's candidates against the secondaries.
 mod candidate;
 mod hit;
+mod walk;
 mod window;
