@@ -7,3 +7,4 @@ pub mod Opening
 pub mod Summing
 pub mod Hitting
 pub mod Walking
+pub mod Stepping

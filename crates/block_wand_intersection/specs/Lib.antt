@@ -3,3 +3,4 @@ pub mod Scorers
 pub mod Candidates
 pub mod Windows
 pub mod Walks
+pub mod Steps

@@ -55,8 +55,12 @@ pub record Opened (x : Query) (t : Float) (d : ℕ) (h : Held) (e : ℕ) (total 
   pub covers : d ≤ e
   pub small : e ≤ 2147483647
 
--- one turn of `while doc < TERMINATED`, up to the candidates
+-- one turn of `while doc < TERMINATED`, up to the candidates, by its answer
 abbrev pub Windowed : Query → Float → ℕ → Held → Window → Held → List Float → Type 0
 Windowed x t d h Over h′ bounds′ = isOver (windowTurn 128 f32 t d (leaderIn x (h .places)) (secondariesIn x (h .places)) .stage) ≡ true
 Windowed x t d h (Low e) h′ bounds′ = Skipped x t d h e h′ bounds′
 Windowed x t d h (Open e total) h′ bounds′ = Opened x t d h e total h′ bounds′
+
+-- `next_window` is that turn
+pub record Turns (x : Query) (t : Float) (d : ℕ) (h : Held) (r : Window) (h′ : Held) (bounds′ : List Float) : Type 0 where
+  pub turned : Windowed x t d h r h′ bounds′

@@ -4,7 +4,7 @@ ghost use Prim.Native.Nat.{ℕ, min, _≤_, _<_};
 ghost use lib.ListN.{getD};
 ghost use Rattle.term_scorer.specs.Slots.{held, Sixteen};
 ghost use Rattle.block_wand_intersection.specs.Scorers.{query, InOrder, Ready, WeightsIn};
-ghost use Rattle.block_wand_intersection.specs.Windows.{boundsAlong, Gathers, Windowed};
+ghost use Rattle.block_wand_intersection.specs.Windows.{boundsAlong, Gathers, Turns};
 ghost use Rattle.block_wand_intersection.specs.Candidates.{Suffixes};
 use bm25::Scoring;
 use fieldnorm::FieldNormReader;
@@ -96,7 +96,7 @@ pub fn next_window(
     bounds: &mut [f32; 16],
 ) -> Window
     requires { ⌜ InOrder (query scoring (now file) (now lists) n (now order)) × WeightsIn (query scoring (now file) (now lists) n (now order)) norms (now weights) (now caches) × Ready (query scoring (now file) (now lists) n (now order)) (held (now places) (now docs) (now freqs)) (now bounds) × (doc < 2147483647) ⌝ }
-    ensures { λ r. ⌜ Windowed (query scoring (now (file .entry)) (now (lists .entry)) n (now (order .entry))) threshold doc (held (now (places .entry)) (now (docs .entry)) (now (freqs .entry))) r (held (now (places .exit)) (now (docs .exit)) (now (freqs .exit))) (now (bounds .exit)) ⌝ }
+    ensures { λ r. ⌜ Turns (query scoring (now (file .entry)) (now (lists .entry)) n (now (order .entry))) threshold doc (held (now (places .entry)) (now (docs .entry)) (now (freqs .entry))) r (held (now (places .exit)) (now (docs .exit)) (now (freqs .exit))) (now (bounds .exit)) ⌝ }
 {
     let leader = order[0];
     slot::seek_block(file, lists, leader, doc, places);

@@ -58,7 +58,7 @@ returns c =
     let R = a .pre .2 in
     let hq = O .below 0 (O .leader) in
     let M = shallow-moves (R .seated .slot _ hq) (s .seek-block .ensures) in
-    window-over _ O (a .args .threshold) _ (a .pre .3) R M (b .block-max .ensures) (l .last-doc-in-block .ensures) (g .gather .ensures) (c .if1 .taken)
+    record { turned = window-over _ O (a .args .threshold) _ (a .pre .3) R M (b .block-max .ensures) (l .last-doc-in-block .ensures) (g .gather .ensures) (c .if1 .taken) }
 
 load-requires : tie.Need-load-requires
 load-requires c κs =
@@ -87,7 +87,7 @@ returns-2 c =
     let R = a .pre .2 in
     let hq = O .below 0 (O .leader) in
     let M = shallow-moves (R .seated .slot _ hq) (s .seek-block .ensures) in
-    window-open _ O (a .args .threshold) _ (a .pre .3) R M (b .block-max .ensures) (l .last-doc-in-block .ensures) (g .gather .ensures) (e .if1 .left) (f .if2 .taken) (c .load .ensures)
+    record { turned = window-open _ O (a .args .threshold) _ (a .pre .3) R M (b .block-max .ensures) (l .last-doc-in-block .ensures) (g .gather .ensures) (e .if1 .left) (f .if2 .taken) (c .load .ensures) }
 
 returns-3 : tie.Need-returns-3
 returns-3 c =
@@ -101,7 +101,7 @@ returns-3 c =
     let R = a .pre .2 in
     let hq = O .below 0 (O .leader) in
     let M = shallow-moves (R .seated .slot _ hq) (s .seek-block .ensures) in
-    window-low _ O (a .args .threshold) _ (a .pre .3) R M (b .block-max .ensures) (l .last-doc-in-block .ensures) (g .gather .ensures) (e .if1 .left) (c .if2 .left)
+    record { turned = window-low _ O (a .args .threshold) _ (a .pre .3) R M (b .block-max .ensures) (l .last-doc-in-block .ensures) (g .gather .ensures) (e .if1 .left) (c .if2 .left) }
 
 pub next-window-spec : {M : Type 1} → statement M
 next-window-spec =
