@@ -8,3 +8,4 @@ pub mod Summing
 pub mod Hitting
 pub mod Walking
 pub mod Stepping
+pub mod Running

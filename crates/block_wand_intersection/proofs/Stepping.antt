@@ -77,6 +77,8 @@ module _ (x : Query) (rule : Rule) (script : List Float) {t : Threshold} {d : �
   pub step-over : r ≡ Over → Steps x rule script t d h documents scores (record { threshold = t; stop = Stopped; doc = d }) h′ bounds′ documents scores
   step-over e = record {
     begun = B;
+    documents-long = refl;
+    scores-long = refl;
     onward = λ z. absurd (let w : _≡_ {A = ℕ} 0 1 = cc in omega arith);
     goes = λ ld ss documents₀ scores₀ G.
         let W = leaderRoute 128 f32 ld ss in
@@ -90,6 +92,8 @@ module _ (x : Query) (rule : Rule) (script : List Float) {t : Threshold} {d : �
       let s = S .small in
       record {
         begun = B;
+        documents-long = refl;
+        scores-long = refl;
         onward = λ _. record { ready = S .ready; later = omega arith; small = omega arith };
         goes = λ ld ss documents₀ scores₀ G.
             rw add-one (run-quiet (leaderRoute 128 f32 ld ss) rule script documents₀ scores₀ G (ap quiet (S .turn-is)));
@@ -114,6 +118,8 @@ module _ (x : Query) (rule : Rule) (script : List Float) {t : Threshold} {d : �
         let s = P .small in
         record {
           begun = K .begun;
+          documents-long = K .documents-long;
+          scores-long = K .scores-long;
           onward = λ _. record { ready = record { seated = K .seated; kept = K .bounds bounds′ (P .ready .kept); long = P .ready .long }; later = omega arith; small = omega arith };
           goes = λ ld ss documents₀ scores₀ G.
               rw add-one (K .goes (boundsOf x bounds′) F ld ss documents₀ scores₀ (run-quiet (leaderRoute 128 f32 ld ss) rule script documents₀ scores₀ G (ap quiet open-is)));

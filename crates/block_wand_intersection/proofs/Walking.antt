@@ -115,6 +115,8 @@ module _ (x : Query) (rule : Rule) (script : List Float) (t₀ : Threshold) (d e
         seated = K .seated;
         bounds = still;
         begun = W .begun;
+        documents-long = W .documents-long;
+        scores-long = W .scores-long;
         goes = λ bs s ld ss documents₀ scores₀ G.
             run-quietly (leaderRoute 128 f32 ld ss) rule script documents₀ scores₀
             (W .goes bs s ld ss documents₀ scores₀ (rw et G))
@@ -144,6 +146,8 @@ module _ (x : Query) (rule : Rule) (script : List Float) (t₀ : Threshold) (d e
           seated = K .seated;
           bounds = still;
           begun = W .begun;
+          documents-long = W .documents-long;
+          scores-long = W .scores-long;
           goes = λ bs s ld ss documents₀ scores₀ G.
               let B = before-report bs s ld ss documents₀ scores₀ (rw et G) in
               (at-hit bs s .0, run-full (leaderRoute 128 f32 ld ss) rule script documents₀ scores₀ B (ap (λ (z : Turn (InterPlace Float) Float). z .due) (at-hit bs s .2)) (en ∙ rows-first B));
@@ -197,6 +201,8 @@ module _ (x : Query) (rule : Rule) (script : List Float) (t₀ : Threshold) (d e
               seated = K .seated;
               bounds = still;
               begun = follows-on;
+              documents-long = documents-still ∙ W .documents-long;
+              scores-long = scores-still ∙ W .scores-long;
               goes = λ bs s ld ss documents₀ scores₀ G.
                   let W′ = leaderRoute 128 f32 ld ss in
                   let B = behind-report bs s ld ss documents₀ scores₀ (rw et G) in

@@ -3,7 +3,7 @@ use mathlib.Core.Path.{_≡_}
 use mathlib.Core.Bool.{Bool, true, false}
 use mathlib.Core.List.{List, map}
 use Prim.Native.Nat.{ℕ, suc, _≤_}
-use lib.ListN.{drop, getD, take}
+use lib.ListN.{drop, getD, length, take}
 use lib.Ieee.{Float, nan}
 use Rattle.route.specs.F32.{f32}
 use Rattle.route.specs.Score.{sum}
@@ -52,6 +52,8 @@ pub record Walks (x : Query) (rule : Rule) (script : List Float) (t : Threshold)
   pub seated : Seated x h′
   pub bounds : StillKept x (h .places) (h′ .places)
   pub begun : Begun rule script (r .threshold) documents′ scores′
+  pub documents-long : length documents′ ≡ length documents
+  pub scores-long : length scores′ ≡ length scores
   pub goes : (bs : List Float) → Suffixes (x .len) bs suffix → (ld : Scorer Float) (ss : List (Scorer Float)) (documents₀ : List ℕ) (scores₀ : List Float)
       → Going (leaderRoute 128 f32 ld ss) rule script documents₀ scores₀ t documents scores
       (placeAt x (h .places) (within (candidatesIn 128 f32 (listIn x (slotAt x 0)) (f32 .sub (t .now) total) (leaderBlock x h) d e) e bs) d)

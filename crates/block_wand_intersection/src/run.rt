@@ -6,7 +6,7 @@ ghost use Rattle.rule.specs.Follows.{Keeps};
 ghost use Rattle.term_scorer.specs.Slots.{held, Sixteen};
 ghost use Rattle.block_wand_intersection.specs.Scorers.{query, InOrder, Ready, WeightsIn};
 ghost use Rattle.block_wand_intersection.specs.Walks.{maxAlong, maxSum, Begun};
-ghost use Rattle.block_wand_intersection.specs.Steps.{Steps};
+ghost use Rattle.block_wand_intersection.specs.Steps.{Ends, Runs, Steps, TopsIn};
 use crate::walk::Stop;
 use crate::walk::walk;
 use crate::window::Window;
@@ -14,14 +14,22 @@ use crate::window::next_window;
 use crate::window::sum_suffixes;
 use bm25::Scoring;
 use fieldnorm::FieldNormReader;
+use notefile::block::TERMINATED;
 use rule::Rule;
 use rule::Threshold;
+use term_scorer::slot;
 
 // The threshold behind a window, how it was left, and where the next begins.
 pub struct Stepped {
     pub threshold: Threshold,
     pub stop: Stop,
     pub doc: u32,
+}
+
+// Whether a report was due with every row full, and how many rows are written.
+pub struct Ended {
+    pub full: bool,
+    pub count: usize,
 }
 
 // `leader_max_score + secondaries_global_max_sum`.
@@ -95,4 +103,83 @@ fn step(
             }
         }
     }
+}
+
+// The windows from first_doc on, up to the end or to a report that has no row.
+fn windows(
+    file: &[u8],
+    norms: FieldNormReader,
+    weights: &[f32; 16],
+    caches: &[[f32; 256]; 16],
+    scoring: Scoring,
+    lists: &[[usize; 8]; 16],
+    n: usize,
+    order: &[usize; 16],
+    max_sum: f32,
+    first_doc: u32,
+    rule: Rule,
+    script: &[f32],
+    t: Threshold,
+    places: &mut [[usize; 8]; 16],
+    docs: &mut [[u32; 128]; 16],
+    freqs: &mut [[u32; 128]; 16],
+    bounds: &mut [f32; 16],
+    documents: &mut [u32],
+    scores: &mut [f32],
+) -> Ended
+    requires { ⌜ InOrder (query scoring (now file) (now lists) n (now order)) × WeightsIn (query scoring (now file) (now lists) n (now order)) norms (now weights) (now caches) × Ready (query scoring (now file) (now lists) n (now order)) (held (now places) (now docs) (now freqs)) (now bounds) × Keeps rule × Begun rule (now script) t (now documents) (now scores) × («max_sum» ≡ maxSum (query scoring (now file) (now lists) n (now order))) × («first_doc» ≤ 2147483648) ⌝ }
+    ensures { λ r. ⌜ Ends (query scoring (now (file .entry)) (now (lists .entry)) n (now (order .entry))) rule (now (script .entry)) t «first_doc» (held (now (places .entry)) (now (docs .entry)) (now (freqs .entry))) (now (documents .entry)) (now (scores .entry)) r (now (documents .exit)) (now (scores .exit)) ⌝ }
+{
+    let mut threshold = t;
+    let mut doc = first_doc;
+    while doc < TERMINATED {
+        let next = step(
+            file, norms, weights, caches, scoring, lists, n, order, max_sum, doc, rule, script,
+            threshold, places, docs, freqs, bounds, documents, scores,
+        );
+        threshold = next.threshold;
+        doc = next.doc;
+        let stop = next.stop;
+        match stop {
+            Stop::Next => {}
+            Stop::Over => return Ended { full: false, count: threshold.reports },
+            Stop::Full => return Ended { full: true, count: threshold.reports },
+        }
+    }
+    Ended { full: false, count: threshold.reports }
+}
+
+// `block_wand_intersection` behind its `sort_by_key`: over at once where no document can exceed the threshold.
+pub fn run_in_order(
+    file: &[u8],
+    norms: FieldNormReader,
+    weights: &[f32; 16],
+    caches: &[[f32; 256]; 16],
+    scoring: Scoring,
+    lists: &[[usize; 8]; 16],
+    n: usize,
+    order: &[usize; 16],
+    max_scores: &[f32; 16],
+    rule: Rule,
+    script: &[f32],
+    places: &mut [[usize; 8]; 16],
+    docs: &mut [[u32; 128]; 16],
+    freqs: &mut [[u32; 128]; 16],
+    bounds: &mut [f32; 16],
+    documents: &mut [u32],
+    scores: &mut [f32],
+) -> Ended
+    requires { ⌜ InOrder (query scoring (now file) (now lists) n (now order)) × WeightsIn (query scoring (now file) (now lists) n (now order)) norms (now weights) (now caches) × Ready (query scoring (now file) (now lists) n (now order)) (held (now places) (now docs) (now freqs)) (now bounds) × Keeps rule × TopsIn (query scoring (now file) (now lists) n (now order)) (now «max_scores») ⌝ }
+    ensures { λ r. ⌜ Runs (query scoring (now (file .entry)) (now (lists .entry)) n (now (order .entry))) rule (now (script .entry)) (now (places .entry)) (now (documents .entry)) (now (scores .entry)) r (now (documents .exit)) (now (scores .exit)) ⌝ }
+{
+    let max_sum = max_score_sum(n, order, max_scores);
+    let threshold = Threshold::new(rule);
+    if max_sum > threshold.now {
+        let doc = slot::doc(order[0], places, docs);
+        return windows(
+            file, norms, weights, caches, scoring, lists, n, order, max_sum, doc, rule, script,
+            threshold, places, docs, freqs, bounds, documents, scores,
+        );
+    }
+    Ended { full: false, count: 0 }
 }
