@@ -3,28 +3,29 @@ use mathlib.Core.Path.{_≡_, refl, sym, ap, _∙_, subst}
 use mathlib.Core.Bool.{Bool, true, false}
 use mathlib.Core.List.{List}
 use Prim.Native.Nat.{ℕ, suc, min, _+_, _≤_, _<_}
+use native.Mathlib.Nat.{add-zero}
 use native.Mathlib.Omega.{arith}
 use lib.Dec.{eqb}
 use lib.ListN.{getD, set}
 use lib.Ieee.{Float}
 use mathlib.Core.Logic.{inl, inr}
-use borrow.Author.Tests.{lt-ltb, le-ltb}
+use borrow.Author.Tests.{eq-eqb, lt-ltb, le-ltb}
 use Rattle.arrays.proofs.Order.{lt-or-ge}
 use Rattle.bm25.specs.declared.Scoring.{Scoring}
 use Rattle.bm25.specs.declared.Scoring.the-variants.{Unstepped}
 use Rattle.notefile.specs.Lists.{fullBlocks}
 use Rattle.notefile.specs.declared.part.Part.{Part}
-use Rattle.route.specs.Postings.{Postings, lastDoc}
+use Rattle.route.specs.Postings.{Postings, lastDoc, start}
 use Rattle.route.specs.Cursor.{Cursor, advanceIn, seekBlockIn, seekIn}
 use Rattle.decoded.specs.Lists.{listOf}
-use Rattle.postings.specs.Decoded.{docIn, doc-is, ListIn}
+use Rattle.postings.specs.Decoded.{docIn, doc-is, Decoded, ListIn}
 use Rattle.postings.specs.Reader.{lastIn, placeIn, previousIn, readerAt, Stands}
 use Rattle.postings.specs.Places.{cursorOf, Placed, Moved, Shallow, Here}
 use Rattle.postings.specs.declared.skip.SkipReader.{SkipReader}
 use Rattle.postings.specs.declared.cursor.SegmentPostings.{SegmentPostings}
 use Rattle.postings.proofs.Readers.{block-is, stands-on}
 use Rattle.postings.proofs.Moves.{advanced-in, doc-here, sought-here, sought-next, stays}
-use Rattle.term_scorer.specs.Rows.{partIn, partRow, flag, placeRow, Narrow, cursorIn, postingsIn, Standing, PlaceIn, MovedRow, ShallowRow}
+use Rattle.term_scorer.specs.Rows.{partIn, partRow, flag, firstOf, placeRow, Narrow, cursorIn, postingsIn, Standing, PlaceIn, MovedRow, ShallowRow}
 
 flag-back : (b : Bool) → eqb (flag b) 1 ≡ b
 flag-back true = refl
@@ -72,6 +73,15 @@ module _ (file : List ℕ) (x : Part) where
         standing = record { row-is = ap (λ (q : SegmentPostings). placeRow q k) (sym e); narrow = subst Narrow (sym e) n; low = P .low };
         placed = subst (λ (q : SegmentPostings). Placed file x q docs freqs) (sym e) P;
       }
+
+  -- to know its bound moves nothing
+  pub bound-in : {row docs freqs : List ℕ} → PlaceIn file x row docs freqs → PlaceIn file x (set row 7 1) docs freqs × (cursorIn (set row 7 1) ≡ cursorIn row)
+  bound-in {row} {docs} {freqs} P =
+      let p = postingsIn file x row in
+      let e : set row 7 1 ≡ placeRow p 1 = ap (λ (z : List ℕ). set z 7 1) (P .standing .row-is) in (
+        subst (λ (z : List ℕ). PlaceIn file x z docs freqs) (sym e) (kept-in p 1 (P .standing .narrow) (P .placed)),
+        ap cursorIn e ∙ sym (cursor-is (placeRow p 1)) ∙ ap cursorOf (place-back p 1 (P .placed .stands)) ∙ cursor-is row,
+      )
 
   -- a row's document, whatever the scoring
   here : (p : SegmentPostings) {docs freqs : List ℕ} → Placed file x p docs freqs → {doc : ℕ} → Here p docs doc → doc ≡ docIn file x (cursorOf p .at)
@@ -196,7 +206,7 @@ module _ (file list row : List ℕ) (L : ListIn file (partIn list)) {docs freqs 
   cur-inside = P .placed .inside
 
   -- the document that the scorer stands on is in the array
-  doc-in-array : docIn file (partIn list) (cursorIn row .at) ≡ getD docs (getD row 6 0) 0
+  pub doc-in-array : docIn file (partIn list) (cursorIn row .at) ≡ getD docs (getD row 6 0) 0
   unfolding postingsIn
   doc-in-array =
       sym (here file (partIn list) (postingsIn file (partIn list) row) (P .placed) (doc-here (postingsIn file (partIn list) row) docs)
@@ -237,3 +247,41 @@ module _ (file list row : List ℕ) (L : ListIn file (partIn list)) (S : Standin
   stays-shallow h docs freqs P =
       let r = ap (λ (z : List ℕ). getD z 3 0) (S .row-is) in
       stays-in file list row shallow P (stays file (partIn list) L (postingsIn file (partIn list) row) (P .placed .stands) t (omega (arith, h, r)) docs freqs (P .placed)) refl
+
+-- the first posting of the reader's block
+module _ (file : List ℕ) (x : Part) (p : SegmentPostings) where
+  abbrev on-first : SegmentPostings
+  on-first = record { «skip_reader» = p .«skip_reader»; «block_loaded» = true; decoded = p .«skip_reader» .block; cur = 0 }
+
+  -- which has just been decoded
+  first-of : {d f docs freqs : List ℕ} → Placed file x p d f → Decoded file x (p .«skip_reader» .block) docs freqs → Moved file x (λ _. firstOf (cursorOf p)) on-first docs freqs
+  unfolding cursorOf
+  first-of P D = record {
+    cursor-is = λ _. rw (add-zero (start 128 (p .«skip_reader» .block)));
+    placed = record { stands = P .stands; low = P .low; holds = D; inside = omega arith; loaded-is = λ _. refl };
+  }
+
+module _ (file list row : List ℕ) where
+  abbrev first : Postings Float → Cursor → Cursor
+  first l c = firstOf c
+
+  -- the block was loaded: one number changes
+  pub first-in : {docs freqs : List ℕ} → PlaceIn file (partIn list) row docs freqs → getD row 4 0 ≡ 1
+      → MovedRow file (partIn list) (λ _. firstOf (cursorIn row)) row (set row 6 0) docs freqs (getD docs 0 0)
+  unfolding postingsIn
+  first-in {docs} {freqs} P h =
+      let p = postingsIn file (partIn list) row in
+      let b : p .«block_loaded» ≡ true = eq-eqb (getD row 4 0) 1 h in
+      let d : p .decoded ≡ p .«skip_reader» .block = P .placed .loaded-is b in
+      let M = first-of file (partIn list) p (P .placed) (subst (λ (k : ℕ). Decoded file (partIn list) k docs freqs) d (P .placed .holds)) in
+      let same : on-first file (partIn list) p ≡ record { «skip_reader» = p .«skip_reader»; «block_loaded» = p .«block_loaded»; decoded = p .decoded; cur = 0 } = rw (b, d) in
+      moves-in file list row first P 0 (subst (λ (z : SegmentPostings). Moved file (partIn list) (λ _. firstOf (cursorOf p)) z docs freqs) same M) refl
+
+  -- it has just been decoded
+  module _ {y : Part} (part-is : y ≡ partIn list) {q : SegmentPostings} (place-is : q ≡ postingsIn file y row) where
+    pub first-loaded : {d f docs freqs : List ℕ} → PlaceIn file (partIn list) row d f → Decoded file y (q .«skip_reader» .block) docs freqs
+        → {row′ : List ℕ} → (row′ ≡ placeRow (on-first file y q) 0) × Narrow (on-first file y q)
+        → MovedRow file (partIn list) (λ _. firstOf (cursorIn row)) row row′ docs freqs (getD docs 0 0)
+    first-loaded {docs = docs} P D k =
+        moves file list row first part-is place-is (on-first file y q) (first-of file y q (placed-for file list row first part-is place-is P) D) k
+        (doc-here (on-first file y q) docs)

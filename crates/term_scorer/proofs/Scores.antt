@@ -3,7 +3,7 @@ use mathlib.Core.Path.{_≡_, refl, sym, ap, _∙_, subst}
 use mathlib.Core.Bool.{Bool, false}
 use mathlib.Core.List.{List, [], _∷_}
 use mathlib.Core.Logic.{inl, inr}
-use Prim.Native.Nat.{ℕ, zero, suc, _<_}
+use Prim.Native.Nat.{ℕ, zero, suc, _+_, _<_}
 use native.Mathlib.Omega.{arith}
 use lib.ListN.{getD, set}
 use lib.Ieee.{Float, nan, binary32, ofBits}
@@ -24,6 +24,7 @@ use Rattle.fieldnorm.specs.declared.FieldNormReader.{FieldNormReader}
 use Rattle.notefile.proofs.Headers.{norm-code-small}
 use Rattle.route.specs.Cursor.{blockMax}
 use Rattle.route.specs.F32.{f32}
+use Rattle.route.specs.Postings.{start}
 use Rattle.decoded.specs.Lists.{listOf}
 use Rattle.postings.specs.Decoded.{docIn}
 use Rattle.postings.specs.Reader.{Stands}
@@ -45,28 +46,35 @@ module _ (file : List ℕ) (x : Part) (weight : Float) (cache : List Float) (W :
 
   module _ (bytes : (k : ℕ) → getD file k 0 < 256) {norms : FieldNormReader} (en : norms ≡ normReader file)
       {row docs freqs : List ℕ} (P : PlaceIn file x row docs freqs) where
-    abbrev at : ℕ
-    at = cursorIn row .at
+    module _ (i : ℕ) (hi : i < 128) where
+      abbrev at : ℕ
+      at = start 128 (cursorIn row .dec) + i
 
-    -- a scorer on a document stands inside its list
-    inside : docIn file x at < 2147483647 → at < x .count
-    inside h = elim (lt-or-ge at (x .count)) [
-      | inl l ↦ l
-      | inr g ↦ absurd (omega (arith, rw (le-ltb at (x .count) g) at h))
-    ]
+      -- a posting with a document stands inside its list
+      inside : docIn file x at < 2147483647 → at < x .count
+      inside h = elim (lt-or-ge at (x .count)) [
+        | inl l ↦ l
+        | inr g ↦ absurd (omega (arith, rw (le-ltb at (x .count) g) at h))
+      ]
 
-    freq-is : at < x .count → getD freqs (getD row 6 0) 0 ≡ Rattle.notefile.specs.Lists.listFreq file x at
+      freq-is : at < x .count → getD freqs i 0 ≡ Rattle.notefile.specs.Lists.listFreq file x at
+      unfolding postingsIn cursorIn
+      freq-is l = P .placed .holds .freqs-are .at i hi ∙ rw (lt-ltb at (x .count) l)
+
+      pub score-in-block : {doc id freq : ℕ} → doc ≡ docIn file x at → doc < 2147483647 → id ≡ fieldnormId norms file doc → freq ≡ getD freqs i 0
+          → {r : Float} → r ≡ scored scoring (scoreAt weight (getD cache id nan) freq) → r ≡ listOf scoring file x .score at
+      unfolding listOf blockScore normCodeOf
+      score-in-block {doc} {id} {freq} ed hd ei ef {r} er =
+          let l = inside (omega (arith, ed, hd)) in
+          let d : doc ≡ Rattle.notefile.specs.Lists.listDoc file x at = ed ∙ rw (lt-ltb at (x .count) l) in
+          let n : id ≡ normCodeOf file doc = ei ∙ rw en in
+          er ∙ score-by-is id freq (subst (λ (z : ℕ). z < 256) (sym n) (norm-code-small file bytes doc)) ∙ ap (scored scoring) (rw (n, d, ef, freq-is l))
+
+    -- of the posting that the scorer stands on
+    pub score-here : {doc id freq : ℕ} → doc ≡ docIn file x (cursorIn row .at) → doc < 2147483647 → id ≡ fieldnormId norms file doc → freq ≡ getD freqs (getD row 6 0) 0
+        → {r : Float} → r ≡ scored scoring (scoreAt weight (getD cache id nan) freq) → r ≡ listOf scoring file x .score (cursorIn row .at)
     unfolding postingsIn cursorIn
-    freq-is l = P .placed .holds .freqs-are .at (getD row 6 0) (P .placed .inside) ∙ rw (lt-ltb at (x .count) l)
-
-    pub score-here : {doc id freq : ℕ} → doc ≡ docIn file x at → doc < 2147483647 → id ≡ fieldnormId norms file doc → freq ≡ getD freqs (getD row 6 0) 0
-        → {r : Float} → r ≡ scored scoring (scoreAt weight (getD cache id nan) freq) → r ≡ listOf scoring file x .score at
-    unfolding listOf blockScore normCodeOf
-    score-here {doc} {id} {freq} ed hd ei ef {r} er =
-        let l = inside (omega (arith, ed, hd)) in
-        let d : doc ≡ Rattle.notefile.specs.Lists.listDoc file x at = ed ∙ rw (lt-ltb at (x .count) l) in
-        let i : id ≡ normCodeOf file doc = ei ∙ rw en in
-        er ∙ score-by-is id freq (subst (λ (z : ℕ). z < 256) (sym i) (norm-code-small file bytes doc)) ∙ ap (scored scoring) (rw (i, d, ef, freq-is l))
+    score-here ed hd ei ef er = score-in-block (getD row 6 0) (P .placed .inside) ed hd ei ef er
 
 -- a list put back where it stood
 put-back : {A : Type 0} (d : A) (xs : List A) (i : ℕ) → set xs i (getD xs i d) ≡ xs

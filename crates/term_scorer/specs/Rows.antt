@@ -52,6 +52,10 @@ pub record Narrow (p : SegmentPostings) : Type 0 where
   pub previous : p .«skip_reader» .«last_doc_in_previous_block» < 4294967296
   pub last : p .«skip_reader» .«last_doc_in_block» < 4294967296
 
+-- the first posting of the skip reader's block, loaded: where the route's leader stands
+abbrev pub firstOf : Cursor → Cursor
+firstOf c = record { blk = c .blk; loaded = true; dec = c .blk; at = start 128 (c .blk) }
+
 -- the route's cursor of a row
 unfoldable pub cursorIn : List ℕ → Cursor
 cursorIn row = record { blk = getD row 0 0; loaded = eqb (getD row 4 0) 1; dec = getD row 5 0; at = start 128 (getD row 5 0) + getD row 6 0 }

@@ -9,7 +9,7 @@ use postings::cursor::SegmentPostings;
 use postings::skip::SkipReader;
 
 // Where a place's numbers stand in its row. The last is 1 where the block's bound is known, else 0.
-const BLOCK: usize = 0;
+pub const BLOCK: usize = 0;
 
 const BYTE_OFFSET: usize = 1;
 
@@ -17,13 +17,16 @@ const PREVIOUS: usize = 2;
 
 pub const LAST: usize = 3;
 
-const LOADED: usize = 4;
+pub const LOADED: usize = 4;
 
 const DECODED: usize = 5;
 
 pub const CUR: usize = 6;
 
 pub const BOUND: usize = 7;
+
+// Where a part's number of postings stands in its row.
+pub const COUNT: usize = 2;
 
 // A part's numbers, put into a row.
 pub fn keep_part(x: Part, list: &mut [usize; 8])
@@ -49,7 +52,7 @@ pub fn part_of(list: &[usize; 8]) -> Part
     Part {
         weight: list[0] as u32,
         average: list[1] as u32,
-        count: list[2],
+        count: list[COUNT],
         entry: list[3],
         skips: list[4],
         postings: list[5],

@@ -6,13 +6,15 @@ ghost use Rattle.notefile.specs.Lists.{fullBlocks};
 ghost use Rattle.route.specs.Cursor.{advanceIn, fresh, seekBlockIn, seekIn};
 ghost use Rattle.decoded.specs.Lists.{listOf};
 ghost use Rattle.postings.specs.Decoded.{docIn, ListIn};
-ghost use Rattle.term_scorer.specs.Rows.{cursorIn, partIn, MovedRow, PartRow, PlaceIn, ShallowRow, Standing};
+ghost use Rattle.term_scorer.specs.Rows.{cursorIn, firstOf, partIn, MovedRow, PartRow, PlaceIn, ShallowRow, Standing};
 use crate::place::CUR;
 use crate::place::LAST;
+use crate::place::LOADED;
 use crate::place::keep;
 use crate::place::part_of;
 use crate::place::postings_of;
 use notefile::part::Part;
+use postings::block::load_block;
 use postings::cursor::SegmentPostings;
 use postings::cursor::next_place;
 
@@ -125,4 +127,33 @@ pub fn advance(
         return docs[cur + 1];
     }
     advance_far(file, list, place, docs, freqs)
+}
+
+// To the first posting of the skip reader's block, which is loaded if it is not.
+pub fn load(
+    file: &[u8],
+    list: &[usize; 8],
+    place: &mut [usize; 8],
+    docs: &mut [u32; 128],
+    freqs: &mut [u32; 128],
+) -> u32
+    requires { ⌜ PartRow (now list) × ListIn (now file) (partIn (now list)) × PlaceIn (now file) (partIn (now list)) (now place) (now docs) (now freqs) ⌝ }
+    ensures { λ r. ⌜ MovedRow (now (file .entry)) (partIn (now (list .entry))) (λ _. firstOf (cursorIn (now (place .entry)))) (now (place .entry)) (now (place .exit)) (now (docs .exit)) (now (freqs .exit)) r ⌝ }
+{
+    if place[LOADED] == 1 {
+        place[CUR] = 0;
+        return docs[0];
+    }
+    let x = part_of(list);
+    let p = postings_of(file, x, place);
+    let skip_reader = p.skip_reader;
+    load_block(file, x, skip_reader, docs, freqs);
+    let loaded = SegmentPostings {
+        skip_reader,
+        block_loaded: true,
+        decoded: skip_reader.block,
+        cur: 0,
+    };
+    keep(loaded, place);
+    docs[0]
 }

@@ -1,12 +1,13 @@
 // Scores and block bounds by slot. Norms and weights stand in lent arrays, so that one posting is scored without a copy of its list's norms.
 ghost use mathlib.Core.Path.{_≡_};
-ghost use Prim.Native.Nat.{_<_};
+ghost use Prim.Native.Nat.{_+_, _<_};
 ghost use lib.ListN.{getD};
 ghost use lib.Ieee.{nan};
 ghost use mathlib.Core.List.{[]};
 ghost use Rattle.notefile.specs.Header.{normReader};
 ghost use Rattle.route.specs.Cursor.{blockMax};
 ghost use Rattle.route.specs.F32.{f32};
+ghost use Rattle.route.specs.Postings.{start};
 ghost use Rattle.decoded.specs.Lists.{listOf};
 ghost use Rattle.postings.specs.Decoded.{docIn, ListIn};
 ghost use Rattle.term_scorer.specs.Rows.{cursorIn, partIn, PartRow, PlaceIn};
@@ -53,6 +54,28 @@ pub fn score(
     let id = norms.fieldnorm_id(file, doc);
     let freq = term_freq(q, places, freqs);
     bm25::score_by(&caches[q], weights[q], scoring, id, freq)
+}
+
+// The score of posting i of the block that slot q decoded last, which is document doc.
+pub fn score_in_block(
+    file: &[u8],
+    norms: FieldNormReader,
+    weights: &[f32; 16],
+    caches: &[[f32; 256]; 16],
+    scoring: Scoring,
+    lists: &[[usize; 8]; 16],
+    q: usize,
+    i: usize,
+    doc: u32,
+    places: &[[usize; 8]; 16],
+    docs: &[[u32; 128]; 16],
+    freqs: &[[u32; 128]; 16],
+) -> f32
+    requires { ⌜ (q < 16) × (norms ≡ normReader (now file)) × SlotIn (now file) (now lists) (held (now places) (now docs) (now freqs)) q × Weighed (now lists) (now weights) (now caches) q × (i < 128) × (doc ≡ docIn (now file) (partAt (now lists) q) (start 128 (cursorAt (now places) q .dec) + i)) × (doc < 2147483647) ⌝ }
+    ensures { λ r. ⌜ r ≡ listAt scoring (now (file .entry)) (now (lists .entry)) q .score (start 128 (cursorAt (now (places .entry)) q .dec) + i) ⌝ }
+{
+    let id = norms.fieldnorm_id(file, doc);
+    bm25::score_by(&caches[q], weights[q], scoring, id, freqs[q][i])
 }
 
 // The bound of the skip reader's block. Of a loaded tail it is the largest score, which its list's norms by value give at once.

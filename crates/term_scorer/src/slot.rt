@@ -1,12 +1,20 @@
 // A scorer's moves by its slot. The other slots stay as they are.
 ghost use mathlib.Core.Path.{_≡_};
+ghost use mathlib.Core.List.{[]};
 ghost use Prim.Native.Nat.{_≤_, _<_};
+ghost use lib.ListN.{getD};
+ghost use lib.Dec.{ltb};
 ghost use Rattle.notefile.specs.Lists.{fullBlocks};
 ghost use Rattle.notefile.specs.declared.part.Part.{Part};
 ghost use Rattle.route.specs.Cursor.{advanceIn, fresh, seekBlockIn, seekIn};
+ghost use Rattle.route.specs.Postings.{start};
 ghost use Rattle.decoded.specs.Lists.{listOf};
 ghost use Rattle.postings.specs.Decoded.{docIn, ListIn};
+ghost use Rattle.term_scorer.specs.Rows.{firstOf};
 ghost use Rattle.term_scorer.specs.Slots.{cursorAt, held, lastAt, listAt, partAt, MovedSlot, Opened, Shallowed, SlotIn, StandingIn, Sixteen};
+use crate::place::BLOCK;
+use crate::place::COUNT;
+use crate::place::CUR;
 use crate::place::LAST;
 use crate::place::keep_part;
 use crate::row;
@@ -29,12 +37,34 @@ pub fn open(
     row::open(file, x, &mut places[q], &mut docs[q], &mut freqs[q])
 }
 
+// The document that slot q's scorer stands on.
+pub fn doc(q: usize, places: &[[usize; 8]; 16], docs: &[[u32; 128]; 16]) -> u32
+    requires { ⌜ (q < 16) × (getD (getD (now places) q []) 6 0 < 128) ⌝ }
+    ensures { λ r. ⌜ r ≡ getD (getD (now (docs .entry)) q []) (getD (getD (now (places .entry)) q []) 6 0) 0 ⌝ }
+{
+    let cur = places[q][CUR];
+    docs[q][cur]
+}
+
 // The last document of the block on which the skip reader stands.
 pub fn last_doc_in_block(q: usize, places: &[[usize; 8]; 16]) -> u32
     requires { ⌜ (q < 16) × (lastAt (now places) q < 4294967296) ⌝ }
     ensures { λ r. ⌜ r ≡ lastAt (now (places .entry)) q ⌝ }
 {
     places[q][LAST] as u32
+}
+
+// Whether the block on which the skip reader stands has a document.
+pub fn has_remaining_docs(
+    file: &[u8],
+    lists: &[[usize; 8]; 16],
+    q: usize,
+    places: &[[usize; 8]; 16],
+) -> bool
+    requires { ⌜ (q < 16) × StandingIn (now file) (now lists) (now places) q ⌝ }
+    ensures { λ r. ⌜ r ≡ ltb (start 128 (cursorAt (now (places .entry)) q .blk)) (partAt (now (lists .entry)) q .count) ⌝ }
+{
+    places[q][BLOCK] * 128 < lists[q][COUNT]
 }
 
 // The skip reader alone goes on to the block that may hold the target.
@@ -89,4 +119,19 @@ pub fn advance(
     ensures { λ r. ⌜ MovedSlot (now (file .entry)) (now (lists .entry)) q (λ s. advanceIn (listAt s (now (file .entry)) (now (lists .entry)) q) 128 (cursorAt (now (places .entry)) q)) (held (now (places .entry)) (now (docs .entry)) (now (freqs .entry))) (held (now (places .exit)) (now (docs .exit)) (now (freqs .exit))) r ⌝ }
 {
     row::advance(file, &lists[q], &mut places[q], &mut docs[q], &mut freqs[q])
+}
+
+// To the first posting of the skip reader's block, which is loaded if it is not.
+pub fn load(
+    file: &[u8],
+    lists: &[[usize; 8]; 16],
+    q: usize,
+    places: &mut [[usize; 8]; 16],
+    docs: &mut [[u32; 128]; 16],
+    freqs: &mut [[u32; 128]; 16],
+) -> u32
+    requires { ⌜ (q < 16) × SlotIn (now file) (now lists) (held (now places) (now docs) (now freqs)) q ⌝ }
+    ensures { λ r. ⌜ MovedSlot (now (file .entry)) (now (lists .entry)) q (λ _. firstOf (cursorAt (now (places .entry)) q)) (held (now (places .entry)) (now (docs .entry)) (now (freqs .entry))) (held (now (places .exit)) (now (docs .exit)) (now (freqs .exit))) r ⌝ }
+{
+    row::load(file, &lists[q], &mut places[q], &mut docs[q], &mut freqs[q])
 }

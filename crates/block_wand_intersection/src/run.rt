@@ -1,0 +1,185 @@
+// The run over windows, from the early exit to the end.
+ghost use mathlib.Core.Path.{_≡_};
+ghost use Prim.Native.Nat.{ℕ, _≤_, _<_};
+ghost use lib.ListN.{getD};
+ghost use Rattle.rule.specs.Follows.{Keeps};
+ghost use Rattle.term_scorer.specs.Slots.{held, Sixteen};
+ghost use Rattle.block_wand_intersection.specs.Scorers.{query, InOrder, Ready, WeightsIn};
+ghost use Rattle.block_wand_intersection.specs.Walks.{maxAlong, maxSum, Begun};
+ghost use Rattle.block_wand_intersection.specs.Steps.{Ends, Runs, Steps, TopsIn};
+use crate::walk::Stop;
+use crate::walk::walk;
+use crate::window::Window;
+use crate::window::next_window;
+use crate::window::sum_suffixes;
+use bm25::Scoring;
+use fieldnorm::FieldNormReader;
+use notefile::block::TERMINATED;
+use rule::Rule;
+use rule::Threshold;
+use term_scorer::slot;
+
+// The threshold behind a window, how it was left, and where the next begins.
+pub struct Stepped {
+    pub threshold: Threshold,
+    pub stop: Stop,
+    pub doc: u32,
+}
+
+// Whether a report was due with every row full, and how many rows are written.
+pub struct Ended {
+    pub full: bool,
+    pub count: usize,
+}
+
+// `leader_max_score + secondaries_global_max_sum`.
+fn max_score_sum(n: usize, order: &[usize; 16], max_scores: &[f32; 16]) -> f32
+    requires { ⌜ (0 < n) × (n ≤ 16) × Sixteen (now order) × ((i : ℕ) → i < n → getD (now order) i 0 < 16) ⌝ }
+    ensures { λ r. ⌜ r ≡ maxAlong n (now (order .entry)) (now («max_scores» .entry)) ⌝ }
+{
+    let mut sum = 0.0f32;
+    let mut i = 1usize;
+    while i < n {
+        let q = order[i];
+        sum = sum + max_scores[q];
+        i += 1;
+    }
+    let leader = order[0];
+    max_scores[leader] + sum
+}
+
+// One turn of the loop over windows, with the candidates of an open window.
+fn step(
+    file: &[u8],
+    norms: FieldNormReader,
+    weights: &[f32; 16],
+    caches: &[[f32; 256]; 16],
+    scoring: Scoring,
+    lists: &[[usize; 8]; 16],
+    n: usize,
+    order: &[usize; 16],
+    max_sum: f32,
+    doc: u32,
+    rule: Rule,
+    script: &[f32],
+    t: Threshold,
+    places: &mut [[usize; 8]; 16],
+    docs: &mut [[u32; 128]; 16],
+    freqs: &mut [[u32; 128]; 16],
+    bounds: &mut [f32; 16],
+    documents: &mut [u32],
+    scores: &mut [f32],
+) -> Stepped
+    requires { ⌜ InOrder (query scoring (now file) (now lists) n (now order)) × WeightsIn (query scoring (now file) (now lists) n (now order)) norms (now weights) (now caches) × Ready (query scoring (now file) (now lists) n (now order)) (held (now places) (now docs) (now freqs)) (now bounds) × Keeps rule × Begun rule (now script) t (now documents) (now scores) × («max_sum» ≡ maxSum (query scoring (now file) (now lists) n (now order))) × (doc < 2147483647) ⌝ }
+    ensures { λ r. ⌜ Steps (query scoring (now (file .entry)) (now (lists .entry)) n (now (order .entry))) rule (now (script .entry)) t doc (held (now (places .entry)) (now (docs .entry)) (now (freqs .entry))) (now (documents .entry)) (now (scores .entry)) r (held (now (places .exit)) (now (docs .exit)) (now (freqs .exit))) (now (bounds .exit)) (now (documents .exit)) (now (scores .exit)) ⌝ }
+{
+    let window = next_window(
+        file, norms, weights, caches, scoring, lists, n, order, doc, t.now, places, docs, freqs, bounds,
+    );
+    match window {
+        Window::Over => Stepped {
+            threshold: t,
+            stop: Stop::Over,
+            doc,
+        },
+        Window::Low(window_end) => Stepped {
+            threshold: t,
+            stop: Stop::Next,
+            doc: window_end + 1,
+        },
+        Window::Open(window_end, block_max_sum) => {
+            let mut suffix = [0.0f32; 16];
+            sum_suffixes(n, order, bounds, &mut suffix);
+            let walked = walk(
+                file, norms, weights, caches, scoring, lists, n, order, &suffix, max_sum, doc,
+                window_end, block_max_sum, rule, script, t, places, docs, freqs, documents, scores,
+            );
+            let threshold = walked.threshold;
+            let stop = walked.stop;
+            Stepped {
+                threshold,
+                stop,
+                doc: window_end + 1,
+            }
+        }
+    }
+}
+
+// The windows from first_doc on, up to the end or to a report that has no row.
+fn windows(
+    file: &[u8],
+    norms: FieldNormReader,
+    weights: &[f32; 16],
+    caches: &[[f32; 256]; 16],
+    scoring: Scoring,
+    lists: &[[usize; 8]; 16],
+    n: usize,
+    order: &[usize; 16],
+    max_sum: f32,
+    first_doc: u32,
+    rule: Rule,
+    script: &[f32],
+    t: Threshold,
+    places: &mut [[usize; 8]; 16],
+    docs: &mut [[u32; 128]; 16],
+    freqs: &mut [[u32; 128]; 16],
+    bounds: &mut [f32; 16],
+    documents: &mut [u32],
+    scores: &mut [f32],
+) -> Ended
+    requires { ⌜ InOrder (query scoring (now file) (now lists) n (now order)) × WeightsIn (query scoring (now file) (now lists) n (now order)) norms (now weights) (now caches) × Ready (query scoring (now file) (now lists) n (now order)) (held (now places) (now docs) (now freqs)) (now bounds) × Keeps rule × Begun rule (now script) t (now documents) (now scores) × («max_sum» ≡ maxSum (query scoring (now file) (now lists) n (now order))) × («first_doc» ≤ 2147483648) ⌝ }
+    ensures { λ r. ⌜ Ends (query scoring (now (file .entry)) (now (lists .entry)) n (now (order .entry))) rule (now (script .entry)) t «first_doc» (held (now (places .entry)) (now (docs .entry)) (now (freqs .entry))) (now (documents .entry)) (now (scores .entry)) r (now (documents .exit)) (now (scores .exit)) ⌝ }
+{
+    let mut threshold = t;
+    let mut doc = first_doc;
+    while doc < TERMINATED {
+        let next = step(
+            file, norms, weights, caches, scoring, lists, n, order, max_sum, doc, rule, script,
+            threshold, places, docs, freqs, bounds, documents, scores,
+        );
+        threshold = next.threshold;
+        doc = next.doc;
+        let stop = next.stop;
+        match stop {
+            Stop::Next => {}
+            Stop::Over => return Ended { full: false, count: threshold.reports },
+            Stop::Full => return Ended { full: true, count: threshold.reports },
+        }
+    }
+    Ended { full: false, count: threshold.reports }
+}
+
+// `block_wand_intersection` behind its `sort_by_key`: over at once where no document can exceed the threshold.
+pub fn run_in_order(
+    file: &[u8],
+    norms: FieldNormReader,
+    weights: &[f32; 16],
+    caches: &[[f32; 256]; 16],
+    scoring: Scoring,
+    lists: &[[usize; 8]; 16],
+    n: usize,
+    order: &[usize; 16],
+    max_scores: &[f32; 16],
+    rule: Rule,
+    script: &[f32],
+    places: &mut [[usize; 8]; 16],
+    docs: &mut [[u32; 128]; 16],
+    freqs: &mut [[u32; 128]; 16],
+    bounds: &mut [f32; 16],
+    documents: &mut [u32],
+    scores: &mut [f32],
+) -> Ended
+    requires { ⌜ InOrder (query scoring (now file) (now lists) n (now order)) × WeightsIn (query scoring (now file) (now lists) n (now order)) norms (now weights) (now caches) × Ready (query scoring (now file) (now lists) n (now order)) (held (now places) (now docs) (now freqs)) (now bounds) × Keeps rule × TopsIn (query scoring (now file) (now lists) n (now order)) (now «max_scores») ⌝ }
+    ensures { λ r. ⌜ Runs (query scoring (now (file .entry)) (now (lists .entry)) n (now (order .entry))) rule (now (script .entry)) (now (places .entry)) (now (documents .entry)) (now (scores .entry)) r (now (documents .exit)) (now (scores .exit)) ⌝ }
+{
+    let max_sum = max_score_sum(n, order, max_scores);
+    let threshold = Threshold::new(rule);
+    if max_sum > threshold.now {
+        let doc = slot::doc(order[0], places, docs);
+        return windows(
+            file, norms, weights, caches, scoring, lists, n, order, max_sum, doc, rule, script,
+            threshold, places, docs, freqs, bounds, documents, scores,
+        );
+    }
+    Ended { full: false, count: 0 }
+}

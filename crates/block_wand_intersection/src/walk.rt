@@ -1,0 +1,106 @@
+// The candidates of an open window: those that are due are reported.
+ghost use mathlib.Core.Path.{_≡_};
+ghost use Rattle.rule.specs.Follows.{Keeps};
+ghost use Rattle.term_scorer.specs.Slots.{held};
+ghost use Rattle.block_wand_intersection.specs.Scorers.{query, InOrder, Seated, WeightsIn};
+ghost use Rattle.block_wand_intersection.specs.Walks.{maxSum, Begun, Walks};
+use crate::hit::Hit;
+use crate::hit::next_hit;
+use block_search::search_block;
+use bm25::Scoring;
+use fieldnorm::FieldNormReader;
+use reports::report;
+use reports::rows;
+use rule::Rule;
+use rule::Threshold;
+
+// The next window; over, since no document can exceed the threshold; or a report is due and every row is full.
+pub enum Stop {
+    Next,
+    Over,
+    Full,
+}
+
+pub struct Walked {
+    pub threshold: Threshold,
+    pub stop: Stop,
+}
+
+// Candidates are chosen by the threshold at the window's opening, and reported by that of the moment.
+pub fn walk(
+    file: &[u8],
+    norms: FieldNormReader,
+    weights: &[f32; 16],
+    caches: &[[f32; 256]; 16],
+    scoring: Scoring,
+    lists: &[[usize; 8]; 16],
+    n: usize,
+    order: &[usize; 16],
+    suffix: &[f32; 16],
+    max_sum: f32,
+    doc: u32,
+    window_end: u32,
+    block_max_sum: f32,
+    rule: Rule,
+    script: &[f32],
+    t: Threshold,
+    places: &mut [[usize; 8]; 16],
+    docs: &mut [[u32; 128]; 16],
+    freqs: &mut [[u32; 128]; 16],
+    documents: &mut [u32],
+    scores: &mut [f32],
+) -> Walked
+    requires { ⌜ InOrder (query scoring (now file) (now lists) n (now order)) × WeightsIn (query scoring (now file) (now lists) n (now order)) norms (now weights) (now caches) × Seated (query scoring (now file) (now lists) n (now order)) (held (now places) (now docs) (now freqs)) × Keeps rule × Begun rule (now script) t (now documents) (now scores) × («max_sum» ≡ maxSum (query scoring (now file) (now lists) n (now order))) ⌝ }
+    ensures { λ r. ⌜ Walks (query scoring (now (file .entry)) (now (lists .entry)) n (now (order .entry))) rule (now (script .entry)) t doc «window_end» «block_max_sum» (now (suffix .entry)) (held (now (places .entry)) (now (docs .entry)) (now (freqs .entry))) (now (documents .entry)) (now (scores .entry)) r (held (now (places .exit)) (now (docs .exit)) (now (freqs .exit))) (now (documents .exit)) (now (scores .exit)) ⌝ }
+{
+    let leader = order[0];
+    let room = rows(documents, scores);
+    let score_threshold = t.now - block_max_sum;
+    let mut threshold = t;
+    let mut i = search_block(&docs[leader], doc);
+    loop {
+        let hit = next_hit(
+            file,
+            norms,
+            weights,
+            caches,
+            scoring,
+            lists,
+            n,
+            order,
+            suffix,
+            i,
+            window_end,
+            score_threshold,
+            threshold.now,
+            places,
+            docs,
+            freqs,
+        );
+        match hit {
+            Hit::Nowhere => {
+                return Walked {
+                    threshold,
+                    stop: Stop::Next,
+                };
+            }
+            Hit::At(next, found, score) => {
+                if threshold.reports == room {
+                    return Walked {
+                        threshold,
+                        stop: Stop::Full,
+                    };
+                }
+                threshold = report(rule, script, threshold, found, score, documents, scores);
+                if max_sum > threshold.now {
+                    i = next;
+                } else {
+                    return Walked {
+                        threshold,
+                        stop: Stop::Over,
+                    };
+                }
+            }
+        }
+    }
+}

@@ -1,0 +1,52 @@
+-- `slot::load` meets its contract: the row of its slot moves, and the other slots stay.
+use borrow.Author.Needs.{needs}
+use Rattle.term_scorer.proofs.Slots.{moved-slot}
+use Rattle.term_scorer.proofs.slot.load.Statement.{statement}
+use Rattle.term_scorer.proofs.slot.load.Tie as tie
+
+mul-load : tie.Need-mul-load
+mul-load c = search needs
+
+index-1-load : tie.Need-index-1-load
+index-1-load c = search needs
+
+mul-load-2 : tie.Need-mul-load-2
+mul-load-2 c = search needs
+
+index-1-load-2 : tie.Need-index-1-load-2
+index-1-load-2 c = search needs
+
+mul-load-3 : tie.Need-mul-load-3
+mul-load-3 c = search needs
+
+index-1-load-3 : tie.Need-index-1-load-3
+index-1-load-3 c = search needs
+
+mul-load-4 : tie.Need-mul-load-4
+mul-load-4 c = search needs
+
+index-1-load-4 : tie.Need-index-1-load-4
+index-1-load-4 c = search needs
+
+load-requires : tie.Need-load-requires
+load-requires c κs = search needs
+
+returns : tie.Need-returns
+returns c =
+    let a = c .before .before .before .before .before .before in
+    moved-slot (a .args .file .now) (a .args .lists .now) (a .args .q) (a .pre .0) _ (a .pre .1 .sixteen) (c .load .ensures)
+
+pub load-spec : {M : Type 1} → statement M
+load-spec =
+    tie.close
+    (tie.spec
+    mul-load
+    index-1-load
+    mul-load-2
+    index-1-load-2
+    mul-load-3
+    index-1-load-3
+    mul-load-4
+    index-1-load-4
+    load-requires
+    returns)
