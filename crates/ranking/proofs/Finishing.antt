@@ -20,6 +20,7 @@ use Rattle.route.specs.Rule as rules
 use Rattle.route.specs.Rule.{limited}
 use Rattle.route.specs.Route.{Route, Ends}
 use Rattle.route.specs.Single.{blockWandSingleScorer}
+use Rattle.route.specs.Plain.{single}
 use Rattle.route.specs.Skipping.{route}
 use Rattle.route.proofs.ListLaws.{ListOk}
 use Rattle.route.proofs.Ending.{Stays}
@@ -92,3 +93,10 @@ single-finished file l scoring rule script {x} e ord {documents₀} {scores₀} 
   outcome-is = f;
   ran = subst (λ (z : Part). Ran (singleRoute scoring file z ord) rule script documents₀ scores₀ full count documents′ scores′ place) e R;
 }
+
+-- of a query of one number, the single scan is the route
+pub single-route : (file : List ℕ) (scoring : Scoring) (query : List ℕ) → length query ≡ 1 → blockWandSingleScorer 128 f32 (scorerOf scoring file (getD query 0 0) 0) ≡ route 128 f32 single (queried scoring file query)
+unfolding queried
+single-route file scoring [] e = absurd (omega (arith, e))
+single-route file scoring (l ∷ []) e = refl
+single-route file scoring (l ∷ m ∷ ls) e = absurd (omega (arith, e))
