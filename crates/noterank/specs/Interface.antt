@@ -18,7 +18,8 @@ use Rattle.reports.specs.Rows.{rowsOf, Written}
 use Rattle.request.specs.Request.{orElse, queryRight, refusalOf}
 use Rattle.request.specs.declared.Mode.{Mode}
 use Rattle.request.specs.declared.Mode.the-variants.{Union, Intersection, Single}
-use Rattle.ranking.specs.Answers.{answer, plainList, SkippingList}
+use Rattle.ranking.specs.Answers.{answer, plainList, PlainIs, RunIs, SkippingList}
+use Rattle.ranking.specs.declared.outcome.Outcome.{Outcome}
 
 -- the numbers of modes, scorings and rules; those past the last stand for it, and are refused
 abbrev pub modeAt : ℕ → Mode
@@ -34,14 +35,17 @@ abbrev pub ruleAt : ℕ → Float → ℕ → Rule
 ruleAt zero start k = Script start
 ruleAt (suc n) start k = BestK start k
 
--- a walk or a mode outside its numbers is 10, a scoring or a rule outside its numbers 11, in the table's order
+-- a walk or a mode outside its numbers is 10, a scoring or a rule outside its numbers 11, in the table's order; 0 where all are numbers
+abbrev pub numbersRefusal : List ℕ → List ℕ → ℕ → ℕ → ℕ → ℕ → ℕ
+numbersRefusal file query walk mode scoring rule =
+    cond (leb walk 1 && leb mode 2)
+    (cond (leb scoring 1 && leb rule 1) 0 (orElse (fileRefusal file) (cond (queryRight (listCount file) (modeAt mode) query) 11 10)))
+    (orElse (fileRefusal file) 10)
+
+-- then the table's, up to row 11
 abbrev pub numberedRefusal : List ℕ → List ℕ → ℕ → ℕ → ℕ → ℕ → Float → ℕ → List Float → ℕ
 numberedRefusal file query walk mode scoring rule start k script =
-    cond (leb walk 1 && leb mode 2)
-    (cond (leb scoring 1 && leb rule 1)
-    (refusalOf file query (modeAt mode) (scoringAt scoring) (ruleAt rule start k) script)
-    (orElse (fileRefusal file) (cond (queryRight (listCount file) (modeAt mode) query) 11 10)))
-    (orElse (fileRefusal file) 10)
+    orElse (numbersRefusal file query walk mode scoring rule) (refusalOf file query (modeAt mode) (scoringAt scoring) (ruleAt rule start k) script)
 
 -- the list of a walk: the route's, or the plain scan's
 abbrev pub ListBy : ℕ → List ℕ → List ℕ → Mode → Scoring → Rule → List Float → List (Report Float) → Type 0
@@ -59,3 +63,8 @@ pub record Ranked (file query : List ℕ) (walk mode scoring rule : ℕ) (start 
   pub list : List (Report Float)
   pub list-is : numberedRefusal file query walk mode scoring rule start k script ≡ 0 → ListBy walk file query (modeAt mode) (scoringAt scoring) (ruleAt rule start k) script list
   pub given : Given (answer (numberedRefusal file query walk mode scoring rule start k script) (rowsOf documents₀ scores₀) list) documents₀ scores₀ number count documents scores
+
+-- the run of a walk
+abbrev pub OutcomeBy : ℕ → List ℕ → List ℕ → Mode → Scoring → Rule → List Float → List ℕ → List Float → Outcome → List ℕ → List Float → Type 0
+OutcomeBy zero file query mode scoring rule script documents₀ scores₀ r documents scores = RunIs file query mode scoring rule script documents₀ scores₀ r documents scores
+OutcomeBy (suc n) file query mode scoring rule script documents₀ scores₀ r documents scores = PlainIs file query mode scoring rule script documents₀ scores₀ r documents scores
