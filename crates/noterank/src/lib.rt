@@ -76,10 +76,24 @@ fn numbers_refusal(
                     return 0;
                 }
             }
-            return refusal(file, query, mode_at(mode), Scoring::Unstepped, wrong, script);
+            return refusal(
+                file,
+                query,
+                mode_at(mode),
+                Scoring::Unstepped,
+                wrong,
+                script,
+            );
         }
     }
-    refusal(file, &query[..0], Mode::Single, Scoring::Unstepped, wrong, script)
+    refusal(
+        file,
+        &query[..0],
+        Mode::Single,
+        Scoring::Unstepped,
+        wrong,
+        script,
+    )
 }
 
 // A run by its walk.

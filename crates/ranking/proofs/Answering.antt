@@ -1,6 +1,6 @@
 -- Outcomes as answers: refused, let through, and what the plain scan leaves.
 use mathlib.Core.Path.{_≡_, refl, sym, ap, _∙_, subst}
-use mathlib.Core.List.{List}
+use mathlib.Core.List.{List, []}
 use Prim.Native.Nat.{ℕ, zero, suc}
 use lib.ListN.{length}
 use lib.Ieee.{Float}
@@ -15,12 +15,15 @@ use Rattle.route.specs.Rule as rules
 use Rattle.route.specs.Rule.{limited}
 use Rattle.reports.specs.Rows.{rowsOf}
 use Rattle.reports.proofs.RowLaws.{none-written}
+use Rattle.rule.specs.declared.Rule.{Rule}
+use Rattle.request.specs.Request.{refusalOf}
+use Rattle.request.specs.declared.Mode.{Mode}
 use Rattle.ordering.specs.declared.TermScorer.{TermScorer}
 use Rattle.query.specs.Fresh.{Arrays, QueryOpened}
 use Rattle.plain_scan.specs.Heads.{Ready}
 use Rattle.plain_scan.specs.Runs.{PlainRan}
 use Rattle.plain_scan.specs.declared.PlainRun.{PlainRun}
-use Rattle.ranking.specs.Answers.{numberOf, countOf, answer, finished, Answered}
+use Rattle.ranking.specs.Answers.{numberOf, countOf, answer, finished, Answered, Listed, RunIs}
 use Rattle.ranking.specs.declared.outcome.Outcome.{Outcome}
 use Rattle.ranking.specs.declared.outcome.Outcome.the-variants.{Refused}
 use Rattle.ranking.proofs.Finishing.{number-of, count-of}
@@ -56,3 +59,22 @@ plain-answered whole p P e = record {
   count-is = ap countOf e ∙ count-of (p .full) (p .count) ∙ P .count-is;
   written = P .written;
 }
+
+module _ (file query : List ℕ) (mode : Mode) (scoring : Scoring) (rule : Rule) (script : List Float) where
+  -- a skipping run that is refused
+  pub refused-run : (documents : List ℕ) (scores : List Float) {number : ℕ} → number ≡ refusalOf file query mode scoring rule script → (number ≡ 0 → ⊥)
+      → RunIs file query mode scoring rule script documents scores (Refused number) documents scores
+  refused-run documents scores e ne = record {
+    list = [];
+    by-route = λ z. absurd (ne (e ∙ z));
+    answered = refused documents scores (rowsOf documents scores) [] (refusalOf file query mode scoring rule script) e ne;
+  }
+
+  -- one that was let through
+  pub let-run : refusalOf file query mode scoring rule script ≡ 0 → {documents₀ : List ℕ} {scores₀ : List Float} {r : Outcome} {documents : List ℕ} {scores : List Float}
+      → Listed file query mode scoring rule script documents₀ scores₀ r documents scores → RunIs file query mode scoring rule script documents₀ scores₀ r documents scores
+  let-run e {documents₀} {scores₀} L = record {
+    list = L .list;
+    by-route = λ _. L .by-route;
+    answered = let-answered (refusalOf file query mode scoring rule script) (rowsOf documents₀ scores₀) (L .list) e (L .answered);
+  }

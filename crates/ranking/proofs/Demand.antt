@@ -7,6 +7,7 @@ use lib.ListN.{length, getD, drop}
 use lib.Dec.{T}
 use lib.Ieee.{Float}
 use Rattle.floats.specs.Threshold.{thresholdOk}
+use Rattle.bm25.specs.declared.Scoring.{Scoring}
 use Rattle.bm25.specs.declared.Scoring.the-variants.{Stepped}
 use Rattle.notefile.specs.Header.{listCount, documents}
 use Rattle.route.specs.Lists.{All}
@@ -101,3 +102,19 @@ run-plain file query bytes mode rule script {documents₀} {scores₀} {r} {docu
     let L = let-through file query mode Stepped rule script e in
     file-plain file bytes (L .accepted) query (all-named (listCount file) query (L .named)) (L .few) (modeOf mode) (L .takes) (ruleOf rule script) (startOf rule) (rule-ok rule script (L .rule-right)) (R .list) (R .by-route e)))
     (R .answered)
+
+-- both runs together: each contract, and demand 3 where they are stepped
+pub demand-3-by : (file query : List ℕ) → Bytes file → (mode : Mode) (scoring : Scoring) (rule : Rule) (script : List Float) (t : Float)
+    → {documents₁ : List ℕ} {scores₁ : List Float} {r : Outcome} {documents₁′ : List ℕ} {scores₁′ : List Float}
+    → RunIs file query mode scoring rule script documents₁ scores₁ r documents₁′ scores₁′
+    → {other : Rule} → other ≡ from rule t
+    → {documents₂ : List ℕ} {scores₂ : List Float} {p : Outcome} {documents₂′ : List ℕ} {scores₂′ : List Float}
+    → PlainIs file query mode scoring other script documents₂ scores₂ p documents₂′ scores₂′
+    → RunIs file query mode scoring rule script documents₁ scores₁ r documents₁′ scores₁′
+    × PlainIs file query mode scoring (from rule t) script documents₂ scores₂ p documents₂′ scores₂′
+    × (scoring ≡ Stepped → Demand3 file query mode rule script t r documents₁′ scores₁′ p documents₂′ scores₂′)
+demand-3-by file query bytes mode scoring rule script t {documents₁} {scores₁} {r} {documents₁′} {scores₁′} R e {documents₂} {scores₂} {p} {documents₂′} {scores₂′} P =
+    let Q = subst (λ (z : Rule). PlainIs file query mode scoring z script documents₂ scores₂ p documents₂′ scores₂′) e P in
+    (R, Q, λ s.
+    demand-3 file query bytes mode rule script t (subst (λ (z : Scoring). RunIs file query mode z rule script documents₁ scores₁ r documents₁′ scores₁′) s R)
+    (subst (λ (z : Scoring). PlainIs file query mode z (from rule t) script documents₂ scores₂ p documents₂′ scores₂′) s Q))

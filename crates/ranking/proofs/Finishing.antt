@@ -1,8 +1,8 @@
 -- A run of the route that has returned is what 01's table says.
-use mathlib.Core.Path.{_≡_, refl, ap, _∙_, subst}
+use mathlib.Core.Path.{_≡_, refl, sym, ap, _∙_, subst}
 use mathlib.Core.Bool.{Bool, true, false, cond}
 use mathlib.Core.List.{List, [], _∷_}
-use Prim.Native.Nat.{ℕ, suc, _<_}
+use Prim.Native.Nat.{ℕ, suc, _≤_, _<_}
 use native.Mathlib.Omega.{arith}
 use lib.ListN.{length, getD}
 use lib.Ieee.{Float}
@@ -20,7 +20,7 @@ use Rattle.route.specs.Rule as rules
 use Rattle.route.specs.Rule.{limited}
 use Rattle.route.specs.Route.{Route, Ends}
 use Rattle.route.specs.Single.{blockWandSingleScorer}
-use Rattle.route.specs.Plain.{single}
+use Rattle.route.specs.Plain.{Takes, single}
 use Rattle.route.specs.Skipping.{route}
 use Rattle.route.proofs.ListLaws.{ListOk}
 use Rattle.route.proofs.Ending.{Stays}
@@ -33,6 +33,8 @@ use Rattle.reports.specs.Runs.{callbackOf, runAfter, outcomeOf, Ran}
 use Rattle.reports.proofs.RunLaws.{ran-limited}
 use Rattle.request.specs.Request.{modeOf}
 use Rattle.request.specs.declared.Mode.{Mode}
+use Rattle.request.specs.declared.Mode.the-variants.{Intersection, Single}
+use Rattle.request.proofs.Requests.{Let}
 use Rattle.block_wand_single.specs.Scans.{singleRoute}
 use Rattle.ranking.specs.Answers.{numberOf, countOf, finished, scorerOf, Answered, Finished, Listed}
 use Rattle.ranking.specs.declared.outcome.Outcome.{Outcome}
@@ -100,3 +102,19 @@ unfolding queried
 single-route file scoring [] e = absurd (omega (arith, e))
 single-route file scoring (l ∷ []) e = refl
 single-route file scoring (l ∷ m ∷ ls) e = absurd (omega (arith, e))
+
+-- by the mode that a request has: the run over its route is what it asks for
+pub listed-by : (file query : List ℕ) (mode : Mode) (scoring : Scoring) (rule : Rule) (script : List Float) → Let file query mode scoring rule script → {m : Mode} → mode ≡ m
+    → {documents₀ : List ℕ} {scores₀ : List Float} {r : Outcome} {documents′ : List ℕ} {scores′ : List Float}
+    → Finished (route 128 f32 (modeOf m) (queried scoring file query)) rule script documents₀ scores₀ r documents′ scores′
+    → Listed file query mode scoring rule script documents₀ scores₀ r documents′ scores′
+listed-by file query mode scoring rule script t e {documents₀} {scores₀} {r} {documents′} {scores′} F =
+    finished-listed file query mode scoring rule script (t .accepted) (t .named)
+    (subst (λ (z : Mode). Finished (route 128 f32 (modeOf z) (queried scoring file query)) rule script documents₀ scores₀ r documents′ scores′) (sym e) F)
+
+-- how many numbers a query has, by its mode
+pub two-numbers : {mode : Mode} {n : ℕ} → mode ≡ Intersection → Takes (modeOf mode) n → 2 ≤ n
+two-numbers {mode} {n} e t = subst (λ (z : Mode). Takes (modeOf z) n) e t
+
+pub one-number : {mode : Mode} {n : ℕ} → mode ≡ Single → Takes (modeOf mode) n → n ≡ 1
+one-number {mode} {n} e t = subst (λ (z : Mode). Takes (modeOf z) n) e t

@@ -6,12 +6,13 @@ ghost use Rattle.notefile.specs.Header.{headerOf, listCount};
 ghost use Rattle.notefile.specs.Refusal.{fileRefusal};
 ghost use Rattle.rule.specs.Follows.{Keeps};
 ghost use Rattle.route.specs.F32.{f32};
-ghost use Rattle.route.specs.Plain.{union};
+ghost use Rattle.route.specs.Plain.{intersection, union};
 ghost use Rattle.route.specs.Single.{blockWandSingleScorer};
 ghost use Rattle.route.specs.Skipping.{route};
 ghost use Rattle.decoded.specs.Lists.{queried};
 ghost use Rattle.query.specs.Fresh.{Named};
-ghost use Rattle.ranking.specs.Answers.{scorerOf, Finished};
+ghost use Rattle.request.specs.Request.{refusalOf};
+ghost use Rattle.ranking.specs.Answers.{scorerOf, Finished, Listed, RunIs};
 use crate::outcome::Outcome;
 use crate::outcome::finish;
 use block_wand_single::scan::block_wand_single_scorer;
@@ -20,9 +21,12 @@ use bm25::Bm25Weight;
 use bm25::Scoring;
 use notefile::header::Header;
 use notefile::header::norm_reader;
+use notefile::header::read_header;
 use notefile::part::read_part;
 use ordering::retain;
 use query::open_lists;
+use request::Mode;
+use request::refusal;
 use rule::Rule;
 
 // The single scan over list l.
@@ -110,4 +114,68 @@ fn run_union(
         scores,
     );
     finish(r.full, r.count)
+}
+
+// The intersection.
+fn run_intersection(
+    file: &[u8],
+    h: Header,
+    query: &[u32],
+    scoring: Scoring,
+    rule: Rule,
+    script: &[f32],
+    documents: &mut [u32],
+    scores: &mut [f32],
+) -> Outcome
+    requires { ⌜ (fileRefusal (now file) ≡ 0) × (h ≡ headerOf (now file)) × (length (now query) ≤ 16) × (2 ≤ length (now query)) × Named (now file) (now query) × Keeps rule ⌝ }
+    ensures { λ r. ⌜ Finished (route 128 f32 intersection (queried scoring (now (file .entry)) (now (query .entry)))) rule (now (script .entry)) (now (documents .entry)) (now (scores .entry)) r (now (documents .exit)) (now (scores .exit)) ⌝ }
+{
+    run_union(file, h, query, scoring, rule, script, documents, scores)
+}
+
+// The skipping run of a request that is not refused.
+fn run_accepted(
+    file: &[u8],
+    query: &[u32],
+    mode: Mode,
+    scoring: Scoring,
+    rule: Rule,
+    script: &[f32],
+    documents: &mut [u32],
+    scores: &mut [f32],
+) -> Outcome
+    requires { ⌜ refusalOf (now file) (now query) mode scoring rule (now script) ≡ 0 ⌝ }
+    ensures { λ r. ⌜ Listed (now (file .entry)) (now (query .entry)) mode scoring rule (now (script .entry)) (now (documents .entry)) (now (scores .entry)) r (now (documents .exit)) (now (scores .exit)) ⌝ }
+{
+    let h = read_header(file);
+    match mode {
+        Mode::Union => run_union(file, h, query, scoring, rule, script, documents, scores),
+        Mode::Intersection => {
+            run_intersection(file, h, query, scoring, rule, script, documents, scores)
+        }
+        Mode::Single => {
+            let l = query[0] as usize;
+            run_single(file, h, l, scoring, rule, script, documents, scores)
+        }
+    }
+}
+
+// A skipping run over any file, query and rule.
+pub fn run(
+    file: &[u8],
+    query: &[u32],
+    mode: Mode,
+    scoring: Scoring,
+    rule: Rule,
+    script: &[f32],
+    documents: &mut [u32],
+    scores: &mut [f32],
+) -> Outcome
+    ensures { λ r. ⌜ RunIs (now (file .entry)) (now (query .entry)) mode scoring rule (now (script .entry)) (now (documents .entry)) (now (scores .entry)) r (now (documents .exit)) (now (scores .exit)) ⌝ }
+{
+    let number = refusal(file, query, mode, scoring, rule, script);
+    if number != 0 {
+        return Outcome::Refused(number);
+    }
+    run_accepted(file, query, mode, scoring, rule, script, documents, scores)
 }

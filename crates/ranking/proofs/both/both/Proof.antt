@@ -1,0 +1,52 @@
+-- `both::both` meets its contract: each run has its own, and demand 3 follows from the two.
+use mathlib.Core.Path.{_≡_, sym, subst}
+use borrow.Author.Needs.{needs}
+use Rattle.bm25.specs.declared.Scoring.{Scoring}
+use Rattle.rule.specs.declared.Rule.{Rule}
+use Rattle.ranking.specs.Answers.{PlainIs, RunIs}
+use Rattle.ranking.proofs.Demand.{demand-3-by}
+use Rattle.ranking.proofs.both.both.Statement.{statement}
+use Rattle.ranking.proofs.both.both.Tie as tie
+
+run-requires : tie.Need-run-requires
+run-requires c κs = search needs
+
+restart-requires : tie.Need-restart-requires
+restart-requires c κs = search needs
+
+plain-requires : tie.Need-plain-requires
+plain-requires c κs = search needs
+
+same-length : tie.Need-same-length
+same-length c = search needs
+
+same-length-2 : tie.Need-same-length-2
+same-length-2 c = search needs
+
+same-length-3 : tie.Need-same-length-3
+same-length-3 c = search needs
+
+same-length-4 : tie.Need-same-length-4
+same-length-4 c = search needs
+
+returns : tie.Need-returns
+returns c =
+    let p = c .before .before .before .before in
+    let s = p .before .before .before in
+    let r = s .before .before .before .before .before in
+    let b = r .before .before .before .before .before .before .before .before .before in
+    let a = b .before in
+    demand-3-by (a .args .file .now) (a .args .query .now) (λ k. b .shared-slice-known .given k .fits) (a .args .mode) (a .args .scoring) (a .args .rule) (a .args .script .now) (a .args .«plain-start») (r .run .ensures) (s .restart .ensures) (p .plain .ensures)
+
+pub both-spec : {M : Type 1} → statement M
+both-spec =
+    tie.close
+    (tie.spec
+    run-requires
+    restart-requires
+    plain-requires
+    same-length
+    same-length-2
+    same-length-3
+    same-length-4
+    returns)
