@@ -87,7 +87,7 @@ module _ (file : List ℕ) (lists : List (List ℕ)) (h : Held) where
         let e = last-here scoring x (a .0) in
         least-from (min (lastAt (h .places) (x .slot)) t) y ys (a .1) ∙ omega arith
 
-    pub least-is : (l : List TermScorer) → All (Stand file lists h) l → leastLastOf (h .places) TERMINATED l ≡ leastLast 128 f l
+    least-is : (l : List TermScorer) → All (Stand file lists h) l → leastLastOf (h .places) TERMINATED l ≡ leastLast 128 f l
     least-is [] a = refl
     least-is (x ∷ xs) a =
         let c = last-low scoring x (a .0) in

@@ -36,9 +36,10 @@ use Rattle.ordering.proofs.Places.{all-at, all-drop, all-take, drop-take, drop-
 use Rattle.ordering.proofs.Found.{Found}
 use Rattle.ordering.proofs.UnionTurns.{after-hit, after-miss}
 use Rattle.block_wand_union.specs.declared.align.Alignment.{Alignment}
+use Rattle.block_wand_union.specs.declared.turn.Step.{Step}
 use Rattle.block_wand_union.specs.Seats.{Inside, Scorable, Stand, WeighedAt, scorerAt}
 use Rattle.block_wand_union.specs.Moves.{AdvancedAll, AlignedBy, Aligns, OnPivot, PastPivot}
-use Rattle.block_wand_union.specs.Turns.{AtPivot, Pivoted}
+use Rattle.block_wand_union.specs.Turns.{AtPivot, Hit, Pivoted, quietStep}
 use Rattle.block_wand_union.proofs.Seats.{carried-trans, same-doc}
 
 module _ {A : Type 0} where
@@ -157,25 +158,19 @@ module _ (file : List ℕ) (lists : List (List ℕ)) (scoring : Scoring) (weight
           (λ s o. rw (full-is scoring file lists (s .slot)) at (block-inside 128 (documents file) (g s) (o .1) (omega (arith, o .0)))) on-it
 
       -- what a hit leaves, at threshold t
-      pub hit : (t : Float) (n : ℕ) {h″ : Held} {left : Scorers} {score : Float} → AdvancedAll file lists h′ l′ n len h″ left
-          → {on : List TermScorer} → take len l′ ≡ on → score ≡ sum f32 (map scoreHere (map g on))
-          → Pivoted file lists scoring t h l n before len p h″ (record { scorers = left .scorers; len = left .len; more = true; due = f32 .above score t; doc = p; score = score })
-      hit t n {h″} {left} {score} D q e =
+      pub on-hit : (t : Float) (n : ℕ) {h″ : Held} {r : Step} → Hit file lists scoring t h′ l′ n len p h″ r → Pivoted file lists scoring t h l n before len p h″ r
+      on-hit t n D =
           let k = first in
-          let next = map (scorerAt file lists scoring (h″ .places)) (take (left .len) (left .scorers)) in
           record {
             carried = carried-trans file lists (O .carried) (D .carried);
-            turn-is =
-                ap (λ (x : Float). record { next = goOn next; due = dueAt f32 t p x }) (e ∙ rw q)
-                ∙ ap (λ ss. record { next = goOn ss; due = dueAt f32 t p (sum f32 (map scoreHere (map g (take len l′)))) }) (D .scorers-are scoring)
-                ∙ sym (after-hit 128 t l before len p (omega arith) f g l′ (O .aligned-are scoring) (O .rest-are scoring));
+            turn-is = D .turn-is ∙ sym (after-hit 128 t l before len p (omega arith) f g l′ (O .aligned-are scoring) (O .rest-are scoring));
             few = D .few;
             long = D .long;
           }
 
     -- what a miss leaves
-    pub miss : (t : Float) (n : ℕ) {h′ : Held} {out : List TermScorer} {len′ : ℕ} {score : Float} → PastPivot file lists p h l before h′ (take len′ out) → len′ ≤ n → Sixteen out
-        → Pivoted file lists scoring t h l n before len p h′ (record { scorers = out; len = len′; more = true; due = false; doc = p; score = score })
+    pub miss : (t : Float) (n : ℕ) {h′ : Held} {out : List TermScorer} {len′ : ℕ} → PastPivot file lists p h l before h′ (take len′ out) → len′ ≤ n → Sixteen out
+        → Pivoted file lists scoring t h l n before len p h′ (quietStep out len′ true)
     miss t n P few long =
         let k = first in
         let m = P .missed-is scoring in
@@ -185,6 +180,23 @@ module _ (file : List ℕ) (lists : List (List ℕ)) (scoring : Scoring) (weight
           few = few;
           long = long;
         }
+
+-- the scorers on the pivot, scored and advanced
+pub hit : (file : List ℕ) (lists : List (List ℕ)) (scoring : Scoring) (t : Float) (h : Held) (ss : List TermScorer) (n len p : ℕ) → len ≤ n → {h′ : Held} {left : Scorers} {score : Float}
+    → AdvancedAll file lists h (take n ss) n len h′ left → score ≡ sum f32 (map scoreHere (map (scorerAt file lists scoring (h .places)) (take len ss)))
+    → Hit file lists scoring t h (take n ss) n len p h′ (record { scorers = left .scorers; len = left .len; more = true; due = f32 .above score t; doc = p; score = score })
+hit file lists scoring t h ss n len p few {h′} {left} D e =
+    let next = map (scorerAt file lists scoring (h′ .places)) (take (left .len) (left .scorers)) in
+    let q = take-take len n ss few in
+    let x : Float = sum f32 (map scoreHere (map (scorerAt file lists scoring (h .places)) (take len (take n ss)))) in
+    record {
+      carried = D .carried;
+      turn-is =
+          ap (λ (z : Float). record { next = goOn next; due = dueAt f32 t p z }) (e ∙ rw q)
+          ∙ ap (λ z. record { next = goOn z; due = dueAt f32 t p x }) (D .scorers-are scoring);
+      few = D .few;
+      long = D .long;
+    }
 
 -- `align_scorers`' answer
 module _ (file : List ℕ) (lists : List (List ℕ)) {p : ℕ} {h h′ : Held} {l : List TermScorer} {n before : ℕ} {r : Alignment} (E : Aligns file lists p h l n before h′ r) where

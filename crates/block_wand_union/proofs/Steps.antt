@@ -26,7 +26,7 @@ use Rattle.ordering.proofs.UnionTurns.{high-turn, low-turn, nowhere-turn}
 use Rattle.block_wand_union.specs.declared.turn.Step.{Step}
 use Rattle.block_wand_union.specs.Seats.{Seat, Seated, Stand, Terms, WeighedAt, scorerAt, terms}
 use Rattle.block_wand_union.specs.Moves.{BlocksSought, TooLow}
-use Rattle.block_wand_union.specs.Turns.{AtPivot, Pivoted, Turned}
+use Rattle.block_wand_union.specs.Turns.{AtPivot, Pivoted, Turned, quietStep}
 use Rattle.block_wand_union.proofs.Seats.{fair}
 use Rattle.block_wand_union.proofs.OnPivots.{found-low}
 
@@ -41,9 +41,9 @@ module _ (file : List ℕ) (lists : List (List ℕ)) (T : Terms) (maxScores : Li
   in-slots = all-imp (Stand file lists h) (λ s. s .slot < 16) l (λ _ s. s .slot-in) stands
 
   -- no pivot: the loop ends
-  pub nowhere : Nowhere ≡ pivotOf maxScores t l → (ss : List TermScorer) (n : ℕ) → take n ss ≡ l → Sixteen ss → (doc : ℕ) (score : Float)
-      → Turned file lists T maxScores t h l n h (T .bounds) (record { scorers = ss; len = n; more = false; due = false; doc = doc; score = score })
-  nowhere e ss n q long doc score = record {
+  pub nowhere : Nowhere ≡ pivotOf maxScores t l → (ss : List TermScorer) (n : ℕ) → take n ss ≡ l → Sixteen ss
+      → Turned file lists T maxScores t h l n h (T .bounds) (quietStep ss n false)
+  nowhere e ss n q long = record {
     turn-is = nowhere-turn 128 t l maxScores f (fair file lists maxScores (T .scoring) h l stands (S .tops)) e ∙ rw q;
     seated = rw q S;
     few = omega arith;
@@ -96,9 +96,9 @@ module _ (file : List ℕ) (lists : List (List ℕ)) (T : Terms) (maxScores : Li
       }
 
       -- past blocks too low
-      pub low : f32 .above upper t ≡ false → {n : ℕ} {h″ : Held} {out : List TermScorer} → TooLow file lists maxScores h′ l len h″ (take n out) → Sixteen out → (doc : ℕ) (score : Float)
-          → Turned file lists T maxScores t h l n h″ bounds′ (record { scorers = out; len = n; more = true; due = false; doc = doc; score = score })
-      low q P long doc score = record {
+      pub low : f32 .above upper t ≡ false → {n : ℕ} {h″ : Held} {out : List TermScorer} → TooLow file lists maxScores h′ l len h″ (take n out) → Sixteen out
+          → Turned file lists T maxScores t h l n h″ bounds′ (quietStep out n true)
+      low q P long = record {
         turn-is = low-turn 128 t l maxScores f (fair file lists maxScores (T .scoring) h l stands (S .tops)) before len p e g (B .moving) _ (sum-above q) (P .scorers-are (T .scoring) (S .tops));
         seated = record { seats = P .carried .seats T′ (B .seats); apart = P .carried .apart; tops = P .carried .tops (T .scoring) maxScores (S .tops); sixteen = B .sixteen };
         few = omega arith;

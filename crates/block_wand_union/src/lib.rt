@@ -58,7 +58,7 @@ pub fn block_wand(
     requires { ⌜ (n ≤ 16) × (norms ≡ normReader (now file)) × Keeps rule × Seated (now file) (now lists) (terms scoring (now weights) (now caches) (now bounds)) (now «max_scores») (held (now places) (now docs) (now freqs)) (take n scorers) × All (Fresh (now places)) (take n scorers) ⌝ }
     ensures { λ r. ⌜ ((place : UnionPlace Float) × Ran (pivotRoute 128 f32 (map (scorerAt (now (file .entry)) (now (lists .entry)) scoring (now (places .entry))) (take n scorers))) rule (now (script .entry)) (now (documents .entry)) (now (scores .entry)) (r .full) (r .count) (now (documents .exit)) (now (scores .exit)) place) ⌝ }
 {
-    let all = rows(documents, scores);
+    let row_count = rows(documents, scores);
     let mut t = Threshold::new(rule);
     let mut alive = sort_by_doc(scorers, n);
     let mut len = n;
@@ -85,7 +85,7 @@ pub fn block_wand(
         len = step.len;
         more = step.more;
         if step.due {
-            if t.reports == all {
+            if t.reports == row_count {
                 return Ended {
                     full: true,
                     count: t.reports,

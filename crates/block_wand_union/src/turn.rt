@@ -5,12 +5,13 @@ ghost use Prim.Native.Nat.{_≤_};
 ghost use lib.ListN.{take};
 ghost use Rattle.notefile.specs.Header.{documents, normReader};
 ghost use Rattle.route.specs.F32.{f32};
+ghost use Rattle.route.specs.Lists.{All};
 ghost use Rattle.route.specs.Union.{goOn};
 ghost use Rattle.route.proofs.UnionEnds.{UnionKept};
 ghost use Rattle.term_scorer.specs.Slots.{held};
 ghost use Rattle.ordering.specs.Scorers.{Apart};
-ghost use Rattle.block_wand_union.specs.Seats.{Seated, scorerAt, terms};
-ghost use Rattle.block_wand_union.specs.Turns.{AtPivot, Pivoted, Turned};
+ghost use Rattle.block_wand_union.specs.Seats.{Inside, Scorable, Seated, Stand, scorerAt, terms};
+ghost use Rattle.block_wand_union.specs.Turns.{AtPivot, Hit, Pivoted, ToPivot, Turned, quietStep};
 use crate::align::align_scorers;
 use crate::blocks::seek_blocks;
 use crate::low::block_max_was_too_low_advance_one_scorer;
@@ -32,7 +33,75 @@ pub struct Step {
     pub score: f32,
 }
 
-// The scorers before the pivot are sent to it. If all come, it is scored, and they go on.
+// No document is due.
+fn quiet(scorers: [TermScorer; 16], len: usize, more: bool) -> Step
+    ensures { λ r. ⌜ r ≡ quietStep scorers len more ⌝ }
+{
+    Step {
+        scorers,
+        len,
+        more,
+        due: false,
+        doc: 0,
+        score: 0.0,
+    }
+}
+
+// All of the first scorers stand on the pivot: it is scored, and they go on.
+fn hit(
+    file: &[u8],
+    norms: FieldNormReader,
+    weights: &[f32; 16],
+    caches: &[[f32; 256]; 16],
+    scoring: Scoring,
+    lists: &[[usize; 8]; 16],
+    threshold: f32,
+    scorers: [TermScorer; 16],
+    n: usize,
+    pivot_len: usize,
+    pivot_doc: u32,
+    places: &mut [[usize; 8]; 16],
+    docs: &mut [[u32; 128]; 16],
+    freqs: &mut [[u32; 128]; 16],
+) -> Step
+    requires { ⌜ («pivot_len» ≤ n) × (n ≤ 16) × (norms ≡ normReader (now file)) × Apart (take n scorers) × All (Stand (now file) (now lists) (held (now places) (now docs) (now freqs))) (take n scorers) × All (Scorable (now file) (now lists) (now weights) (now caches) (held (now places) (now docs) (now freqs))) (take «pivot_len» scorers) × All (Inside (now file) (now lists) (held (now places) (now docs) (now freqs))) (take «pivot_len» scorers) ⌝ }
+    ensures { λ r. ⌜ Hit (now (file .entry)) (now (lists .entry)) scoring threshold (held (now (places .entry)) (now (docs .entry)) (now (freqs .entry))) (take n scorers) n «pivot_len» «pivot_doc» (held (now (places .exit)) (now (docs .exit)) (now (freqs .exit))) r ⌝ }
+{
+    let score = score_on_pivot(
+        file,
+        norms,
+        weights,
+        caches,
+        scoring,
+        lists,
+        scorers,
+        pivot_len,
+        places,
+        docs,
+        freqs,
+    );
+    let left = advance_all_scorers_on_pivot(
+        file,
+        lists,
+        scorers,
+        n,
+        pivot_len,
+        places,
+        docs,
+        freqs,
+    );
+    let scorers_left = left.scorers;
+    Step {
+        scorers: scorers_left,
+        len: left.len,
+        more: true,
+        due: score > threshold,
+        doc: pivot_doc,
+        score,
+    }
+}
+
+// The scorers before the pivot are sent to it.
 fn on_pivot(
     file: &[u8],
     norms: FieldNormReader,
@@ -66,50 +135,98 @@ fn on_pivot(
     );
     let aligned = alignment.scorers;
     if alignment.on_pivot {
-        let score = score_on_pivot(
+        return hit(
             file,
             norms,
             weights,
             caches,
             scoring,
             lists,
-            aligned,
-            pivot_len,
-            places,
-            docs,
-            freqs,
-        );
-        let left = advance_all_scorers_on_pivot(
-            file,
-            lists,
+            threshold,
             aligned,
             n,
             pivot_len,
+            pivot_doc,
             places,
             docs,
             freqs,
         );
-        let scorers_left = left.scorers;
-        return Step {
-            scorers: scorers_left,
-            len: left.len,
-            more: true,
-            due: score > threshold,
-            doc: pivot_doc,
-            score,
-        };
     }
-    Step {
-        scorers: aligned,
-        len: alignment.len,
-        more: true,
-        due: false,
-        doc: pivot_doc,
-        score: 0.0,
-    }
+    quiet(aligned, alignment.len, true)
 }
 
-// A pivot, if there is one; then one scorer past blocks that are too low, or the scorers to the pivot.
+// The skip readers seek the pivot. Then one scorer goes past blocks that are too low, or the scorers go to the pivot.
+fn to_pivot(
+    file: &[u8],
+    norms: FieldNormReader,
+    weights: &[f32; 16],
+    caches: &[[f32; 256]; 16],
+    max_scores: &[f32; 16],
+    scoring: Scoring,
+    lists: &[[usize; 8]; 16],
+    threshold: f32,
+    scorers: [TermScorer; 16],
+    n: usize,
+    before_pivot_len: usize,
+    pivot_len: usize,
+    pivot_doc: u32,
+    places: &mut [[usize; 8]; 16],
+    docs: &mut [[u32; 128]; 16],
+    freqs: &mut [[u32; 128]; 16],
+    bounds: &mut [f32; 16],
+) -> Step
+    requires { ⌜ (n ≤ 16) × (norms ≡ normReader (now file)) × ToPivot (now file) (now lists) (terms scoring (now weights) (now caches) (now bounds)) (now «max_scores») threshold (held (now places) (now docs) (now freqs)) (take n scorers) «before_pivot_len» «pivot_len» «pivot_doc» ⌝ }
+    ensures { λ r. ⌜ Turned (now (file .entry)) (now (lists .entry)) (terms scoring (now (weights .entry)) (now (caches .entry)) (now (bounds .entry))) (now («max_scores» .entry)) threshold (held (now (places .entry)) (now (docs .entry)) (now (freqs .entry))) (take n scorers) n (held (now (places .exit)) (now (docs .exit)) (now (freqs .exit))) (now (bounds .exit)) r ⌝ }
+{
+    let upper_bound = seek_blocks(
+        file,
+        norms,
+        weights,
+        caches,
+        scoring,
+        lists,
+        scorers,
+        pivot_len,
+        pivot_doc,
+        places,
+        docs,
+        freqs,
+        bounds,
+    );
+    if upper_bound > threshold {
+        return on_pivot(
+            file,
+            norms,
+            weights,
+            caches,
+            scoring,
+            lists,
+            threshold,
+            scorers,
+            n,
+            before_pivot_len,
+            pivot_len,
+            pivot_doc,
+            places,
+            docs,
+            freqs,
+        );
+    }
+    let moved = block_max_was_too_low_advance_one_scorer(
+        file,
+        lists,
+        max_scores,
+        scorers,
+        n,
+        pivot_len,
+        places,
+        docs,
+        freqs,
+    );
+    quiet(moved, n, true)
+}
+
+// A pivot, if there is one, and a step to it.
 pub fn turn(
     file: &[u8],
     norms: FieldNormReader,
@@ -131,72 +248,29 @@ pub fn turn(
 {
     let pivot = find_pivot_doc(scorers, n, max_scores, threshold);
     match pivot {
-        Pivot::Nowhere => Step {
-            scorers,
-            len: n,
-            more: false,
-            due: false,
-            doc: 0,
-            score: 0.0,
-        },
+        Pivot::Nowhere => quiet(scorers, n, false),
         Pivot::At {
             before_pivot_len,
             pivot_len,
             pivot_doc,
-        } => {
-            let sum = seek_blocks(
-                file,
-                norms,
-                weights,
-                caches,
-                scoring,
-                lists,
-                scorers,
-                pivot_len,
-                pivot_doc,
-                places,
-                docs,
-                freqs,
-                bounds,
-            );
-            if sum > threshold {
-                return on_pivot(
-                    file,
-                    norms,
-                    weights,
-                    caches,
-                    scoring,
-                    lists,
-                    threshold,
-                    scorers,
-                    n,
-                    before_pivot_len,
-                    pivot_len,
-                    pivot_doc,
-                    places,
-                    docs,
-                    freqs,
-                );
-            }
-            let moved = block_max_was_too_low_advance_one_scorer(
-                file,
-                lists,
-                max_scores,
-                scorers,
-                n,
-                pivot_len,
-                places,
-                docs,
-                freqs,
-            );
-            Step {
-                scorers: moved,
-                len: n,
-                more: true,
-                due: false,
-                doc: pivot_doc,
-                score: 0.0,
-            }
-        }
+        } => to_pivot(
+            file,
+            norms,
+            weights,
+            caches,
+            max_scores,
+            scoring,
+            lists,
+            threshold,
+            scorers,
+            n,
+            before_pivot_len,
+            pivot_len,
+            pivot_doc,
+            places,
+            docs,
+            freqs,
+            bounds,
+        ),
     }
 }

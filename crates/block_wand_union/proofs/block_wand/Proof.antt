@@ -13,11 +13,11 @@ use Rattle.block_wand_union.proofs.block_wand.Statement.{statement}
 use Rattle.block_wand_union.proofs.block_wand.Tie as tie
 
 abbrev Inv-loop : tie.InvT-loop
-Inv-loop file norms weights caches max-scores scoring lists n rule script places₀ docs₀ freqs₀ bounds₀ documents₀ scores₀ all t₀ alive₀ len₀ more₀ places docs freqs bounds documents scores t alive len more =
+Inv-loop file norms weights caches max-scores scoring lists n rule script places₀ docs₀ freqs₀ bounds₀ documents₀ scores₀ row-count t₀ alive₀ len₀ more₀ places docs freqs bounds documents scores t alive len more =
     Running file lists max-scores (terms scoring weights caches bounds₀) rule script documents₀ scores₀ (map (scorerAt file lists scoring places₀) (take n alive₀)) t documents scores (held places docs freqs) bounds alive len more
 
 abbrev μ-loop : tie.MeasureT-loop
-μ-loop file norms weights caches max-scores scoring lists n rule script places₀ docs₀ freqs₀ bounds₀ rows₀ scores₀ all t₀ alive₀ len₀ more₀ places docs freqs bounds rows scores t alive len more =
+μ-loop file norms weights caches max-scores scoring lists n rule script places₀ docs₀ freqs₀ bounds₀ rows₀ scores₀ row-count t₀ alive₀ len₀ more₀ places docs freqs bounds rows scores t alive len more =
     unionCost 128 (documents file) f32 (record { more = more; scorers = map (scorerAt file lists scoring places) (take len alive) })
 
 abbrev start : tie.After-sort-by-doc Inv-loop μ-loop → tie.Start Inv-loop μ-loop
