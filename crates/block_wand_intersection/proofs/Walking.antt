@@ -205,7 +205,9 @@ module _ (x : Query) (rule : Rule) (script : List Float) (t₀ : Threshold) (d e
               scores-long = scores-still ∙ W .scores-long;
               goes = λ bs s ld ss documents₀ scores₀ G.
                   let W′ = leaderRoute 128 f32 ld ss in
-                  let B = behind-report bs s ld ss documents₀ scores₀ (rw et G) in
-                  (placeAt x (h′ .places) over d, run-ends W′ rule script documents₀ scores₀
-                  (run-quiet W′ rule script documents₀ scores₀ B (goes-over x (h′ .places) (r′ .now) (candidatesLeft x b₀ ts e next) e bs d (ap (λ (z : Float). f32 .above z (r′ .now)) (sym em) ∙ a))) refl);
+                  let B = behind-report bs s ld ss documents₀ scores₀ (rw et G) in (
+                    placeAt x (h′ .places) over d,
+                    run-ends W′ rule script documents₀ scores₀
+                        (run-quiet W′ rule script documents₀ scores₀ B (goes-over x (h′ .places) (r′ .now) (candidatesLeft x b₀ ts e next) e bs d (ap (λ (z : Float). f32 .above z (r′ .now)) (sym em) ∙ a))) refl,
+                  );
             }

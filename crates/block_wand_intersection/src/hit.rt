@@ -49,7 +49,18 @@ pub fn next_hit(
             return Hit::Nowhere;
         }
         let leader_score = score::score_in_block(
-            file, norms, weights, caches, scoring, lists, leader, i, doc, places, docs, freqs,
+            file,
+            norms,
+            weights,
+            caches,
+            scoring,
+            lists,
+            leader,
+            i,
+            doc,
+            places,
+            docs,
+            freqs,
         );
         i += 1;
         if leader_score > score_threshold {

@@ -5,6 +5,7 @@ mod order;
 mod run;
 mod walk;
 mod window;
+
 ghost use Rattle.rule.specs.Follows.{Keeps};
 ghost use Rattle.term_scorer.specs.Slots.{held};
 ghost use Rattle.block_wand_intersection.specs.Queries.{Answers, Fresh};
@@ -39,7 +40,22 @@ pub fn block_wand_intersection(
 {
     let order = by_size(n, lists);
     run_in_order(
-        file, norms, weights, caches, scoring, lists, n, &order, max_scores, rule, script, places,
-        docs, freqs, bounds, documents, scores,
+        file,
+        norms,
+        weights,
+        caches,
+        scoring,
+        lists,
+        n,
+        &order,
+        max_scores,
+        rule,
+        script,
+        places,
+        docs,
+        freqs,
+        bounds,
+        documents,
+        scores,
     )
 }

@@ -74,7 +74,20 @@ fn step(
     ensures { λ r. ⌜ Steps (query scoring (now (file .entry)) (now (lists .entry)) n (now (order .entry))) rule (now (script .entry)) t doc (held (now (places .entry)) (now (docs .entry)) (now (freqs .entry))) (now (documents .entry)) (now (scores .entry)) r (held (now (places .exit)) (now (docs .exit)) (now (freqs .exit))) (now (bounds .exit)) (now (documents .exit)) (now (scores .exit)) ⌝ }
 {
     let window = next_window(
-        file, norms, weights, caches, scoring, lists, n, order, doc, t.now, places, docs, freqs, bounds,
+        file,
+        norms,
+        weights,
+        caches,
+        scoring,
+        lists,
+        n,
+        order,
+        doc,
+        t.now,
+        places,
+        docs,
+        freqs,
+        bounds,
     );
     match window {
         Window::Over => Stepped {
@@ -91,8 +104,27 @@ fn step(
             let mut suffix = [0.0f32; 16];
             sum_suffixes(n, order, bounds, &mut suffix);
             let walked = walk(
-                file, norms, weights, caches, scoring, lists, n, order, &suffix, max_sum, doc,
-                window_end, block_max_sum, rule, script, t, places, docs, freqs, documents, scores,
+                file,
+                norms,
+                weights,
+                caches,
+                scoring,
+                lists,
+                n,
+                order,
+                &suffix,
+                max_sum,
+                doc,
+                window_end,
+                block_max_sum,
+                rule,
+                script,
+                t,
+                places,
+                docs,
+                freqs,
+                documents,
+                scores,
             );
             let threshold = walked.threshold;
             let stop = walked.stop;
@@ -134,19 +166,45 @@ fn windows(
     let mut doc = first_doc;
     while doc < TERMINATED {
         let next = step(
-            file, norms, weights, caches, scoring, lists, n, order, max_sum, doc, rule, script,
-            threshold, places, docs, freqs, bounds, documents, scores,
+            file,
+            norms,
+            weights,
+            caches,
+            scoring,
+            lists,
+            n,
+            order,
+            max_sum,
+            doc,
+            rule,
+            script,
+            threshold,
+            places,
+            docs,
+            freqs,
+            bounds,
+            documents,
+            scores,
         );
         threshold = next.threshold;
         doc = next.doc;
         let stop = next.stop;
         match stop {
             Stop::Next => {}
-            Stop::Over => return Ended { full: false, count: threshold.reports },
-            Stop::Full => return Ended { full: true, count: threshold.reports },
+            Stop::Over => return Ended {
+                full: false,
+                count: threshold.reports,
+            },
+            Stop::Full => return Ended {
+                full: true,
+                count: threshold.reports,
+            },
         }
     }
-    Ended { full: false, count: threshold.reports }
+    Ended {
+        full: false,
+        count: threshold.reports,
+    }
 }
 
 // `block_wand_intersection` behind its `sort_by_key`: over at once where no document can exceed the threshold.
@@ -177,9 +235,29 @@ pub fn run_in_order(
     if max_sum > threshold.now {
         let doc = slot::doc(order[0], places, docs);
         return windows(
-            file, norms, weights, caches, scoring, lists, n, order, max_sum, doc, rule, script,
-            threshold, places, docs, freqs, bounds, documents, scores,
+            file,
+            norms,
+            weights,
+            caches,
+            scoring,
+            lists,
+            n,
+            order,
+            max_sum,
+            doc,
+            rule,
+            script,
+            threshold,
+            places,
+            docs,
+            freqs,
+            bounds,
+            documents,
+            scores,
         );
     }
-    Ended { full: false, count: 0 }
+    Ended {
+        full: false,
+        count: 0,
+    }
 }

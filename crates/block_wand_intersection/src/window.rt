@@ -66,7 +66,17 @@ fn gather(
         }
         window_end = least(window_end, slot::last_doc_in_block(q, places));
         let bound = score::block_max(
-            file, norms, weights, caches, scoring, lists, q, places, docs, freqs, bounds,
+            file,
+            norms,
+            weights,
+            caches,
+            scoring,
+            lists,
+            q,
+            places,
+            docs,
+            freqs,
+            bounds,
         );
         block_max_sum = block_max_sum + bound;
         i += 1;
@@ -101,12 +111,34 @@ pub fn next_window(
     let leader = order[0];
     slot::seek_block(file, lists, leader, doc, places);
     let leader_block_max = score::block_max(
-        file, norms, weights, caches, scoring, lists, leader, places, docs, freqs, bounds,
+        file,
+        norms,
+        weights,
+        caches,
+        scoring,
+        lists,
+        leader,
+        places,
+        docs,
+        freqs,
+        bounds,
     );
     let leader_end = slot::last_doc_in_block(leader, places);
     let found = gather(
-        file, norms, weights, caches, scoring, lists, n, order, doc, leader_end, places, docs,
-        freqs, bounds,
+        file,
+        norms,
+        weights,
+        caches,
+        scoring,
+        lists,
+        n,
+        order,
+        doc,
+        leader_end,
+        places,
+        docs,
+        freqs,
+        bounds,
     );
     if !found.remain {
         return Window::Over;
