@@ -9,3 +9,5 @@ pub mod Hitting
 pub mod Walking
 pub mod Stepping
 pub mod Running
+pub mod Sorting
+pub mod Ordered

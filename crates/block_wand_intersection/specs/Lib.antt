@@ -4,3 +4,5 @@ pub mod Candidates
 pub mod Windows
 pub mod Walks
 pub mod Steps
+pub mod Sizes
+pub mod Queries

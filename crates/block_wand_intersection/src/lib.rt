@@ -1,6 +1,61 @@
 // The intersection's skipping run: windows in which all block bounds hold, and in each the leader's candidates against the secondaries.
 mod candidate;
 mod hit;
+mod order;
 mod run;
 mod walk;
 mod window;
+
+ghost use Rattle.rule.specs.Follows.{Keeps};
+ghost use Rattle.term_scorer.specs.Slots.{held};
+ghost use Rattle.block_wand_intersection.specs.Queries.{Answers, Fresh};
+use bm25::Scoring;
+use fieldnorm::FieldNormReader;
+use order::by_size;
+use rule::Rule;
+use run::Ended;
+use run::run_in_order;
+
+// `block_wand_intersection`, over n lists that are fresh in their slots: the rarest leads.
+pub fn block_wand_intersection(
+    file: &[u8],
+    norms: FieldNormReader,
+    weights: &[f32; 16],
+    caches: &[[f32; 256]; 16],
+    scoring: Scoring,
+    lists: &[[usize; 8]; 16],
+    n: usize,
+    max_scores: &[f32; 16],
+    rule: Rule,
+    script: &[f32],
+    places: &mut [[usize; 8]; 16],
+    docs: &mut [[u32; 128]; 16],
+    freqs: &mut [[u32; 128]; 16],
+    bounds: &mut [f32; 16],
+    documents: &mut [u32],
+    scores: &mut [f32],
+) -> Ended
+    requires { ⌜ Fresh scoring (now file) (now lists) n norms (now weights) (now caches) (now «max_scores») (held (now places) (now docs) (now freqs)) (now bounds) × Keeps rule ⌝ }
+    ensures { λ r. ⌜ Answers scoring (now (file .entry)) (now (lists .entry)) n rule (now (script .entry)) (now (documents .entry)) (now (scores .entry)) r (now (documents .exit)) (now (scores .exit)) ⌝ }
+{
+    let order = by_size(n, lists);
+    run_in_order(
+        file,
+        norms,
+        weights,
+        caches,
+        scoring,
+        lists,
+        n,
+        &order,
+        max_scores,
+        rule,
+        script,
+        places,
+        docs,
+        freqs,
+        bounds,
+        documents,
+        scores,
+    )
+}
