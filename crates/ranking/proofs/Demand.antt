@@ -114,7 +114,10 @@ pub demand-3-by : (file query : List ℕ) → Bytes file → (mode : Mode) (scor
     × PlainIs file query mode scoring (from rule t) script documents₂ scores₂ p documents₂′ scores₂′
     × (scoring ≡ Stepped → Demand3 file query mode rule script t r documents₁′ scores₁′ p documents₂′ scores₂′)
 demand-3-by file query bytes mode scoring rule script t {documents₁} {scores₁} {r} {documents₁′} {scores₁′} R e {documents₂} {scores₂} {p} {documents₂′} {scores₂′} P =
-    let Q = subst (λ (z : Rule). PlainIs file query mode scoring z script documents₂ scores₂ p documents₂′ scores₂′) e P in
-    (R, Q, λ s.
-    demand-3 file query bytes mode rule script t (subst (λ (z : Scoring). RunIs file query mode z rule script documents₁ scores₁ r documents₁′ scores₁′) s R)
-    (subst (λ (z : Scoring). PlainIs file query mode z (from rule t) script documents₂ scores₂ p documents₂′ scores₂′) s Q))
+    let Q = subst (λ (z : Rule). PlainIs file query mode scoring z script documents₂ scores₂ p documents₂′ scores₂′) e P in (
+      R,
+      Q,
+      λ s.
+          demand-3 file query bytes mode rule script t (subst (λ (z : Scoring). RunIs file query mode z rule script documents₁ scores₁ r documents₁′ scores₁′) s R)
+          (subst (λ (z : Scoring). PlainIs file query mode z (from rule t) script documents₂ scores₂ p documents₂′ scores₂′) s Q),
+    )

@@ -15,6 +15,7 @@ ghost use Rattle.request.specs.Request.{refusalOf};
 ghost use Rattle.ranking.specs.Answers.{scorerOf, Finished, Listed, RunIs};
 use crate::outcome::Outcome;
 use crate::outcome::finish;
+use block_wand_intersection::block_wand_intersection;
 use block_wand_single::scan::block_wand_single_scorer;
 use block_wand_union::block_wand;
 use bm25::Bm25Weight;
@@ -130,7 +131,47 @@ fn run_intersection(
     requires { ⌜ (fileRefusal (now file) ≡ 0) × (h ≡ headerOf (now file)) × (length (now query) ≤ 16) × (2 ≤ length (now query)) × Named (now file) (now query) × Keeps rule ⌝ }
     ensures { λ r. ⌜ Finished (route 128 f32 intersection (queried scoring (now (file .entry)) (now (query .entry)))) rule (now (script .entry)) (now (documents .entry)) (now (scores .entry)) r (now (documents .exit)) (now (scores .exit)) ⌝ }
 {
-    run_union(file, h, query, scoring, rule, script, documents, scores)
+    let norms = norm_reader(file, h);
+    let mut lists = [[0usize; 8]; 16];
+    let mut places = [[0usize; 8]; 16];
+    let mut docs = [[0u32; 128]; 16];
+    let mut freqs = [[0u32; 128]; 16];
+    let mut weights = [0.0f32; 16];
+    let mut caches = [[0.0f32; 256]; 16];
+    let mut max_scores = [0.0f32; 16];
+    let mut bounds = [0.0f32; 16];
+    open_lists(
+        file,
+        h,
+        scoring,
+        query,
+        &mut lists,
+        &mut places,
+        &mut docs,
+        &mut freqs,
+        &mut weights,
+        &mut caches,
+        &mut max_scores,
+    );
+    let r = block_wand_intersection(
+        file,
+        norms,
+        &weights,
+        &caches,
+        scoring,
+        &lists,
+        query.len(),
+        &max_scores,
+        rule,
+        script,
+        &mut places,
+        &mut docs,
+        &mut freqs,
+        &mut bounds,
+        documents,
+        scores,
+    );
+    finish(r.full, r.count)
 }
 
 // The skipping run of a request that is not refused.

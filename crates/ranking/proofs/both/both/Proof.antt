@@ -1,9 +1,5 @@
 -- `both::both` meets its contract: each run has its own, and demand 3 follows from the two.
-use mathlib.Core.Path.{_≡_, sym, subst}
 use borrow.Author.Needs.{needs}
-use Rattle.bm25.specs.declared.Scoring.{Scoring}
-use Rattle.rule.specs.declared.Rule.{Rule}
-use Rattle.ranking.specs.Answers.{PlainIs, RunIs}
 use Rattle.ranking.proofs.Demand.{demand-3-by}
 use Rattle.ranking.proofs.both.both.Statement.{statement}
 use Rattle.ranking.proofs.both.both.Tie as tie

@@ -1,9 +1,6 @@
 -- `skipping::run` meets its contract: refused with the first refusal's number, or the route's run of a request that is not.
 use mathlib.Core.Path.{sym, _∙_}
-use mathlib.Core.List.{[]}
 use borrow.Author.Needs.{needs}
-use Rattle.reports.specs.Rows.{rowsOf}
-use Rattle.request.specs.Request.{refusalOf}
 use Rattle.ranking.proofs.Answering.{refused-run, let-run}
 use Rattle.ranking.proofs.skipping.run.Statement.{statement}
 use Rattle.ranking.proofs.skipping.run.Tie as tie

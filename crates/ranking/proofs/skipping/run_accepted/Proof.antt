@@ -1,9 +1,7 @@
 -- `skipping::run_accepted` meets its contract: each mode's run is over the route of the query.
-use mathlib.Core.Path.{_≡_, sym, ap, subst}
 use native.Mathlib.Omega.{arith}
 use borrow.Author.Needs.{needs}
 use Rattle.rule.proofs.RightRules.{keeps}
-use Rattle.request.specs.declared.Mode.{Mode}
 use Rattle.request.proofs.Requests.{Let, let-through}
 use Rattle.ranking.proofs.Answering.{header-of}
 use Rattle.ranking.proofs.Unions.{same-route}
