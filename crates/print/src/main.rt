@@ -6,6 +6,7 @@ use notefile::header::read_header;
 use ranking::outcome::Outcome;
 use request::Mode;
 use rule::Rule;
+ghost use Prim.Native.Nat.{_≤_};
 
 // The header's number of lists, where there is one; a query has at most 16, and a file of more is refused whatever the query.
 fn lists_of(file: &[u8]) -> usize
