@@ -24,8 +24,7 @@ use Rattle.term_scorer.specs.Rows.{cursorIn}
 use Rattle.term_scorer.specs.Slots.{Held, MovedSlot, cursorAt, held, lastAt, listAt, partAt}
 use Rattle.term_scorer.specs.Weights.{Bounded}
 use Rattle.block_wand_intersection.specs.Scorers.{BoundsKept, InOrder, Query, Ready, Seated, listIn, scorerAt, scorersBetween, secondariesIn, slotAt}
-use Rattle.block_wand_intersection.specs.Windows.{Gathered, Gathers, boundsOf}
-use Rattle.block_wand_intersection.specs.declared.window.Secondaries.{Secondaries}
+use Rattle.block_wand_intersection.specs.Windows.{Gathers, boundsOf}
 use Rattle.block_wand_intersection.proofs.Parts.{part-first, part-none, part-same}
 use Rattle.block_wand_intersection.proofs.Seats.{known-bound, known-cursor, known-only, known-others, known-ready, last-here, moved-only, scorer-is, still-kept, still-seated}
 

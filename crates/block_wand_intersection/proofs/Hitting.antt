@@ -4,7 +4,7 @@ use mathlib.Core.List.{List, [], _∷_}
 use mathlib.Core.Logic.{inl, inr}
 use mathlib.Core.Option.{Option, none, some}
 use mathlib.Core.Path.{ap, refl, subst, sym, _∙_, _≡_}
-use Prim.Native.Nat.{min, suc, zero, ℕ, _+_, _-_, _<_, _≤_}
+use Prim.Native.Nat.{min, suc, ℕ, _+_, _-_, _<_, _≤_}
 use native.Mathlib.Omega.{arith}
 use lib.Dec.{ltb}
 use lib.ListN.{getD}
@@ -20,8 +20,8 @@ use Rattle.route.specs.Report.{Report}
 use Rattle.route.specs.Postings.{Postings, docAt, start}
 use Rattle.route.specs.Cursor.{findIn}
 use Rattle.route.specs.Scorer.{Scorer}
-use Rattle.route.specs.Route.{Turn, quiet}
-use Rattle.route.specs.Intersection.{InterPlace, called, candidatesFrom, foundTurn, interBy, tryCandidate, window, within}
+use Rattle.route.specs.Route.{quiet}
+use Rattle.route.specs.Intersection.{InterPlace, called, candidatesFrom, foundTurn, tryCandidate, window, within}
 use Rattle.route.proofs.Cases.{on-test}
 use Rattle.route.proofs.ListLaws.{ListOk}
 use Rattle.route.proofs.Places.{docAt-in, docAt-out}
@@ -30,12 +30,11 @@ use Rattle.postings.proofs.Blocks.{decoded-sorted}
 use Rattle.postings.proofs.Moves.{find-is}
 use Rattle.reports.specs.Runs.{Quietly, goes, stays}
 use Rattle.term_scorer.specs.Rows.{cursorIn, postingsIn}
-use Rattle.term_scorer.specs.Slots.{Held, cursorAt, partAt}
+use Rattle.term_scorer.specs.Slots.{Held, partAt}
 use Rattle.block_wand_intersection.specs.Scorers.{InOrder, Query, Seated, StillKept, Unmoved, leaderIn, listIn, placeAt, secondariesIn, slotAt}
-use Rattle.block_wand_intersection.specs.Candidates.{HitBy, HitIn, Hits, Suffixes, Tries, candidateOf, candidatesLeft, interEnded, interTurn, leaderBlock, withinAt}
+use Rattle.block_wand_intersection.specs.Candidates.{Hits, Suffixes, Tries, candidateOf, candidatesLeft, interEnded, interTurn, leaderBlock, withinAt}
 use Rattle.block_wand_intersection.specs.declared.candidate.Candidate.{Candidate}
 use Rattle.block_wand_intersection.specs.declared.candidate.Candidate.the-variants.{Due, Passed}
-use Rattle.block_wand_intersection.specs.declared.hit.Hit.{Hit}
 use Rattle.block_wand_intersection.specs.declared.hit.Hit.the-variants.{At, Nowhere}
 use Rattle.block_wand_intersection.proofs.Seats.{list-right, unmoved, unmoved-trans}
 

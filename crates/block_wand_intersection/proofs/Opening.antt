@@ -17,8 +17,8 @@ use Rattle.route.proofs.Cases.{on-test}
 use Rattle.term_scorer.specs.Rows.{cursorIn, firstOf}
 use Rattle.term_scorer.specs.Slots.{Held, MovedSlot, cursorAt, held, lastAt, listAt}
 use Rattle.term_scorer.specs.Weights.{Bounded}
-use Rattle.block_wand_intersection.specs.Scorers.{BoundsKept, InOrder, Query, Ready, Seated, leaderIn, listIn, placeAt, scorerAt, secondariesIn, slotAt}
-use Rattle.block_wand_intersection.specs.Windows.{Gathered, Gathers, Opened, Skipped, Windowed, boundsOf}
+use Rattle.block_wand_intersection.specs.Scorers.{BoundsKept, InOrder, Query, Ready, Seated, leaderIn, listIn, scorerAt, secondariesIn, slotAt}
+use Rattle.block_wand_intersection.specs.Windows.{Gathered, Gathers, Windowed, boundsOf}
 use Rattle.block_wand_intersection.specs.declared.window.Secondaries.{Secondaries}
 use Rattle.block_wand_intersection.specs.declared.window.Window.the-variants.{Low, Open}
 use Rattle.block_wand_intersection.proofs.Seats.{known-cursor, known-only, known-ready, last-here, last-low, moved-only, others-stay, scorer-is, still-kept, still-seated}

@@ -2,7 +2,6 @@
 use mathlib.Core.List.{List, map, [], _∷_}
 use mathlib.Core.Path.{ap, refl, subst, sym, _∙_, _≡_}
 use Prim.Native.Nat.{suc, zero, ℕ, _+_, _<_, _≤_}
-use native.Mathlib.Nat.{add-zero}
 use native.Mathlib.Omega.{arith}
 use lib.ListN.{getD, length, length-take, take}
 use lib.Seq.{getD-take}
@@ -16,7 +15,7 @@ use Rattle.route.specs.Cursor.{Cursor, fresh}
 use Rattle.route.specs.Scorer.{Scorer, scorersFrom, sizeHint}
 use Rattle.route.specs.Intersection.{InterPlace, leaderRoute}
 use Rattle.route.specs.Skipping.{ofTwo}
-use Rattle.route.proofs.Lists.{Perm, all-perm, p-cons, p-nil, p-swap, p-trans, perm-length}
+use Rattle.route.proofs.Lists.{Perm, all-perm, p-cons, p-nil, p-swap, p-trans}
 use Rattle.route.proofs.Ordering.{sort-perm}
 use Rattle.decoded.specs.Lists.{listOf}
 use Rattle.ordering.proofs.Carried.{sort-map}
@@ -24,7 +23,7 @@ use Rattle.ordering.proofs.Places.{all-at, all-first}
 use Rattle.rule.specs.declared.Rule.{Rule}
 use Rattle.reports.specs.Runs.{Ran}
 use Rattle.term_scorer.specs.Rows.{partIn}
-use Rattle.term_scorer.specs.Slots.{Held, Sixteen}
+use Rattle.term_scorer.specs.Slots.{Held}
 use Rattle.block_wand_intersection.specs.Scorers.{InOrder, Query, Ready, WeightsIn, leaderIn, listIn, query, scorerAt, scorersBetween, secondariesIn}
 use Rattle.block_wand_intersection.specs.Sizes.{BySize, sizeIn, slotsFrom}
 use Rattle.block_wand_intersection.specs.Steps.{Runs, TopsIn}

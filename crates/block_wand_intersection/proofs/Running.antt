@@ -2,7 +2,7 @@
 use mathlib.Core.Bool.{false, true}
 use mathlib.Core.List.{List, [], map}
 use mathlib.Core.Path.{ap, refl, subst, sym, _∙_, _≡_}
-use Prim.Native.Nat.{suc, ℕ, _<_, _≤_}
+use Prim.Native.Nat.{ℕ, _≤_}
 use native.Mathlib.Omega.{arith}
 use lib.ListN.{drop, getD, length, take}
 use lib.Ieee.{Float, nan}
@@ -12,7 +12,6 @@ use Rattle.route.specs.F32.{f32}
 use Rattle.route.specs.Score.{sum}
 use Rattle.route.specs.Postings.{TERMINATED}
 use Rattle.route.specs.Scorer.{Scorer, docOf}
-use Rattle.route.specs.Route.{quiet}
 use Rattle.route.specs.Intersection.{InterPlace, early, leaderRoute, maxScoreSum, over, window}
 use Rattle.route.proofs.Places.{docAt-cap}
 use Rattle.postings.specs.Decoded.{doc-is, docIn}
@@ -23,7 +22,6 @@ use Rattle.reports.specs.Runs.{Going, Ran}
 use Rattle.reports.proofs.RunLaws.{run-begun, run-ends, run-quiet}
 use Rattle.term_scorer.specs.Slots.{Held, cursorAt, partAt}
 use Rattle.block_wand_intersection.specs.Scorers.{InOrder, Query, Ready, leaderIn, listIn, placeAt, secondariesIn, slotAt}
-use Rattle.block_wand_intersection.specs.Candidates.{interTurn}
 use Rattle.block_wand_intersection.specs.Walks.{Begun, WalkedBy, maxAlong, maxSum}
 use Rattle.block_wand_intersection.specs.Steps.{Ends, Runs, Steps, TopsIn}
 use Rattle.block_wand_intersection.specs.declared.walk.Stop.{Stop}

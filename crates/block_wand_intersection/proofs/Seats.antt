@@ -1,5 +1,4 @@
 -- One scorer moves in its slot: the others stay, and all are seated as before.
-use mathlib.Core.Bool.{Bool}
 use mathlib.Core.List.{List, []}
 use mathlib.Core.Path.{ap, refl, subst, sym, _∙_, _≡_}
 use Prim.Native.Nat.{ℕ, _<_, _≤_}
@@ -45,7 +44,7 @@ unmoved-trans u v = record { place = v .place ∙ u .place; docs = v .docs ∙ u
 other : {A : Type 0} (xss yss : List (List A)) (q r : ℕ) (row : List A) → yss ≡ set xss q row → (r ≡ q → ⊥) → getD yss r [] ≡ getD xss r []
 other xss yss q r row e n = ap (λ (z : List (List _)). getD z r []) e ∙ getD-set-other xss q r row [] n
 
-pub bound-same : (l : Postings Float) (c c′ : Cursor) → c′ .blk ≡ c .blk → c′ .loaded ≡ c .loaded → blockMax 128 f32 l c′ ≡ blockMax 128 f32 l c
+bound-same : (l : Postings Float) (c c′ : Cursor) → c′ .blk ≡ c .blk → c′ .loaded ≡ c .loaded → blockMax 128 f32 l c′ ≡ blockMax 128 f32 l c
 bound-same l c c′ e f = rw (e, f)
 
 -- a skip reader that moves alone moves its scorer

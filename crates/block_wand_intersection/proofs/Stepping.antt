@@ -1,28 +1,25 @@
 -- One window of a run: one turn of the route, and those of its candidates; and the list bounds summed.
-use mathlib.Core.Bool.{Bool, false, true}
+use mathlib.Core.Bool.{true}
 use mathlib.Core.List.{List, map}
 use mathlib.Core.Path.{ap, refl, subst, sym, _∙_, _≡_}
-use Prim.Native.Nat.{suc, ℕ, _+_, _<_, _≤_}
+use Prim.Native.Nat.{ℕ, _+_, _<_, _≤_}
 use native.Mathlib.Numerals.{add-one}
 use native.Mathlib.Omega.{arith}
-use lib.ListN.{drop, getD, length, take}
+use lib.ListN.{drop, getD, take}
 use lib.Ieee.{Float, nan}
 use Rattle.route.specs.F32.{f32}
 use Rattle.route.specs.Score.{sum, sumFrom}
-use Rattle.route.specs.Scorer.{Scorer}
 use Rattle.route.specs.Route.{quiet}
-use Rattle.route.specs.Intersection.{InterPlace, candidatesIn, isOver, leaderRoute, window, windowTurn, within}
+use Rattle.route.specs.Intersection.{candidatesIn, isOver, leaderRoute, window, windowTurn, within}
 use Rattle.rule.specs.declared.Rule.{Rule}
 use Rattle.rule.specs.declared.Threshold.{Threshold}
-use Rattle.reports.specs.Runs.{Going}
 use Rattle.reports.proofs.RunLaws.{run-ends, run-quiet}
 use Rattle.term_scorer.specs.Slots.{Held, Sixteen}
-use Rattle.block_wand_intersection.specs.Scorers.{InOrder, Query, Ready, leaderIn, listIn, placeAt, secondariesIn, slotAt}
+use Rattle.block_wand_intersection.specs.Scorers.{Query, leaderIn, listIn, placeAt, secondariesIn, slotAt}
 use Rattle.block_wand_intersection.specs.Windows.{Opened, Skipped, Turns, Windowed, boundsOf}
 use Rattle.block_wand_intersection.specs.Candidates.{Suffixes, leaderBlock}
-use Rattle.block_wand_intersection.specs.Walks.{Begun, WalkedBy, Walks, maxAlong}
-use Rattle.block_wand_intersection.specs.Steps.{Onward, Steps}
-use Rattle.block_wand_intersection.specs.declared.walk.Stop.{Stop}
+use Rattle.block_wand_intersection.specs.Walks.{Begun, Walks, maxAlong}
+use Rattle.block_wand_intersection.specs.Steps.{Steps}
 use Rattle.block_wand_intersection.specs.declared.window.Window.{Window}
 use Rattle.block_wand_intersection.specs.declared.window.Window.the-variants.{Low, Open, Over}
 use Rattle.block_wand_intersection.specs.declared.walk.Stop.the-variants.{Next, Over as Stopped}

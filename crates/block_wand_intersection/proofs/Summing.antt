@@ -4,7 +4,7 @@ use mathlib.Core.Logic.{inl, inr}
 use mathlib.Core.Path.{ap, sym, _∙_, _≡_}
 use Prim.Native.Nat.{suc, ℕ, _+_, _-_, _<_, _≤_}
 use native.Mathlib.Omega.{arith}
-use lib.ListN.{drop, getD, length, length-set, set, take}
+use lib.ListN.{drop, getD, length-set, set, take}
 use lib.Seq.{drop-drop, getD-set-other, getD-set-same}
 use lib.Ieee.{Float, nan}
 use Rattle.arrays.proofs.Order.{lt-or-ge}

@@ -1,7 +1,6 @@
 -- `walk`'s loop: the candidates before place i were offered, each report in its row.
 use mathlib.Core.Bool.{false, true}
 use mathlib.Core.List.{List, [], _++_, _∷_}
-use mathlib.Core.Option.{Option, some}
 use mathlib.Core.Path.{ap, refl, subst, sym, _∙_, _≡_}
 use Prim.Native.Nat.{min, suc, ℕ, _-_, _<_, _≤_}
 use native.Mathlib.Omega.{arith}
@@ -16,14 +15,14 @@ use Rattle.route.specs.Postings.{start}
 use Rattle.route.specs.Cursor.{findIn}
 use Rattle.route.specs.Scorer.{Scorer, maxScore}
 use Rattle.route.specs.Route.{Turn, quiet}
-use Rattle.route.specs.Intersection.{InterPlace, Stage, called, candidatesFrom, candidatesIn, leaderRoute, maxScoreSum, over, within}
+use Rattle.route.specs.Intersection.{InterPlace, called, candidatesFrom, candidatesIn, leaderRoute, maxScoreSum, over, within}
 use Rattle.route.proofs.Cases.{lt-of-ne}
 use Rattle.postings.proofs.Blocks.{decoded-sorted}
 use Rattle.postings.proofs.Moves.{find-is}
 use Rattle.rule.specs.declared.Rule.{Rule}
 use Rattle.rule.specs.declared.Threshold.{Threshold}
 use Rattle.reports.specs.Rows.{Reported, rowsOf}
-use Rattle.reports.specs.Runs.{Going, Ran}
+use Rattle.reports.specs.Runs.{Going}
 use Rattle.reports.proofs.RowLaws.{documents-long as same-documents, scores-long as same-scores}
 use Rattle.reports.proofs.RunLaws.{run-ends, run-full, run-quiet, run-quietly, run-reports}
 use Rattle.term_scorer.specs.Rows.{cursorIn}

@@ -10,7 +10,6 @@ use Rattle.notefile.specs.Header.{normReader}
 use Rattle.route.specs.F32.{f32}
 use Rattle.route.specs.Postings.{Postings}
 use Rattle.route.specs.Cursor.{fresh}
-use Rattle.route.specs.Route.{Route}
 use Rattle.route.specs.Plain.{intersection}
 use Rattle.route.specs.Skipping.{route}
 use Rattle.rule.specs.declared.Rule.{Rule}

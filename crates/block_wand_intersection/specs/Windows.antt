@@ -1,6 +1,6 @@
 -- A window: where the first of the present blocks ends, and what all of them may add.
 use mathlib.Core.Path.{_≡_}
-use mathlib.Core.Bool.{Bool, true}
+use mathlib.Core.Bool.{true}
 use mathlib.Core.List.{List, [], map}
 use Prim.Native.Nat.{ℕ, suc, _≤_, _<_}
 use lib.ListN.{drop, getD, take}
@@ -9,9 +9,9 @@ use Rattle.route.specs.F32.{f32}
 use Rattle.route.specs.Score.{sum}
 use Rattle.route.specs.Scorer.{Scorer, blockMaxScore, lastDocInBlock, seekBlock}
 use Rattle.route.specs.Union.{leastLastDoc}
-use Rattle.route.specs.Intersection.{InterPlace, allRemain, candidatesIn, isOver, window, windowTurn, within}
-use Rattle.term_scorer.specs.Slots.{Held, Sixteen, cursorAt, held}
-use Rattle.block_wand_intersection.specs.Scorers.{Query, Ready, leaderIn, listIn, placeAt, scorerAt, secondariesIn, slotAt}
+use Rattle.route.specs.Intersection.{allRemain, candidatesIn, isOver, window, windowTurn, within}
+use Rattle.term_scorer.specs.Slots.{Held, cursorAt, held}
+use Rattle.block_wand_intersection.specs.Scorers.{Query, Ready, leaderIn, listIn, placeAt, secondariesIn, slotAt}
 use Rattle.block_wand_intersection.specs.declared.window.Secondaries.{Secondaries}
 use Rattle.block_wand_intersection.specs.declared.window.Window.{Window}
 use Rattle.block_wand_intersection.specs.declared.window.Window.the-variants.{Low, Open, Over}

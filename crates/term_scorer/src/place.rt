@@ -1,7 +1,5 @@
 // A slot's two rows of numbers: those of its list's part, and those of its place. Structs are made of them at a block change only.
 ghost use mathlib.Core.Path.{_≡_};
-ghost use Prim.Native.Nat.{_<_};
-ghost use lib.ListN.{getD};
 ghost use Rattle.notefile.specs.Given.{BlocksIn};
 ghost use Rattle.term_scorer.specs.Rows.{partIn, partRow, PartRow, postingsIn, placeRow, Narrow, Standing};
 use notefile::part::Part;

@@ -2,7 +2,6 @@
 ghost use mathlib.Core.Path.{_≡_};
 ghost use Prim.Native.Nat.{_+_, _<_};
 ghost use lib.ListN.{getD};
-ghost use lib.Ieee.{nan};
 ghost use mathlib.Core.List.{[]};
 ghost use Rattle.notefile.specs.Header.{normReader};
 ghost use Rattle.route.specs.Cursor.{blockMax};
