@@ -1,0 +1,2 @@
+-- Laws of the interface: numbers, and answers as numbers.
+pub mod Numbers

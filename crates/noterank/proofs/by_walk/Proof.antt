@@ -1,0 +1,50 @@
+-- `by_walk` meets its contract: by the walk's number.
+use borrow.Author.Needs.{needs}
+use Rattle.noterank.proofs.Numbers.{skipping-by, plain-by}
+use Rattle.noterank.proofs.by_walk.Statement.{statement}
+use Rattle.noterank.proofs.by_walk.Tie as tie
+
+run-requires : tie.Need-run-requires
+run-requires c κs = search needs
+
+same-length : tie.Need-same-length
+same-length c = search needs
+
+same-length-2 : tie.Need-same-length-2
+same-length-2 c = search needs
+
+returns : tie.Need-returns
+returns c =
+    let r = c .before .before .before .before in
+    let t = r .before .before .before in
+    let a = t .before .before .before .before .before .before in
+    skipping-by (a .args .file .now) (a .args .query .now) (a .args .mode) (a .args .scoring) (a .args .rule) (a .args .script .now) (a .args .documents .now) (a .args .scores .now) (r .run .result) _ _ (a .args .walk) (t .if1 .taken) (r .run .ensures)
+
+plain-requires : tie.Need-plain-requires
+plain-requires c κs = search needs
+
+same-length-3 : tie.Need-same-length-3
+same-length-3 c = search needs
+
+same-length-4 : tie.Need-same-length-4
+same-length-4 c = search needs
+
+returns-2 : tie.Need-returns-2
+returns-2 c =
+    let r = c .before .before .before .before in
+    let t = r .before .before .before in
+    let a = t .before .before .before .before .before .before in
+    plain-by (a .args .file .now) (a .args .query .now) (a .args .mode) (a .args .scoring) (a .args .rule) (a .args .script .now) (a .args .documents .now) (a .args .scores .now) (r .plain .result) _ _ (a .args .walk) (t .if1 .left) (r .plain .ensures)
+
+pub by-walk-spec : {M : Type 1} → statement M
+by-walk-spec =
+    tie.close
+    (tie.spec
+    run-requires
+    same-length
+    same-length-2
+    returns
+    plain-requires
+    same-length-3
+    same-length-4
+    returns-2)

@@ -1,0 +1,67 @@
+-- `noterank_run` meets its contract: the numbers first, then the walk's run.
+use mathlib.Core.Path.{sym, _∙_}
+use borrow.Author.Needs.{needs}
+use Rattle.noterank.proofs.Numbers.{refused-ranked, walk-ranked}
+use Rattle.noterank.proofs.noterank_run.Statement.{statement}
+use Rattle.noterank.proofs.noterank_run.Tie as tie
+
+numbers-refusal-requires : tie.Need-numbers-refusal-requires
+numbers-refusal-requires c κs = search needs
+
+returns : tie.Need-returns
+returns c =
+    let n = c .before in
+    let a = n .before .before .before .before .before .before in
+    refused-ranked (a .args .file .now) (a .args .query .now) (a .args .walk) (a .args .mode) (a .args .scoring) (a .args .rule) (a .args .start) (a .args .k) (a .args .script .now) (a .args .documents .now) (a .args .scores .now) (n .numbers-refusal .ensures) (c .if1 .taken)
+
+mode-at-requires : tie.Need-mode-at-requires
+mode-at-requires c κs = search needs
+
+scoring-at-requires : tie.Need-scoring-at-requires
+scoring-at-requires c κs = search needs
+
+rule-at-requires : tie.Need-rule-at-requires
+rule-at-requires c κs = search needs
+
+by-walk-requires : tie.Need-by-walk-requires
+by-walk-requires c κs = search needs
+
+count-of-requires : tie.Need-count-of-requires
+count-of-requires c κs = search needs
+
+number-of-requires : tie.Need-number-of-requires
+number-of-requires c κs = search needs
+
+same-length : tie.Need-same-length
+same-length c = search needs
+
+same-length-2 : tie.Need-same-length-2
+same-length-2 c = search needs
+
+returns-2 : tie.Need-returns-2
+returns-2 c =
+    let k = c .before in
+    let b = k .before .before .before .before .before in
+    let u = b .before .before .before in
+    let s = u .before in
+    let m = s .before in
+    let e = m .before in
+    let n = e .before in
+    let a = n .before .before .before .before .before .before in
+    walk-ranked (a .args .file .now) (a .args .query .now) (a .args .walk) (a .args .mode) (a .args .scoring) (a .args .rule) (a .args .start) (a .args .k) (a .args .script .now) (m .mode-at .ensures) (s .scoring-at .ensures) (u .rule-at .ensures) (sym (n .numbers-refusal .ensures) ∙ e .if1 .left) (b .by-walk .result) (b .by-walk .ensures) (c .number-of .ensures) (k .count-of .ensures)
+
+pub noterank-run-spec : {M : Type 1} → statement M
+noterank-run-spec =
+    tie.close
+    (tie.spec
+    numbers-refusal-requires
+    returns
+    mode-at-requires
+    scoring-at-requires
+    rule-at-requires
+    by-walk-requires
+    count-of-requires
+    number-of-requires
+    same-length
+    same-length-2
+    returns-2)

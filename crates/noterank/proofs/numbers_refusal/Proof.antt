@@ -1,0 +1,55 @@
+-- `numbers_refusal` meets its contract: a request that no file lets through gives the file's refusal first.
+use mathlib.Core.Logic.{⊎-elim}
+use borrow.Author.Needs.{needs}
+use Rattle.noterank.proofs.Numbers.{all-numbers, rule-outside, walk-outside, first-fails, second-fails}
+use Rattle.noterank.proofs.numbers_refusal.Statement.{statement}
+use Rattle.noterank.proofs.numbers_refusal.Tie as tie
+
+returns : tie.Need-returns
+returns c =
+    let t = c .before in
+    let s = t .before in
+    let m = s .before in
+    let a = m .before .before .before .before in
+    all-numbers (a .args .file .now) (a .args .query .now) (a .args .walk) (a .args .mode) (a .args .scoring) (a .args .rule) (m .if1 .taken) (s .if2 .taken) (t .if3 .taken) (c .if4 .taken)
+
+mode-at-requires : tie.Need-mode-at-requires
+mode-at-requires c κs = search needs
+
+refusal-requires : tie.Need-refusal-requires
+refusal-requires c κs = search needs
+
+returns-2 : tie.Need-returns-2
+returns-2 c =
+    let k = c .before in
+    let j = k .before in
+    let s = j .before in
+    let m = s .before in
+    let a = m .before .before .before .before in
+    rule-outside (a .args .file .now) (a .args .query .now) (a .args .walk) (a .args .mode) (a .args .scoring) (a .args .rule) (m .if1 .taken) (s .if2 .taken)
+    (⊎-elim (λ w. second-fails (a .args .scoring) (a .args .rule) 1 (w .0 .taken) (w .1 .left)) (λ w. first-fails (a .args .scoring) (a .args .rule) 1 1 (w .left)) (j .if3 .came))
+    (k .mode-at .ensures) _ (a .args .script .now) (c .refusal .ensures)
+
+slice-aggregate-refusal : tie.Need-slice-aggregate-refusal
+slice-aggregate-refusal c = search needs
+
+refusal-requires-2 : tie.Need-refusal-requires-2
+refusal-requires-2 c κs = search needs
+
+returns-3 : tie.Need-returns-3
+returns-3 c =
+    let j = c .before .before in
+    let a = j .before .before .before .before in
+    walk-outside (a .args .file .now) (a .args .query .now) (a .args .walk) (a .args .mode) (a .args .scoring) (a .args .rule) (⊎-elim (λ w. second-fails (a .args .walk) (a .args .mode) 1 (w .0 .taken) (w .1 .left)) (λ w. first-fails (a .args .walk) (a .args .mode) 1 2 (w .left)) (j .if1 .came)) _ (a .args .script .now) (c .refusal2 .ensures)
+
+pub numbers-refusal-spec : {M : Type 1} → statement M
+numbers-refusal-spec =
+    tie.close
+    (tie.spec
+    returns
+    mode-at-requires
+    refusal-requires
+    returns-2
+    slice-aggregate-refusal
+    refusal-requires-2
+    returns-3)
