@@ -6,7 +6,7 @@ use notefile::part::Part;
 use postings::cursor::SegmentPostings;
 use postings::skip::SkipReader;
 
-// Where a place's numbers stand in its row. The last is 1 where the block's bound is known, else 0.
+// Where a place's numbers stand in its row. The last says whether the block's bound is known.
 pub const BLOCK: usize = 0;
 
 const BYTE_OFFSET: usize = 1;
@@ -22,6 +22,11 @@ const DECODED: usize = 5;
 pub const CUR: usize = 6;
 
 pub const BOUND: usize = 7;
+
+// Its two values.
+const UNKNOWN: usize = 0;
+
+pub const KNOWN: usize = 1;
 
 // Where a part's number of postings stands in its row.
 pub const COUNT: usize = 2;
@@ -75,7 +80,7 @@ pub fn keep(p: SegmentPostings, place: &mut [usize; 8])
         loaded,
         p.decoded,
         p.cur,
-        0,
+        UNKNOWN,
     ];
 }
 

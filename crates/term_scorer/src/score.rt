@@ -14,6 +14,7 @@ ghost use Rattle.term_scorer.specs.Slots.{cursorAt, held, listAt, partAt
 ghost use Rattle.term_scorer.specs.Weights.{Bounded, BoundKept, Weighed, WeighedIn};
 use crate::place::BOUND;
 use crate::place::CUR;
+use crate::place::KNOWN;
 use crate::place::part_of;
 use crate::place::postings_of;
 use bm25::Bm25Weight;
@@ -139,7 +140,7 @@ pub fn block_max(
     requires { ⌜ (q < 16) × (norms ≡ normReader (now file)) × SlotIn (now file) (now lists) (held (now places) (now docs) (now freqs)) q × Weighed (now lists) (now weights) (now caches) q × BoundKept scoring (now file) (now lists) (now places) (now bounds) q × Sixteen (now bounds) ⌝ }
     ensures { λ r. ⌜ Bounded scoring (now (file .entry)) (now (lists .entry)) q (now (places .entry)) (now (bounds .entry)) (now (places .exit)) (now (bounds .exit)) r ⌝ }
 {
-    if places[q][BOUND] == 1 {
+    if places[q][BOUND] == KNOWN {
         return bounds[q];
     }
     let bound = bound_of(
@@ -153,7 +154,7 @@ pub fn block_max(
         &docs[q],
         &freqs[q],
     );
-    places[q][BOUND] = 1;
+    places[q][BOUND] = KNOWN;
     bounds[q] = bound;
     bound
 }
