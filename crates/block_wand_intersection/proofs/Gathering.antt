@@ -17,14 +17,14 @@ use Rattle.route.specs.Postings.{Postings, TERMINATED, lastDoc, start}
 use Rattle.route.specs.Cursor.{Cursor, seekBlockIn, skipTo}
 use Rattle.route.specs.Scorer.{Scorer, blockMaxScore, lastDocInBlock, seekBlock}
 use Rattle.route.specs.Union.{leastLastDoc}
-use Rattle.route.specs.Intersection.{allRemain, hasRemainingDocs}
+use Rattle.route.specs.Intersection.{allRemain, hasRemainingDocs, seekBlockAll}
 use Rattle.route.proofs.Cases.{on-test}
 use Rattle.decoded.specs.Lists.{listOf}
 use Rattle.term_scorer.specs.Rows.{cursorIn}
 use Rattle.term_scorer.specs.Slots.{Held, MovedSlot, cursorAt, held, lastAt, listAt, partAt}
 use Rattle.term_scorer.specs.Weights.{Bounded}
 use Rattle.block_wand_intersection.specs.Scorers.{BoundsKept, InOrder, Query, Ready, Seated, listIn, scorerAt, scorersBetween, secondariesIn, slotAt}
-use Rattle.block_wand_intersection.specs.Windows.{Gathers, boundsOf}
+use Rattle.block_wand_intersection.specs.Windows.{Gathers, RunOut, boundsOf}
 use Rattle.block_wand_intersection.proofs.Parts.{part-first, part-none, part-same}
 use Rattle.block_wand_intersection.proofs.Seats.{known-bound, known-cursor, known-only, known-others, known-ready, last-here, moved-only, scorer-is, still-kept, still-seated}
 
@@ -94,6 +94,7 @@ module _ (x : Query) (d leaderEnd : ℕ) (h₀ : Held) where
     pub done : (k : ℕ) → 1 ≤ k → k < i → scorerAt x places (slotAt x k) ≡ sought (slotAt x k)
     pub rest : (k : ℕ) → i ≤ k → k < x .len → getD places (slotAt x k) [] ≡ getD (h₀ .places) (slotAt x k) []
     pub known : (k : ℕ) → 1 ≤ k → k < i → getD bounds (slotAt x k) nan ≡ soughtBound (slotAt x k)
+    pub has : (k : ℕ) → 1 ≤ k → k < i → hasRemainingDocs 128 (sought (slotAt x k)) ≡ true
     pub remain : allRemain 128 d (secondariesIn x (h₀ .places)) ≡ allRemain 128 d (scorersBetween x (h₀ .places) i (x .len))
     pub ends : leastOf leaderEnd (map soughtLast (slots 1)) ≡ leastOf end (map soughtLast (slots i))
     pub sums : sumFrom f32 (f32 .nil) (map soughtBound (slots 1)) ≡ sumFrom f32 total (map soughtBound (slots i))
@@ -113,6 +114,7 @@ module _ (x : Query) (d leaderEnd : ℕ) (h₀ : Held) where
       done = λ k u v. absurd (omega arith);
       rest = λ k u v. refl;
       known = λ k u v. absurd (omega arith);
+      has = λ k u v. absurd (omega arith);
       remain = refl;
       ends = refl;
       sums = refl;
@@ -149,6 +151,7 @@ module _ (x : Query) (d leaderEnd : ℕ) (h₀ : Held) where
               covers = G .covers;
               small = G .small;
             };
+            run-out = λ f. absurd (true≢false f);
           }
 
       module _ (hi : i < x .len) where
@@ -161,6 +164,9 @@ module _ (x : Query) (d leaderEnd : ℕ) (h₀ : Held) where
         hq : q < x .len
         hq = O .below i hi
 
+        apart : (k : ℕ) → k < x .len → (k ≡ i → ⊥) → slotAt x k ≡ q → ⊥
+        apart k hk n e = n (O .apart k i hk hi e)
+
         module _ {places₁ : List (List ℕ)} {doc : ℕ}
             (M : MovedSlot (x .file) (x .lists) q (λ k. seekBlockIn (listAt k (x .file) (x .lists) q) 128 d (cursorAt places q)) h (held places₁ (h₀ .docs) (h₀ .freqs)) doc) where
           pub seated-there : Seated x (held places₁ (h₀ .docs) (h₀ .freqs))
@@ -168,6 +174,9 @@ module _ (x : Query) (d leaderEnd : ℕ) (h₀ : Held) where
 
           pub kept-there : BoundsKept x places₁ bounds
           kept-there = still-kept x (G .ready .seated) hq M bounds (G .ready .kept)
+
+          row-there : (k : ℕ) → k < x .len → (k ≡ i → ⊥) → getD places₁ (slotAt x k) [] ≡ getD places (slotAt x k) []
+          row-there k hk n = moved-only x (G .ready .seated) hq M (slotAt x k) (apart k hk n) .place
 
           sought-is : scorerAt x places₁ q ≡ sought q
           sought-is = scorer-is x (G .ready .seated) hq M ∙ (let e = G .rest i (omega arith) hi in rw e)
@@ -183,10 +192,37 @@ module _ (x : Query) (d leaderEnd : ℕ) (h₀ : Held) where
             test-is : hasRemainingDocs 128 (sought q) ≡ more
             test-is = has-is ∙ sym em
 
-            pub runs-out : not more ≡ true → {places′ : List (List ℕ)} {bounds′ : List Float} → Gathers x d leaderEnd h₀ places′ bounds′ (record { remain = false; «window_end» = end; «block_max_sum» = total })
+            -- those before place i have gone on, the one there has and is out of documents, those behind it stand where they stood
+            module _ (out : hasRemainingDocs 128 (sought q) ≡ false) where
+              scorer-by-row : (places′ : List (List ℕ)) (k : ℕ) → getD places₁ (slotAt x k) [] ≡ getD places′ (slotAt x k) [] → scorerAt x places₁ (slotAt x k) ≡ scorerAt x places′ (slotAt x k)
+              scorer-by-row places′ k e = ap (λ (row : List ℕ). record { ord = slotAt x k; list = listIn x (slotAt x k); cur = cursorIn row }) e
+
+              behind : scorersBetween x places₁ (suc i) (x .len) ≡ scorersBetween x (h₀ .places) (suc i) (x .len)
+              behind =
+                  part-same (x .order) (scorerAt x (h₀ .places)) (scorerAt x places₁) (suc i) (x .len) long
+                  (λ k u v. scorer-by-row (h₀ .places) k (row-there k v (λ z. omega arith) ∙ G .rest k (omega arith) v))
+
+              from-place : (m k : ℕ) → k + m ≡ i → 1 ≤ k → scorersBetween x places₁ k (x .len) ≡ seekBlockAll 128 d (scorersBetween x (h₀ .places) k (x .len))
+              from-place zero k e l =
+                  let ki : k ≡ i = omega arith in
+                  rw ki
+                  (part-first (x .order) (scorerAt x places₁) i (x .len) hi long ∙ ap (λ (z : Scorer Float). z ∷ scorersBetween x places₁ (suc i) (x .len)) sought-is
+                  ∙ ap (λ (z : List (Scorer Float)). sought q ∷ z) behind ∙ sym (ap (seekBlockAll 128 d) here ∙ rw out))
+              from-place (suc m) k e l =
+                  part-first (x .order) (scorerAt x places₁) k (x .len) (omega arith) long
+                  ∙ ap (λ (z : Scorer Float). z ∷ scorersBetween x places₁ (suc k) (x .len)) (scorer-by-row places k (row-there k (omega arith) (λ z. omega arith)) ∙ G .done k l (omega arith))
+                  ∙ ap (λ (z : List (Scorer Float)). sought (slotAt x k) ∷ z) (from-place m (suc k) (omega arith) (omega arith))
+                  ∙ sym (ap (seekBlockAll 128 d) (part-first (x .order) (scorerAt x (h₀ .places)) k (x .len) (omega arith) long) ∙ (let t = G .has k l (omega arith) in rw t))
+
+              ran-out : RunOut x d h₀ places₁
+              ran-out =
+                  let l = G .low in
+                  record { leader = row-there 0 (O .leader) (λ z. omega arith) ∙ G .leader; secs-are = from-place (i - 1) 1 (omega arith) (omega arith) }
+
+            pub runs-out : not more ≡ true → Gathers x d leaderEnd h₀ places₁ bounds (record { remain = false; «window_end» = end; «block_max_sum» = total })
             runs-out e =
                 let t = test-is ∙ not-back more true e in
-                record { remain-is = sym (G .remain ∙ ap (allRemain 128 d) here ∙ rw t); gathered = λ f. absurd (true≢false (sym f)) }
+                record { remain-is = sym (G .remain ∙ ap (allRemain 128 d) here ∙ rw t); gathered = λ f. absurd (true≢false (sym f)); run-out = λ _. ran-out t }
 
             module _ (e : not more ≡ false) (cap : d ≤ 2147483647) {last end′ : ℕ} (el : last ≡ lastAt places₁ q) (ee : end′ ≡ min end last)
                 {places₂ : List (List ℕ)} {bounds₂ : List Float} {b : Float} (B : Bounded (x .scoring) (x .file) (x .lists) q places₁ bounds places₂ bounds₂ b) where
@@ -196,12 +232,9 @@ module _ (x : Query) (d leaderEnd : ℕ) (h₀ : Held) where
               bound-is : b ≡ soughtBound q
               bound-is = B .bound-is ∙ ap (blockMaxScore 128 f32) sought-is
 
-              apart : (k : ℕ) → k < x .len → (k ≡ i → ⊥) → slotAt x k ≡ q → ⊥
-              apart k hk n e = n (O .apart k i hk hi e)
-
               row-stays : (k : ℕ) → k < x .len → (k ≡ i → ⊥) → getD places₂ (slotAt x k) [] ≡ getD places (slotAt x k) []
               row-stays k hk n =
-                  known-only x (O .few) seated-there hq B (slotAt x k) (apart k hk n) .place ∙ moved-only x (G .ready .seated) hq M (slotAt x k) (apart k hk n) .place
+                  known-only x (O .few) seated-there hq B (slotAt x k) (apart k hk n) .place ∙ row-there k hk n
 
               scorer-there : scorerAt x places₂ q ≡ sought q
               scorer-there = ap (λ (c : Cursor). record { ord = q; list = listIn x q; cur = c }) (known-cursor x (O .few) seated-there hq B) ∙ sought-is
@@ -225,6 +258,7 @@ module _ (x : Query) (d leaderEnd : ℕ) (h₀ : Held) where
                         below-or-at v
                         (λ w. known-others x (O .few) seated-there hq B (G .ready .long) (slotAt x k) (apart k (omega arith) (λ z. omega arith)) ∙ G .known k u w)
                         (λ w. rw w (known-bound x (O .few) seated-there hq B (G .ready .long) ∙ ap (blockMaxScore 128 f32) sought-is));
+                    has = λ k u v. below-or-at v (λ w. G .has k u w) (λ w. rw w t);
                     remain = G .remain ∙ ap (allRemain 128 d) here ∙ rw (t, add-one);
                     ends =
                         G .ends ∙ ap (leastOf end) (part-first (x .order) soughtLast i (x .len) hi long)

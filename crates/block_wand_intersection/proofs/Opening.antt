@@ -4,6 +4,7 @@ use mathlib.Core.List.{List, map, [], _∷_}
 use mathlib.Core.Path.{ap, refl, sym, _∙_, _≡_}
 use Prim.Native.Nat.{suc, ℕ, _<_, _≤_}
 use native.Mathlib.Omega.{arith}
+use lib.ListN.{getD}
 use lib.Ieee.{Float}
 use borrow.Author.Tests.{lt-ltb}
 use Rattle.route.specs.F32.{f32}
@@ -12,7 +13,7 @@ use Rattle.route.specs.Postings.{TERMINATED}
 use Rattle.route.specs.Cursor.{Cursor, seekBlockIn}
 use Rattle.route.specs.Scorer.{Scorer, blockMaxScore, lastDocInBlock, seekBlock}
 use Rattle.route.specs.Union.{leastLastDoc}
-use Rattle.route.specs.Intersection.{InterPlace, Stage, allRemain, candidatesIn, hasRemainingDocs, isOver, loadLeader, seekBlockAll, window, windowTurn, within}
+use Rattle.route.specs.Intersection.{InterPlace, Stage, allRemain, candidatesIn, hasRemainingDocs, loadLeader, over, seekBlockAll, window, windowTurn, within}
 use Rattle.route.proofs.Cases.{on-test}
 use Rattle.term_scorer.specs.Rows.{cursorIn, firstOf}
 use Rattle.term_scorer.specs.Slots.{Held, MovedSlot, cursorAt, held, lastAt, listAt}
@@ -20,7 +21,7 @@ use Rattle.term_scorer.specs.Weights.{Bounded}
 use Rattle.block_wand_intersection.specs.Scorers.{BoundsKept, InOrder, Query, Ready, Seated, leaderIn, listIn, scorerAt, secondariesIn, slotAt}
 use Rattle.block_wand_intersection.specs.Windows.{Gathered, Gathers, Windowed, boundsOf}
 use Rattle.block_wand_intersection.specs.declared.window.Secondaries.{Secondaries}
-use Rattle.block_wand_intersection.specs.declared.window.Window.the-variants.{Low, Open}
+use Rattle.block_wand_intersection.specs.declared.window.Window.the-variants.{Low, Open, Over}
 use Rattle.block_wand_intersection.proofs.Seats.{known-cursor, known-only, known-ready, last-here, last-low, moved-only, others-stay, scorer-is, still-kept, still-seated}
 use Rattle.block_wand_intersection.proofs.Gathering.{not-back, seek-covers}
 
@@ -33,7 +34,7 @@ all-sought d (s ∷ ss) e =
 
 -- the route's turn, by what its tests show
 module _ (t : Float) (d : ℕ) (ld : Scorer Float) (ss : List (Scorer Float)) (live : d < TERMINATED) where
-  turn-over : allRemain 128 d ss ≡ false → isOver (windowTurn 128 f32 t d ld ss .stage) ≡ true
+  turn-over : allRemain 128 d ss ≡ false → windowTurn 128 f32 t d ld ss ≡ record { stage = over; doc = d; leader = seekBlock 128 d ld; secs = seekBlockAll 128 d ss }
   turn-over e = let l = lt-ltb d TERMINATED live in rw (l, e)
 
   module _ (all : allRemain 128 d ss ≡ true) {ss′ : List (Scorer Float)} (es : seekBlockAll 128 d ss ≡ ss′) {e : ℕ} (ee : leastLastDoc 128 (seekBlock 128 d ld) ss′ ≡ e)
@@ -94,11 +95,19 @@ module _ (x : Query) (O : InOrder x) (t : Float) (d : ℕ) (live : d < 214748364
 
       module _ {last : ℕ} (el : last ≡ lastAt places₂ q) {places₃ : List (List ℕ)} {bounds₃ : List Float} {r : Secondaries}
           (G : Gathers x d last (held places₂ (h .docs) (h .freqs)) places₃ bounds₃ r) where
+        leader-still : getD places₃ q [] ≡ getD places₂ q [] → leaderIn x places₃ ≡ seekBlock 128 d ld
+        leader-still e = ap (λ (row : List ℕ). record { ord = q; list = listIn x q; cur = cursorIn row }) e ∙ leader-there
+
         remain-is : allRemain 128 d ss ≡ r .remain
         remain-is = sym (G .remain-is ∙ ap (allRemain 128 d) secs-stay)
 
-        pub window-over : not (r .remain) ≡ true → isOver (windowTurn 128 f32 t d ld ss .stage) ≡ true
-        window-over e = turn-over t d ld ss live (remain-is ∙ not-back (r .remain) true e)
+        pub window-over : not (r .remain) ≡ true → Windowed x t d h Over (held places₃ (h .docs) (h .freqs)) bounds₃
+        window-over e =
+            let none = not-back (r .remain) true e in
+            let U = G .run-out none in
+            turn-over t d ld ss live (remain-is ∙ none)
+            ∙ ap (λ (z : Scorer Float). record { stage = over; doc = d; leader = z; secs = seekBlockAll 128 d ss }) (sym (leader-still (U .leader)))
+            ∙ ap (λ (z : List (Scorer Float)). record { stage = over; doc = d; leader = leaderIn x places₃; secs = z }) (sym (U .secs-are ∙ ap (seekBlockAll 128 d) secs-stay))
 
         module _ (e : not (r .remain) ≡ false) where
           pub gathered : Gathered x d last (held places₂ (h .docs) (h .freqs)) places₃ bounds₃ r
@@ -116,8 +125,8 @@ module _ (x : Query) (O : InOrder x) (t : Float) (d : ℕ) (live : d < 214748364
           secs-are : seekBlockAll 128 d ss ≡ secondariesIn x places₃
           secs-are = all-sought d ss all ∙ sym (gathered .secs-are ∙ ap (map (seekBlock 128 d)) secs-stay)
 
-          leader-still : leaderIn x places₃ ≡ seekBlock 128 d ld
-          leader-still = ap (λ (row : List ℕ). record { ord = q; list = listIn x q; cur = cursorIn row }) (gathered .leader) ∙ leader-there
+          leader-then : leaderIn x places₃ ≡ seekBlock 128 d ld
+          leader-then = leader-still (gathered .leader)
 
           last-is : lastDocInBlock 128 (seekBlock 128 d ld) ≡ last
           last-is = ap (lastDocInBlock 128) (sym leader-there) ∙ last-here (ready-there .seated) hq ∙ sym el
@@ -142,7 +151,7 @@ module _ (x : Query) (O : InOrder x) (t : Float) (d : ℕ) (live : d < 214748364
             ready = gathered .ready;
             turn-is =
                 turn-low t d ld ss live all secs-are ends sums (test-is ∙ a)
-                ∙ ap (λ (z : Scorer Float). record { stage = window; doc = suc end; leader = z; secs = secondariesIn x places₃ }) (sym leader-still);
+                ∙ ap (λ (z : Scorer Float). record { stage = window; doc = suc end; leader = z; secs = secondariesIn x places₃ }) (sym leader-then);
             covers = covers;
             small = small;
           }
@@ -156,10 +165,10 @@ module _ (x : Query) (O : InOrder x) (t : Float) (d : ℕ) (live : d < 214748364
             cursor-is = L .moved .cursor-is (x .scoring)
 
             block-is : seekBlock 128 d ld .cur .blk ≡ cursorAt (h′ .places) q .blk
-            block-is = ap (λ (z : Scorer Float). z .cur .blk) (sym leader-still) ∙ sym (ap (λ (c : Cursor). c .blk) cursor-is)
+            block-is = ap (λ (z : Scorer Float). z .cur .blk) (sym leader-then) ∙ sym (ap (λ (c : Cursor). c .blk) cursor-is)
 
             loaded-is : loadLeader 128 (seekBlock 128 d ld) ≡ leaderIn x (h′ .places)
-            loaded-is = ap (loadLeader 128) (sym leader-still) ∙ sym (scorer-is x S hq L)
+            loaded-is = ap (loadLeader 128) (sym leader-then) ∙ sym (scorer-is x S hq L)
 
             secs-then : secondariesIn x places₃ ≡ secondariesIn x (h′ .places)
             secs-then = sym (others-stay x O (O .leader) (moved-only x S hq L) 1 (x .len) (omega arith) (λ k u v e. omega arith))

@@ -13,7 +13,8 @@ use Rattle.route.specs.Lists.{All}
 use Rattle.route.specs.Ordering.{sortBy}
 use Rattle.route.specs.Cursor.{Cursor, fresh}
 use Rattle.route.specs.Scorer.{Scorer, scorersFrom, sizeHint}
-use Rattle.route.specs.Intersection.{InterPlace, leaderRoute}
+use Rattle.route.specs.Route.{Route}
+use Rattle.route.specs.Intersection.{leaderRoute}
 use Rattle.route.specs.Skipping.{ofTwo}
 use Rattle.route.proofs.Lists.{Perm, all-perm, p-cons, p-nil, p-swap, p-trans}
 use Rattle.route.proofs.Ordering.{sort-perm}
@@ -21,9 +22,9 @@ use Rattle.decoded.specs.Lists.{listOf}
 use Rattle.ordering.proofs.Carried.{sort-map}
 use Rattle.ordering.proofs.Places.{all-at, all-first}
 use Rattle.rule.specs.declared.Rule.{Rule}
-use Rattle.reports.specs.Runs.{Ran}
+use Rattle.reports.specs.Runs.{Rests}
 use Rattle.term_scorer.specs.Rows.{partIn}
-use Rattle.term_scorer.specs.Slots.{Held}
+use Rattle.term_scorer.specs.Slots.{Held, cursorAt}
 use Rattle.block_wand_intersection.specs.Scorers.{InOrder, Query, Ready, WeightsIn, leaderIn, listIn, query, scorerAt, scorersBetween, secondariesIn}
 use Rattle.block_wand_intersection.specs.Sizes.{BySize, sizeIn, slotsFrom}
 use Rattle.block_wand_intersection.specs.Steps.{Runs, TopsIn}
@@ -135,11 +136,10 @@ module _ {scoring : Scoring} {file : List ℕ} {lists : List (List ℕ)} {n : �
         sym sorted-is ∙ part-first order (scorerAt x (h .places)) 0 n (let t = F .two in omega arith) (let a = F .few in let b = S .long in omega arith)
         ∙ ap (λ (z : List (Scorer Float)). leaderIn x (h .places) ∷ z) secs-are
 
-    module _ (rule : Rule) (script : List Float) (documents : List ℕ) (scores : List Float) (r : Ended) (documents′ : List ℕ) (scores′ : List Float) where
-      abbrev Over : List (Scorer Float) → Type 0
-      Over l = (p : ofTwo 128 f32 l .Place) × Ran (ofTwo 128 f32 l) rule script documents scores (r .full) (r .count) documents′ scores′ p
+    module _ (rule : Rule) (script : List Float) (documents : List ℕ) (scores : List Float) (r : Ended) (places′ : List (List ℕ)) (documents′ : List ℕ) (scores′ : List Float) where
+      abbrev By : Route Float → Type 0
+      By W = Rests W rule script documents scores (cursorAt places′) (r .full) (r .count) documents′ scores′
 
-      pub answers : Runs x rule script (h .places) documents scores r documents′ scores′ → Answers scoring file lists n rule script documents scores r documents′ scores′
+      pub answers : Runs x rule script (h .places) documents scores r places′ documents′ scores′ → Answers scoring file lists n rule script documents scores r places′ documents′ scores′
       answers R =
-          let z = subst Over (sym split) (subst (λ (ss : List (Scorer Float)). (p : InterPlace Float) × Ran (leaderRoute 128 f32 (leaderIn x (h .places)) ss) rule script documents scores (r .full) (r .count) documents′ scores′ p) secs-are (R .returned)) in
-          record { place = z .0; ran = z .1 }
+          subst (λ (l : List (Scorer Float)). By (ofTwo 128 f32 l)) (sym split) (subst (λ (ss : List (Scorer Float)). By (leaderRoute 128 f32 (leaderIn x (h .places)) ss)) secs-are (R .returned))

@@ -18,8 +18,8 @@ use Rattle.postings.specs.Decoded.{doc-is, docIn}
 use Rattle.rule.specs.Follows.{Follows}
 use Rattle.rule.specs.declared.Rule.{Rule}
 use Rattle.rule.specs.declared.Threshold.{Threshold}
-use Rattle.reports.specs.Runs.{Going, Ran}
-use Rattle.reports.proofs.RunLaws.{run-begun, run-ends, run-quiet}
+use Rattle.reports.specs.Runs.{Going, Rests}
+use Rattle.reports.proofs.RunLaws.{rests-ended, run-begun, run-quiet}
 use Rattle.term_scorer.specs.Slots.{Held, cursorAt, partAt}
 use Rattle.block_wand_intersection.specs.Scorers.{InOrder, Query, Ready, leaderIn, listIn, placeAt, secondariesIn, slotAt}
 use Rattle.block_wand_intersection.specs.Walks.{Begun, WalkedBy, maxAlong, maxSum}
@@ -30,7 +30,7 @@ use Rattle.block_wand_intersection.specs.declared.run.Ended.{Ended}
 use Rattle.block_wand_intersection.specs.declared.run.Stepped.{Stepped}
 use Rattle.block_wand_intersection.proofs.Parts.{part-same}
 use Rattle.block_wand_intersection.proofs.Seats.{list-right}
-use Rattle.block_wand_intersection.proofs.Walking.{max-is}
+use Rattle.block_wand_intersection.proofs.Walking.{in-slots, max-is}
 
 -- ---- the loop
 
@@ -52,12 +52,13 @@ module _ (x : Query) (rule : Rule) (script : List Float) (t₀ : Threshold) (d�
 
   module _ {d : ℕ} {t : Threshold} {h : Held} {bounds : List Float} {documents : List ℕ} {scores : List Float} (N : Running d t h bounds documents scores) where
     -- no document is left
-    pub at-end : 2147483647 ≤ d → Ends x rule script t₀ d₀ h₀ documents₁ scores₁ (record { full = false; count = t .reports }) documents scores
+    pub at-end : 2147483647 ≤ d → Ends x rule script t₀ d₀ h₀ documents₁ scores₁ (record { full = false; count = t .reports }) (h .places) documents scores
     at-end k = record {
       returned = λ ld ss documents₀ scores₀ G.
           let W = leaderRoute 128 f32 ld ss in
           let l = le-ltb d TERMINATED k in
-          (placeAt x (h .places) over d, run-ends W rule script documents₀ scores₀ (run-quiet W rule script documents₀ scores₀ (N .goes ld ss documents₀ scores₀ G) (rw l)) refl);
+          rests-ended W rule script documents₀ scores₀
+          (run-quiet W rule script documents₀ scores₀ (N .goes ld ss documents₀ scores₀ G) {q = placeAt x (h .places) over d} (rw l)) (cursorAt (h .places)) refl (in-slots x (h .places));
     }
 
     module _ {r : Stepped} {h′ : Held} {bounds′ : List Float} {documents′ : List ℕ} {scores′ : List Float} (S : Steps x rule script t d h documents scores r h′ bounds′ documents′ scores′) where
@@ -74,10 +75,10 @@ module _ (x : Query) (rule : Rule) (script : List Float) (t₀ : Threshold) (d�
         goes = λ ld ss documents₀ scores₀ G. subst (By ld ss documents₀ scores₀) e (S .goes ld ss documents₀ scores₀ (N .goes ld ss documents₀ scores₀ G));
       }
 
-      pub runs-over : r .stop ≡ Over → Ends x rule script t₀ d₀ h₀ documents₁ scores₁ (record { full = false; count = r .threshold .reports }) documents′ scores′
+      pub runs-over : r .stop ≡ Over → Ends x rule script t₀ d₀ h₀ documents₁ scores₁ (record { full = false; count = r .threshold .reports }) (h′ .places) documents′ scores′
       runs-over e = record { returned = λ ld ss documents₀ scores₀ G. subst (By ld ss documents₀ scores₀) e (S .goes ld ss documents₀ scores₀ (N .goes ld ss documents₀ scores₀ G)) }
 
-      pub runs-full : r .stop ≡ Full → Ends x rule script t₀ d₀ h₀ documents₁ scores₁ (record { full = true; count = r .threshold .reports }) documents′ scores′
+      pub runs-full : r .stop ≡ Full → Ends x rule script t₀ d₀ h₀ documents₁ scores₁ (record { full = true; count = r .threshold .reports }) (h′ .places) documents′ scores′
       runs-full e = record { returned = λ ld ss documents₀ scores₀ G. subst (By ld ss documents₀ scores₀) e (S .goes ld ss documents₀ scores₀ (N .goes ld ss documents₀ scores₀ G)) }
 
 -- ---- from the early exit
@@ -108,12 +109,13 @@ module _ (x : Query) (O : InOrder x) (rule : Rule) (script : List Float) {t : Th
   first : Going (leaderRoute 128 f32 ld ss) rule script documents scores t documents scores (placeAt x (h .places) early (docOf ld))
   first = run-begun (leaderRoute 128 f32 ld ss) rule script documents scores F
 
-  pub runs-never : f32 .above top (t .now) ≡ false → Runs x rule script (h .places) documents scores (record { full = false; count = 0 }) documents scores
+  pub runs-never : f32 .above top (t .now) ≡ false → Runs x rule script (h .places) documents scores (record { full = false; count = 0 }) (h .places) documents scores
   runs-never a =
       let b = test-is ∙ a in
       let W = leaderRoute 128 f32 ld ss in
-      let z = run-ends W rule script documents scores (run-quiet W rule script documents scores first {q = placeAt x (h .places) over (docOf ld)} (rw b)) refl in
-      record { returned = (placeAt x (h .places) over (docOf ld), subst (λ (k : ℕ). Ran W rule script documents scores false k documents scores (placeAt x (h .places) over (docOf ld))) (F .reports-is) z) }
+      let z =
+      rests-ended W rule script documents scores (run-quiet W rule script documents scores first {q = placeAt x (h .places) over (docOf ld)} (rw b)) (cursorAt (h .places)) refl (in-slots x (h .places)) in
+      record { returned = subst (λ (k : ℕ). Rests W rule script documents scores (cursorAt (h .places)) false k documents scores) (F .reports-is) z }
 
   module _ {doc : ℕ} (ed : doc ≡ docIn (x .file) (partAt (x .lists) (slotAt x 0)) (cursorAt (h .places) (slotAt x 0) .at)) where
     doc-of : docOf ld ≡ doc
@@ -122,8 +124,8 @@ module _ (x : Query) (O : InOrder x) (rule : Rule) (script : List Float) {t : Th
     pub doc-low : doc ≤ 2147483648
     doc-low = omega (arith, doc-of, docAt-cap 128 (documentsOf (x .file)) (listIn x (slotAt x 0)) (list-right (R .seated) (O .below 0 (O .leader))) (cursorAt (h .places) (slotAt x 0) .at))
 
-    pub runs : f32 .above top (t .now) ≡ true → {r : Ended} {documents′ : List ℕ} {scores′ : List Float} → Ends x rule script t doc h documents scores r documents′ scores′
-        → Runs x rule script (h .places) documents scores r documents′ scores′
+    pub runs : f32 .above top (t .now) ≡ true → {r : Ended} {places′ : List (List ℕ)} {documents′ : List ℕ} {scores′ : List Float} → Ends x rule script t doc h documents scores r places′ documents′ scores′
+        → Runs x rule script (h .places) documents scores r places′ documents′ scores′
     runs a E =
         let b = test-is ∙ a in
         let W = leaderRoute 128 f32 ld ss in

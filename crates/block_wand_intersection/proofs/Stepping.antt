@@ -10,11 +10,11 @@ use lib.Ieee.{Float, nan}
 use Rattle.route.specs.F32.{f32}
 use Rattle.route.specs.Score.{sum, sumFrom}
 use Rattle.route.specs.Route.{quiet}
-use Rattle.route.specs.Intersection.{candidatesIn, isOver, leaderRoute, window, windowTurn, within}
+use Rattle.route.specs.Intersection.{candidatesIn, leaderRoute, over, window, windowTurn, within}
 use Rattle.rule.specs.declared.Rule.{Rule}
 use Rattle.rule.specs.declared.Threshold.{Threshold}
-use Rattle.reports.proofs.RunLaws.{run-ends, run-quiet}
-use Rattle.term_scorer.specs.Slots.{Held, Sixteen}
+use Rattle.reports.proofs.RunLaws.{rests-ended, run-quiet}
+use Rattle.term_scorer.specs.Slots.{Held, Sixteen, cursorAt}
 use Rattle.block_wand_intersection.specs.Scorers.{Query, leaderIn, listIn, placeAt, secondariesIn, slotAt}
 use Rattle.block_wand_intersection.specs.Windows.{Opened, Skipped, Turns, Windowed, boundsOf}
 use Rattle.block_wand_intersection.specs.Candidates.{Suffixes, leaderBlock}
@@ -25,6 +25,7 @@ use Rattle.block_wand_intersection.specs.declared.window.Window.the-vari
 use Rattle.block_wand_intersection.specs.declared.walk.Stop.the-variants.{Next, Over as Stopped}
 use Rattle.block_wand_intersection.specs.declared.walk.Walked.{Walked}
 use Rattle.block_wand_intersection.proofs.Parts.{part-first, part-none}
+use Rattle.block_wand_intersection.proofs.Walking.{in-slots}
 
 -- ---- the list bounds
 
@@ -60,7 +61,7 @@ module _ (x : Query) {t : Float} {d : ℕ} {h : Held} {r : Window} {h′ : Held}
   abbrev By : Window → Type 0
   By z = Windowed x t d h z h′ bounds′
 
-  over-of : r ≡ Over → isOver (windowTurn 128 f32 t d (leaderIn x (h .places)) (secondariesIn x (h .places)) .stage) ≡ true
+  over-of : r ≡ Over → windowTurn 128 f32 t d (leaderIn x (h .places)) (secondariesIn x (h .places)) ≡ placeAt x (h′ .places) over d
   over-of e = subst By e (T .turned)
 
   pub low-of : {end : ℕ} → r ≡ Low end → Skipped x t d h end h′ bounds′
@@ -79,7 +80,7 @@ module _ (x : Query) (rule : Rule) (script : List Float) {t : Threshold} {d : �
     onward = λ z. absurd (let w : _≡_ {A = ℕ} 0 1 = cc in omega arith);
     goes = λ ld ss documents₀ scores₀ G.
         let W = leaderRoute 128 f32 ld ss in
-        (windowTurn 128 f32 (t .now) d (leaderIn x (h .places)) (secondariesIn x (h .places)), run-ends W rule script documents₀ scores₀ (run-quiet W rule script documents₀ scores₀ G refl) (over-of x T e));
+        rests-ended W rule script documents₀ scores₀ (run-quiet W rule script documents₀ scores₀ G (ap quiet (over-of x T e))) (cursorAt (h′ .places)) refl (in-slots x (h′ .places));
   }
 
   pub step-low : {end : ℕ} → r ≡ Low end → Steps x rule script t d h documents scores (record { threshold = t; stop = Next; doc = end + 1 }) h′ bounds′ documents scores

@@ -8,25 +8,27 @@ use lib.ListN.{drop, getD, length, length-append, length-set, take}
 use lib.Ieee.{Float}
 use Rattle.block_search.specs.Search.{countBelow}
 use Rattle.block_search.proofs.Segments.{at-most}
+use Rattle.route.specs.Lists.{All}
 use Rattle.route.specs.F32.{f32}
 use Rattle.route.specs.Score.{sum}
 use Rattle.route.specs.Report.{Report}
 use Rattle.route.specs.Postings.{start}
 use Rattle.route.specs.Cursor.{findIn}
 use Rattle.route.specs.Scorer.{Scorer, maxScore}
-use Rattle.route.specs.Route.{Turn, quiet}
+use Rattle.route.specs.Route.{quiet}
 use Rattle.route.specs.Intersection.{InterPlace, called, candidatesFrom, candidatesIn, leaderRoute, maxScoreSum, over, within}
 use Rattle.route.proofs.Cases.{lt-of-ne}
+use Rattle.route.proofs.Lists.{all-each}
 use Rattle.postings.proofs.Blocks.{decoded-sorted}
 use Rattle.postings.proofs.Moves.{find-is}
 use Rattle.rule.specs.declared.Rule.{Rule}
 use Rattle.rule.specs.declared.Threshold.{Threshold}
 use Rattle.reports.specs.Rows.{Reported, rowsOf}
-use Rattle.reports.specs.Runs.{Going}
+use Rattle.reports.specs.Runs.{AtRest, Going}
 use Rattle.reports.proofs.RowLaws.{documents-long as same-documents, scores-long as same-scores}
-use Rattle.reports.proofs.RunLaws.{run-ends, run-full, run-quiet, run-quietly, run-reports}
+use Rattle.reports.proofs.RunLaws.{rests-ended, rests-full, run-quiet, run-quietly, run-reports}
 use Rattle.term_scorer.specs.Rows.{cursorIn}
-use Rattle.term_scorer.specs.Slots.{Held}
+use Rattle.term_scorer.specs.Slots.{Held, cursorAt}
 use Rattle.block_wand_intersection.specs.Scorers.{InOrder, Query, Seated, StillKept, Unmoved, leaderIn, listIn, placeAt, scorerAt, secondariesIn, slotAt}
 use Rattle.block_wand_intersection.specs.Candidates.{HitBy, HitIn, Hits, Suffixes, candidatesLeft, interTurn, leaderBlock, withinAt}
 use Rattle.block_wand_intersection.specs.Walks.{Begun, Walks, maxSum}
@@ -40,6 +42,10 @@ use Rattle.block_wand_intersection.proofs.Hitting.{decoded}
 -- the list bounds do not move
 pub max-is : (x : Query) (places : List (List ℕ)) → maxScoreSum f32 (leaderIn x places) (secondariesIn x places) ≡ maxSum x
 max-is x places = ap (λ (z : List Float). f32 .add (listIn x (slotAt x 0) .top) (sum f32 z)) (map-map maxScore (scorerAt x places) (drop 1 (take (x .len) (x .order))))
+
+-- leader and secondaries stand in their slots
+pub in-slots : (x : Query) (places : List (List ℕ)) → All (AtRest (cursorAt places)) (leaderIn x places ∷ secondariesIn x places)
+in-slots x places = (refl, all-each (AtRest (cursorAt places)) (scorerAt x places) (drop 1 (take (x .len) (x .order))) (λ q. refl))
 
 -- the exit behind a call, by what its test shows
 module _ (x : Query) (places : List (List ℕ)) (t : Float) (cs : List (Report Float)) (e : ℕ) (bs : List Float) (d : ℕ) where
@@ -149,7 +155,7 @@ module _ (x : Query) (rule : Rule) (script : List Float) (t₀ : Threshold) (d e
           scores-long = W .scores-long;
           goes = λ bs s ld ss documents₀ scores₀ G.
               let B = before-report bs s ld ss documents₀ scores₀ (rw et G) in
-              (at-hit bs s .0, run-full (leaderRoute 128 f32 ld ss) rule script documents₀ scores₀ B (ap (λ (z : Turn (InterPlace Float) Float). z .due) (at-hit bs s .2)) (en ∙ rows-first B));
+              rests-full (leaderRoute 128 f32 ld ss) rule script documents₀ scores₀ B (cursorAt (h′ .places)) (at-hit bs s .2) (en ∙ rows-first B) (in-slots x (h′ .places));
         }
 
         module _ (n : t .reports ≡ rowsOf documents₁ scores₁ → ⊥) {r′ : Threshold} {documents′ : List ℕ} {scores′ : List Float}
@@ -204,9 +210,8 @@ module _ (x : Query) (rule : Rule) (script : List Float) (t₀ : Threshold) (d e
               scores-long = scores-still ∙ W .scores-long;
               goes = λ bs s ld ss documents₀ scores₀ G.
                   let W′ = leaderRoute 128 f32 ld ss in
-                  let B = behind-report bs s ld ss documents₀ scores₀ (rw et G) in (
-                    placeAt x (h′ .places) over d,
-                    run-ends W′ rule script documents₀ scores₀
-                        (run-quiet W′ rule script documents₀ scores₀ B (goes-over x (h′ .places) (r′ .now) (candidatesLeft x b₀ ts e next) e bs d (ap (λ (z : Float). f32 .above z (r′ .now)) (sym em) ∙ a))) refl,
-                  );
+                  let B = behind-report bs s ld ss documents₀ scores₀ (rw et G) in
+                  rests-ended W′ rule script documents₀ scores₀
+                  (run-quiet W′ rule script documents₀ scores₀ B (goes-over x (h′ .places) (r′ .now) (candidatesLeft x b₀ ts e next) e bs d (ap (λ (z : Float). f32 .above z (r′ .now)) (sym em) ∙ a)))
+                  (cursorAt (h′ .places)) refl (in-slots x (h′ .places));
             }

@@ -13,7 +13,7 @@ use Rattle.route.specs.Cursor.{fresh}
 use Rattle.route.specs.Plain.{intersection}
 use Rattle.route.specs.Skipping.{route}
 use Rattle.rule.specs.declared.Rule.{Rule}
-use Rattle.reports.specs.Runs.{Ran}
+use Rattle.reports.specs.Runs.{Rests}
 use Rattle.term_scorer.specs.Slots.{Held, Sixteen, SlotIn, cursorAt, listAt}
 use Rattle.term_scorer.specs.Weights.{Weighed, BoundKept}
 use Rattle.block_wand_intersection.specs.Sizes.{slotsFrom}
@@ -36,7 +36,7 @@ pub record Fresh (scoring : Scoring) (file : List ℕ) (lists : List (List ℕ))
   pub top : (q : ℕ) → q < n → getD maxScores q nan ≡ listAt scoring file lists q .top
   pub first : (q : ℕ) → q < n → cursorAt (h .places) q ≡ fresh
 
--- the run is the route's over the query's lists
-pub record Answers (scoring : Scoring) (file : List ℕ) (lists : List (List ℕ)) (n : ℕ) (rule : Rule) (script : List Float) (documents : List ℕ) (scores : List Float) (r : Ended) (documents′ : List ℕ) (scores′ : List Float) : Type 0 where
-  pub place : route 128 f32 intersection (listsOf scoring file lists n) .Place
-  pub ran : Ran (route 128 f32 intersection (listsOf scoring file lists n)) rule script documents scores (r .full) (r .count) documents′ scores′ place
+-- the run is the route's over the query's lists, and so is where it leaves each slot
+abbrev pub Answers : Scoring → List ℕ → List (List ℕ) → ℕ → Rule → List Float → List ℕ → List Float → Ended → List (List ℕ) → List ℕ → List Float → Type 0
+Answers scoring file lists n rule script documents scores r places′ =
+    Rests (route 128 f32 intersection (listsOf scoring file lists n)) rule script documents scores (cursorAt places′) (r .full) (r .count)

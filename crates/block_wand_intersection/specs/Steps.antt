@@ -38,11 +38,11 @@ pub record Steps (x : Query) (rule : Rule) (script : List Float) (t : Threshold)
       → WalkedBy x (r .doc) ld ss rule script documents₀ scores₀ (r .stop) (r .threshold) h′ documents′ scores′
 
 -- a run that stands before the window from d on, whatever its beginning, has returned
-pub record Ends (x : Query) (rule : Rule) (script : List Float) (t : Threshold) (d : ℕ) (h : Held) (documents : List ℕ) (scores : List Float) (r : Ended) (documents′ : List ℕ) (scores′ : List Float) : Type 0 where
+pub record Ends (x : Query) (rule : Rule) (script : List Float) (t : Threshold) (d : ℕ) (h : Held) (documents : List ℕ) (scores : List Float) (r : Ended) (places′ : List (List ℕ)) (documents′ : List ℕ) (scores′ : List Float) : Type 0 where
   pub returned : (ld : Scorer Float) (ss : List (Scorer Float)) (documents₀ : List ℕ) (scores₀ : List Float)
       → Going (leaderRoute 128 f32 ld ss) rule script documents₀ scores₀ t documents scores (placeAt x (h .places) window d)
-      → Returned ld ss rule script documents₀ scores₀ (r .full) (r .count) documents′ scores′
+      → Returned ld ss rule script documents₀ scores₀ places′ (r .full) (r .count) documents′ scores′
 
 -- the run over scorers in their order, from its beginning
-pub record Runs (x : Query) (rule : Rule) (script : List Float) (places : List (List ℕ)) (documents : List ℕ) (scores : List Float) (r : Ended) (documents′ : List ℕ) (scores′ : List Float) : Type 0 where
-  pub returned : Returned (leaderIn x places) (secondariesIn x places) rule script documents scores (r .full) (r .count) documents′ scores′
+pub record Runs (x : Query) (rule : Rule) (script : List Float) (places : List (List ℕ)) (documents : List ℕ) (scores : List Float) (r : Ended) (places′ : List (List ℕ)) (documents′ : List ℕ) (scores′ : List Float) : Type 0 where
+  pub returned : Returned (leaderIn x places) (secondariesIn x places) rule script documents scores places′ (r .full) (r .count) documents′ scores′

@@ -8,13 +8,13 @@ use lib.Ieee.{Float, nan}
 use Rattle.route.specs.F32.{f32}
 use Rattle.route.specs.Score.{sum}
 use Rattle.route.specs.Scorer.{Scorer}
-use Rattle.route.specs.Intersection.{InterPlace, candidatesIn, leaderRoute, window, within}
+use Rattle.route.specs.Intersection.{candidatesIn, leaderRoute, window, within}
 use Rattle.rule.specs.Follows.{Follows}
 use Rattle.rule.specs.declared.Rule.{Rule}
 use Rattle.rule.specs.declared.Threshold.{Threshold}
 use Rattle.reports.specs.Rows.{rowsOf}
-use Rattle.reports.specs.Runs.{Going, Ran}
-use Rattle.term_scorer.specs.Slots.{Held}
+use Rattle.reports.specs.Runs.{Going, Rests}
+use Rattle.term_scorer.specs.Slots.{Held, cursorAt}
 use Rattle.block_wand_intersection.specs.Scorers.{Query, Seated, StillKept, listIn, placeAt, slotAt}
 use Rattle.block_wand_intersection.specs.Candidates.{Suffixes, leaderBlock}
 use Rattle.block_wand_intersection.specs.declared.walk.Stop.{Stop}
@@ -35,17 +35,16 @@ pub record Begun (rule : Rule) (script : List Float) (t : Threshold) (documents 
   pub follows : Follows rule script before t
   pub fits : t .reports ≤ rowsOf documents scores
 
--- a run that has returned, wherever its route stands
-abbrev pub Returned : Scorer Float → List (Scorer Float) → Rule → List Float → List ℕ → List Float → Bool → ℕ → List ℕ → List Float → Type 0
-Returned ld ss rule script documents₀ scores₀ full count documents scores =
-    (p : InterPlace Float) × Ran (leaderRoute 128 f32 ld ss) rule script documents₀ scores₀ full count documents scores p
+-- a run that has returned, its scorers where the slots' places say
+abbrev pub Returned : Scorer Float → List (Scorer Float) → Rule → List Float → List ℕ → List Float → List (List ℕ) → Bool → ℕ → List ℕ → List Float → Type 0
+Returned ld ss rule script documents₀ scores₀ places = Rests (leaderRoute 128 f32 ld ss) rule script documents₀ scores₀ (cursorAt places)
 
 -- behind a walk: at the next window, from document d on; or returned, at the early exit or with every row full
 abbrev pub WalkedBy : Query → ℕ → Scorer Float → List (Scorer Float) → Rule → List Float → List ℕ → List Float → Stop → Threshold → Held → List ℕ → List Float → Type 0
 WalkedBy x d ld ss rule script documents₀ scores₀ Next t h documents scores =
     Going (leaderRoute 128 f32 ld ss) rule script documents₀ scores₀ t documents scores (placeAt x (h .places) window d)
-WalkedBy x d ld ss rule script documents₀ scores₀ Over t h documents scores = Returned ld ss rule script documents₀ scores₀ false (t .reports) documents scores
-WalkedBy x d ld ss rule script documents₀ scores₀ Full t h documents scores = Returned ld ss rule script documents₀ scores₀ true (t .reports) documents scores
+WalkedBy x d ld ss rule script documents₀ scores₀ Over t h documents scores = Returned ld ss rule script documents₀ scores₀ (h .places) false (t .reports) documents scores
+WalkedBy x d ld ss rule script documents₀ scores₀ Full t h documents scores = Returned ld ss rule script documents₀ scores₀ (h .places) true (t .reports) documents scores
 
 -- what `walk` leaves: whatever the run's beginning, it goes on from the open window as the route does
 pub record Walks (x : Query) (rule : Rule) (script : List Float) (t : Threshold) (d e : ℕ) (total : Float) (suffix : List Float) (h : Held) (documents : List ℕ) (scores : List Float) (r : Walked) (h′ : Held) (documents′ : List ℕ) (scores′ : List Float) : Type 0 where

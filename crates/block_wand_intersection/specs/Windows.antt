@@ -1,6 +1,6 @@
 -- A window: where the first of the present blocks ends, and what all of them may add.
 use mathlib.Core.Path.{_≡_}
-use mathlib.Core.Bool.{true}
+use mathlib.Core.Bool.{false, true}
 use mathlib.Core.List.{List, [], map}
 use Prim.Native.Nat.{ℕ, suc, _≤_, _<_}
 use lib.ListN.{drop, getD, take}
@@ -9,7 +9,7 @@ use Rattle.route.specs.F32.{f32}
 use Rattle.route.specs.Score.{sum}
 use Rattle.route.specs.Scorer.{Scorer, blockMaxScore, lastDocInBlock, seekBlock}
 use Rattle.route.specs.Union.{leastLastDoc}
-use Rattle.route.specs.Intersection.{allRemain, candidatesIn, isOver, window, windowTurn, within}
+use Rattle.route.specs.Intersection.{allRemain, candidatesIn, over, seekBlockAll, window, windowTurn, within}
 use Rattle.term_scorer.specs.Slots.{Held, cursorAt, held}
 use Rattle.block_wand_intersection.specs.Scorers.{Query, Ready, leaderIn, listIn, placeAt, secondariesIn, slotAt}
 use Rattle.block_wand_intersection.specs.declared.window.Secondaries.{Secondaries}
@@ -34,10 +34,15 @@ pub record Gathered (x : Query) (d leaderEnd : ℕ) (h : Held) (places′ : List
   pub covers : d ≤ leaderEnd → d ≤ r .«window_end»
   pub small : r .«window_end» ≤ leaderEnd
 
--- or one of them has no document left
+-- or one of them has no document left: those up to it have gone on
+pub record RunOut (x : Query) (d : ℕ) (h : Held) (places′ : List (List ℕ)) : Type 0 where
+  pub leader : getD places′ (slotAt x 0) [] ≡ getD (h .places) (slotAt x 0) []
+  pub secs-are : secondariesIn x places′ ≡ seekBlockAll 128 d (secondariesIn x (h .places))
+
 pub record Gathers (x : Query) (d leaderEnd : ℕ) (h : Held) (places′ : List (List ℕ)) (bounds′ : List Float) (r : Secondaries) : Type 0 where
   pub remain-is : r .remain ≡ allRemain 128 d (secondariesIn x (h .places))
   pub gathered : r .remain ≡ true → Gathered x d leaderEnd h places′ bounds′ r
+  pub run-out : r .remain ≡ false → RunOut x d h places′
 
 -- the window up to document e is too low: the next begins behind it
 pub record Skipped (x : Query) (t : Float) (d : ℕ) (h : Held) (e : ℕ) (h′ : Held) (bounds′ : List Float) : Type 0 where
@@ -57,7 +62,7 @@ pub record Opened (x : Query) (t : Float) (d : ℕ) (h : Held) (e : ℕ) (total 
 
 -- one turn of `while doc < TERMINATED`, up to the candidates, by its answer
 abbrev pub Windowed : Query → Float → ℕ → Held → Window → Held → List Float → Type 0
-Windowed x t d h Over h′ bounds′ = isOver (windowTurn 128 f32 t d (leaderIn x (h .places)) (secondariesIn x (h .places)) .stage) ≡ true
+Windowed x t d h Over h′ bounds′ = windowTurn 128 f32 t d (leaderIn x (h .places)) (secondariesIn x (h .places)) ≡ placeAt x (h′ .places) over d
 Windowed x t d h (Low e) h′ bounds′ = Skipped x t d h e h′ bounds′
 Windowed x t d h (Open e total) h′ bounds′ = Opened x t d h e total h′ bounds′
 

@@ -36,7 +36,7 @@ pub fn block_wand_intersection(
     scores: &mut [f32],
 ) -> Ended
     requires { ⌜ Fresh scoring (now file) (now lists) n norms (now weights) (now caches) (now «max_scores») (held (now places) (now docs) (now freqs)) (now bounds) × Keeps rule ⌝ }
-    ensures { λ r. ⌜ Answers scoring (now (file .entry)) (now (lists .entry)) n rule (now (script .entry)) (now (documents .entry)) (now (scores .entry)) r (now (documents .exit)) (now (scores .exit)) ⌝ }
+    ensures { λ r. ⌜ Answers scoring (now (file .entry)) (now (lists .entry)) n rule (now (script .entry)) (now (documents .entry)) (now (scores .entry)) r (now (places .exit)) (now (documents .exit)) (now (scores .exit)) ⌝ }
 {
     let order = by_size(n, lists);
     run_in_order(

@@ -160,7 +160,7 @@ fn windows(
     scores: &mut [f32],
 ) -> Ended
     requires { ⌜ InOrder (query scoring (now file) (now lists) n (now order)) × WeightsIn (query scoring (now file) (now lists) n (now order)) norms (now weights) (now caches) × Ready (query scoring (now file) (now lists) n (now order)) (held (now places) (now docs) (now freqs)) (now bounds) × Keeps rule × Begun rule (now script) t (now documents) (now scores) × («max_sum» ≡ maxSum (query scoring (now file) (now lists) n (now order))) × («first_doc» ≤ 2147483648) ⌝ }
-    ensures { λ r. ⌜ Ends (query scoring (now (file .entry)) (now (lists .entry)) n (now (order .entry))) rule (now (script .entry)) t «first_doc» (held (now (places .entry)) (now (docs .entry)) (now (freqs .entry))) (now (documents .entry)) (now (scores .entry)) r (now (documents .exit)) (now (scores .exit)) ⌝ }
+    ensures { λ r. ⌜ Ends (query scoring (now (file .entry)) (now (lists .entry)) n (now (order .entry))) rule (now (script .entry)) t «first_doc» (held (now (places .entry)) (now (docs .entry)) (now (freqs .entry))) (now (documents .entry)) (now (scores .entry)) r (now (places .exit)) (now (documents .exit)) (now (scores .exit)) ⌝ }
 {
     let mut threshold = t;
     let mut doc = first_doc;
@@ -228,7 +228,7 @@ pub fn run_in_order(
     scores: &mut [f32],
 ) -> Ended
     requires { ⌜ InOrder (query scoring (now file) (now lists) n (now order)) × WeightsIn (query scoring (now file) (now lists) n (now order)) norms (now weights) (now caches) × Ready (query scoring (now file) (now lists) n (now order)) (held (now places) (now docs) (now freqs)) (now bounds) × Keeps rule × TopsIn (query scoring (now file) (now lists) n (now order)) (now «max_scores») ⌝ }
-    ensures { λ r. ⌜ Runs (query scoring (now (file .entry)) (now (lists .entry)) n (now (order .entry))) rule (now (script .entry)) (now (places .entry)) (now (documents .entry)) (now (scores .entry)) r (now (documents .exit)) (now (scores .exit)) ⌝ }
+    ensures { λ r. ⌜ Runs (query scoring (now (file .entry)) (now (lists .entry)) n (now (order .entry))) rule (now (script .entry)) (now (places .entry)) (now (documents .entry)) (now (scores .entry)) r (now (places .exit)) (now (documents .exit)) (now (scores .exit)) ⌝ }
 {
     let max_sum = max_score_sum(n, order, max_scores);
     let threshold = Threshold::new(rule);

@@ -25,7 +25,7 @@ use Rattle.route.proofs.Cases.{lt-of-ne, on-test}
 use Rattle.route.proofs.Lists.{all-append, all-imp, all-map}
 use Rattle.route.proofs.Places.{docAt-cap, docAt-lt, start-suc}
 use Rattle.route.proofs.Pivot.{AlignIs, align-is}
-use Rattle.route.proofs.UnionSafe.{SafeS, safe-seek}
+use Rattle.route.proofs.UnionSafe.{SafeS, inside, safe-seek}
 use Rattle.decoded.specs.Lists.{listOf}
 use Rattle.decoded.proofs.AcceptedLists.{list-ok}
 use Rattle.term_scorer.specs.Slots.{cursorAt, Held, listAt, partAt, Sixteen}
@@ -50,20 +50,6 @@ module _ {A : Type 0} where
   all-unmap : {B : Type 0} (P : B → Type 0) (g : A → B) (xs : List A) → All P (map g xs) → All (λ x. P (g x)) xs
   all-unmap P g [] a = tt
   all-unmap P g (x ∷ xs) a = (a .0, all-unmap P g xs (a .1))
-
--- on a document, the skip reader is in the list
-block-inside : (B N : ℕ) {S : Type 0} (s : Scorer S) → SafeS B N s → docOf s < TERMINATED → s .cur .blk ≤ s .list .full
-block-inside B N s k d =
-    let l = s .list in
-    let c = s .cur in
-    let i = docAt-lt B N l (k .ok) (c .at) d in
-    let il = k .safe .in-list in
-    on-test (leb (c .blk) (l .full)) (λ e. leb-true (c .blk) (l .full) e)
-    (λ e.
-    let w = leb-false (c .blk) (l .full) e in
-    let b : c .blk ≡ suc (l .full) = omega arith in
-    let st = ap (start B) (k .safe .edge b ∙ b) in
-    absurd (omega (arith, start-suc B (l .full), k .ok .tail, k .safe .lo)))
 
 full-is : (scoring : Scoring) (file : List ℕ) (lists : List (List ℕ)) (q : ℕ) → listAt scoring file lists q .full ≡ fullBlocks (partAt lists q)
 unfolding listOf
@@ -155,7 +141,7 @@ module _ (file : List ℕ) (lists : List (List ℕ)) (scoring : Scoring) (weight
       insides =
           let low = pivot-low in
           all-imp (λ s. OnIt (g s)) (Inside file lists h′) (take len l′)
-          (λ s o. rw (full-is scoring file lists (s .slot)) at (block-inside 128 (documents file) (g s) (o .1) (omega (arith, o .0)))) on-it
+          (λ s o. rw (full-is scoring file lists (s .slot)) at (inside 128 (documents file) (g s) (o .1) (omega (arith, o .0)) .0)) on-it
 
       -- what a hit leaves, at threshold t
       pub on-hit : (t : Float) (n : ℕ) {h″ : Held} {r : Step} → Hit file lists scoring t h′ l′ n len p h″ r → Pivoted file lists scoring t h l n before len p h″ r

@@ -2,7 +2,7 @@
 use mathlib.Core.Bool.{Bool, false, not, true}
 use mathlib.Core.List.{List, map, []}
 use mathlib.Core.Option.{some}
-use mathlib.Core.Path.{ap, subst, sym, _∙_, _≡_}
+use mathlib.Core.Path.{ap, refl, subst, sym, _∙_, _≡_}
 use Prim.Native.Nat.{ℕ, _≤_, _<_}
 use native.Mathlib.Omega.{arith}
 use lib.ListN.{length, take}
@@ -10,14 +10,14 @@ use lib.Ieee.{Float}
 use Rattle.bm25.specs.declared.Scoring.{Scoring}
 use Rattle.notefile.specs.Header.{documents}
 use Rattle.route.specs.Lists.{All}
-use Rattle.route.specs.Cursor.{fresh}
+use Rattle.route.specs.Cursor.{Cursor, fresh}
 use Rattle.route.specs.F32.{f32}
 use Rattle.route.specs.Ordering.{sortBy}
 use Rattle.route.specs.Scorer.{Scorer, docOf}
-use Rattle.route.specs.Route.{Route, Turn}
+use Rattle.route.specs.Route.{Route}
 use Rattle.route.specs.Union.{UnionPlace, goOn, pivotRoute, unionTurn}
 use Rattle.route.proofs.Cases.{lt-of-ne}
-use Rattle.route.proofs.Lists.{all-imp, all-map, all-perm}
+use Rattle.route.proofs.Lists.{all-each, all-imp, all-map, all-perm}
 use Rattle.route.proofs.Ordering.{sort-perm, sort-sorted}
 use Rattle.route.proofs.Cursor.{fresh-is}
 use Rattle.route.proofs.UnionSafe.{Safe, SafeS}
@@ -27,10 +27,10 @@ use Rattle.rule.specs.Follows.{Follows}
 use Rattle.rule.specs.declared.Rule.{Rule}
 use Rattle.rule.specs.declared.Threshold.{Threshold}
 use Rattle.reports.specs.Rows.{rowsOf, Reported}
-use Rattle.reports.specs.Runs.{Going, Ran}
-use Rattle.reports.proofs.RunLaws.{run-begun, run-ends, run-full, run-quiet, run-reports}
+use Rattle.reports.specs.Runs.{AtRest, Going, Rests}
+use Rattle.reports.proofs.RunLaws.{rests-ended, rests-full, run-begun, run-quiet, run-reports}
 use Rattle.reports.proofs.RowLaws.{count-is, documents-long, scores-long}
-use Rattle.term_scorer.specs.Slots.{Held, listAt, partAt, Sixteen}
+use Rattle.term_scorer.specs.Slots.{Held, cursorAt, listAt, partAt, Sixteen}
 use Rattle.ordering.specs.declared.TermScorer.{TermScorer}
 use Rattle.ordering.specs.Scorers.{byDoc}
 use Rattle.ordering.proofs.Kept.{kept-all, kept-apart, sort-kept}
@@ -65,6 +65,9 @@ module _ (file : List ℕ) (lists : List (List ℕ)) (maxScores : List Float) wh
     abbrev placeOf : Held → List TermScorer → ℕ → Bool → UnionPlace Float
     placeOf h alive len more = record { more = more; scorers = map (scorerAt file lists (T .scoring) (h .places)) (take len alive) }
 
+    in-slots : (h : Held) (l : List TermScorer) → All (AtRest (cursorAt (h .places))) (map (scorerAt file lists (T .scoring) (h .places)) l)
+    in-slots h l = all-each (AtRest (cursorAt (h .places))) (scorerAt file lists (T .scoring) (h .places)) l (λ s. refl)
+
     -- the scorers left are seated, and stand where the route does after the reports so far
     pub record Running (t : Threshold) (docs : List ℕ) (values : List Float) (h : Held) (bounds : List Float) (alive : List TermScorer) (len : ℕ) (more : Bool) : Type 0 where
       pub going : Going (routeFrom first) rule script documents₀ scores₀ t docs values (placeOf h alive len more)
@@ -75,8 +78,8 @@ module _ (file : List ℕ) (lists : List (List ℕ)) (maxScores : List Float) wh
 
     module _ {t : Threshold} {docs : List ℕ} {values : List Float} {h : Held} {bounds : List Float} {alive : List TermScorer} {len : ℕ} {more : Bool}
         (S : Running t docs values h bounds alive len more) where
-      pub ends : more ≡ false → Ran (routeFrom first) rule script documents₀ scores₀ false (t .reports) docs values (placeOf h alive len more)
-      ends e = run-ends (routeFrom first) rule script documents₀ scores₀ (S .going) (ap not e)
+      pub ends : more ≡ false → Rests (routeFrom first) rule script documents₀ scores₀ (cursorAt (h .places)) false (t .reports) docs values
+      ends e = rests-ended (routeFrom first) rule script documents₀ scores₀ (S .going) (cursorAt (h .places)) (ap not e) (in-slots h (take len alive))
 
       pub kept-on : more ≡ true → UnionKept 128 (documents file) f32 (goOn (map (scorerAt file lists (T .scoring) (h .places)) (take len alive)))
       kept-on e = subst (UnionKept 128 (documents file) f32) (ap (placeOf h alive len) e) (S .kept)
@@ -122,9 +125,9 @@ module _ (file : List ℕ) (lists : List (List ℕ)) (maxScores : List Float) wh
           }
 
           -- a report, and no row for it
-          pub filled : t .reports ≡ rowsOf documents₀ scores₀ → Ran (routeFrom first) rule script documents₀ scores₀ true (t .reports) docs values (placeOf h alive len more)
+          pub filled : t .reports ≡ rowsOf documents₀ scores₀ → Rests (routeFrom first) rule script documents₀ scores₀ (cursorAt (h′ .places)) true (t .reports) docs values
           filled k =
-              run-full (routeFrom first) rule script documents₀ scores₀ (S .going) (ap (λ (z : Turn (UnionPlace Float) Float). z .due) (turn-is ∙ due-is)) k
+              rests-full (routeFrom first) rule script documents₀ scores₀ (S .going) (cursorAt (h′ .places)) (turn-is ∙ due-is) k (in-slots h′ (take (r .len) (r .scorers)))
 
       -- the buffers are as long as they were, and the next row is in them unless all are written
       pub lengths : (length docs ≡ length documents₀) × (length values ≡ length scores₀) × (t .reports ≤ rowsOf documents₀ scores₀)
@@ -174,6 +177,7 @@ module _ (file : List ℕ) (lists : List (List ℕ)) (maxScores : List Float) wh
     }
 
     -- the loop's route is `block_wand`'s
-    pub whole-run : {full : Bool} {count : ℕ} {docs : List ℕ} {values : List Float} {p : UnionPlace Float} → Ran (routeFrom (map f (take n alive))) rule script documents₀ scores₀ full count docs values p
-        → (place : UnionPlace Float) × Ran (pivotRoute 128 f32 (map f l)) rule script documents₀ scores₀ full count docs values place
-    whole-run {full} {count} {docs} {values} {p} R = (p, subst (λ (ss : List (Scorer Float)). Ran (routeFrom ss) rule script documents₀ scores₀ full count docs values p) in-order R)
+    pub whole-run : {cursor : ℕ → Cursor} {full : Bool} {count : ℕ} {docs : List ℕ} {values : List Float}
+        → Rests (routeFrom (map f (take n alive))) rule script documents₀ scores₀ cursor full count docs values → Rests (pivotRoute 128 f32 (map f l)) rule script documents₀ scores₀ cursor full count docs values
+    whole-run {cursor} {full} {count} {docs} {values} R =
+        subst (λ (ss : List (Scorer Float)). Rests (routeFrom ss) rule script documents₀ scores₀ cursor full count docs values) in-order R

@@ -9,14 +9,13 @@ ghost use mathlib.Core.List.{map};
 ghost use mathlib.Core.Path.{_≡_};
 ghost use Prim.Native.Nat.{_≤_};
 ghost use lib.ListN.{take};
-ghost use lib.Ieee.{Float};
 ghost use Rattle.notefile.specs.Header.{normReader};
 ghost use Rattle.route.specs.Lists.{All};
 ghost use Rattle.route.specs.F32.{f32};
-ghost use Rattle.route.specs.Union.{UnionPlace, pivotRoute};
+ghost use Rattle.route.specs.Union.{pivotRoute};
 ghost use Rattle.rule.specs.Follows.{Keeps};
-ghost use Rattle.reports.specs.Runs.{Ran};
-ghost use Rattle.term_scorer.specs.Slots.{held};
+ghost use Rattle.reports.specs.Runs.{Rests};
+ghost use Rattle.term_scorer.specs.Slots.{cursorAt, held};
 ghost use Rattle.block_wand_union.specs.Seats.{Seated, scorerAt, terms};
 ghost use Rattle.block_wand_union.specs.Fresh.{Fresh};
 use crate::turn::turn;
@@ -35,7 +34,7 @@ pub struct Ended {
     pub count: usize,
 }
 
-// From scorers just opened to the route's end, or to a report for which no row is left. Then the route stands before the turn that found it.
+// From scorers just opened to the route's end, or to a report for which no row is left. Then the slots stand behind the turn that found it.
 pub fn block_wand(
     file: &[u8],
     norms: FieldNormReader,
@@ -56,7 +55,7 @@ pub fn block_wand(
     scores: &mut [f32],
 ) -> Ended
     requires { ⌜ (n ≤ 16) × (norms ≡ normReader (now file)) × Keeps rule × Seated (now file) (now lists) (terms scoring (now weights) (now caches) (now bounds)) (now «max_scores») (held (now places) (now docs) (now freqs)) (take n scorers) × All (Fresh (now places)) (take n scorers) ⌝ }
-    ensures { λ r. ⌜ ((place : UnionPlace Float) × Ran (pivotRoute 128 f32 (map (scorerAt (now (file .entry)) (now (lists .entry)) scoring (now (places .entry))) (take n scorers))) rule (now (script .entry)) (now (documents .entry)) (now (scores .entry)) (r .full) (r .count) (now (documents .exit)) (now (scores .exit)) place) ⌝ }
+    ensures { λ r. ⌜ Rests (pivotRoute 128 f32 (map (scorerAt (now (file .entry)) (now (lists .entry)) scoring (now (places .entry))) (take n scorers))) rule (now (script .entry)) (now (documents .entry)) (now (scores .entry)) (cursorAt (now (places .exit))) (r .full) (r .count) (now (documents .exit)) (now (scores .exit)) ⌝ }
 {
     let row_count = rows(documents, scores);
     let mut t = Threshold::new(rule);

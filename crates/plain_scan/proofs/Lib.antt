@@ -1,6 +1,5 @@
 -- Laws of the plain scan that belong to no one function.
 pub mod Heading
-pub mod Looking
 pub mod Sums
 pub mod Slots
 pub mod Taking

@@ -22,7 +22,7 @@ use Rattle.decoded.proofs.AcceptedLists.{list-ok}
 use Rattle.postings.specs.Decoded.{docIn, doc-is}
 use Rattle.term_scorer.specs.Slots.{Held, Sixteen, SlotIn, MovedSlot, partAt, listAt, cursorAt}
 use Rattle.plain_scan.specs.Heads.{StandsFrom}
-use Rattle.plain_scan.proofs.Looking.{score-none, score-at}
+use Rattle.route.proofs.Looking.{score-none, score-at}
 
 module _ (scoring : Scoring) (file : List ℕ) (lists : List (List ℕ)) where
   -- the laws of a slot's list

@@ -12,16 +12,18 @@ use Rattle.notefile.specs.Header.{normReader}
 use Rattle.notefile.specs.Parts.{partOf}
 use Rattle.notefile.specs.declared.part.Part.{Part}
 use Rattle.route.specs.F32.{f32}
+use Rattle.route.specs.Cursor.{Cursor}
 use Rattle.route.specs.Plain.{intersection}
 use Rattle.route.specs.Postings.{Postings}
 use Rattle.route.specs.Skipping.{route}
 use Rattle.decoded.specs.Lists.{listOf, postingsOf, queried}
 use Rattle.rule.specs.declared.Rule.{Rule}
+use Rattle.reports.specs.Runs.{Rests}
 use Rattle.term_scorer.specs.Slots.{Sixteen, listAt, partAt}
 use Rattle.ordering.specs.declared.TermScorer.{TermScorer}
 use Rattle.query.specs.Fresh.{Arrays, QueryOpened}
 use Rattle.block_wand_intersection.specs.Sizes.{slotsFrom}
-use Rattle.block_wand_intersection.specs.Queries.{Answers, Fresh, listsOf}
+use Rattle.block_wand_intersection.specs.Queries.{Fresh, listsOf}
 use Rattle.block_wand_intersection.specs.declared.run.Ended.{Ended}
 use Rattle.ranking.specs.Answers.{finished, Finished}
 use Rattle.ranking.specs.declared.outcome.Outcome.{Outcome}
@@ -58,7 +60,7 @@ module _ (scoring : Scoring) (file query : List ℕ) (a : Arrays) (scorers : Lis
     first = λ q h. Q .fresh-slots q h .cursor-is;
   }
 
-  pub intersected : (rule : Rule) (script : List Float) {documents₀ : List ℕ} {scores₀ : List Float} (r : Ended) {documents : List ℕ} {scores : List Float}
-      → Answers scoring file (a .lists) (length query) rule script documents₀ scores₀ r documents scores → {o : Outcome} → o ≡ finished (r .full) (r .count)
+  pub intersected : (rule : Rule) (script : List Float) {documents₀ : List ℕ} {scores₀ : List Float} (r : Ended) {cursor : ℕ → Cursor} {documents : List ℕ} {scores : List Float}
+      → Rests (route 128 f32 intersection (listsOf scoring file (a .lists) (length query))) rule script documents₀ scores₀ cursor (r .full) (r .count) documents scores → {o : Outcome} → o ≡ finished (r .full) (r .count)
       → Finished (route 128 f32 intersection (queried scoring file query)) rule script documents₀ scores₀ o documents scores
   intersected rule script r A e = same-route (ap (route 128 f32 intersection) lists-are) (record { full = r .full; count = r .count; place = A .place; outcome-is = e; ran = A .ran })

@@ -11,6 +11,8 @@ use lib.Ieee.{Float}
 use borrow.Author.Tests.{le-leb}
 use Rattle.route.specs.Report.{Report}
 use Rattle.route.specs.Rule.{limited}
+use Rattle.route.specs.Lists.{All}
+use Rattle.route.specs.Cursor.{Cursor}
 use Rattle.route.specs.Route.{Route, Turn, Ends, quiet}
 use Rattle.route.proofs.Cases.{on-test}
 use Rattle.route.proofs.Ending.{Nears, Stays, one-end}
@@ -20,7 +22,7 @@ use Rattle.rule.specs.declared.Rule.{Rule}
 use Rattle.rule.specs.declared.Threshold.{Threshold}
 use Rattle.route.specs.F32.{f32}
 use Rattle.reports.specs.Rows.{rowsOf, Reported}
-use Rattle.reports.specs.Runs.{callbackOf, runAfter, Quietly, stays, goes, Going, Ran, outcomeOf}
+use Rattle.reports.specs.Runs.{callbackOf, runAfter, Quietly, stays, goes, AtRest, Going, Ran, Rests, outcomeOf}
 use Rattle.reports.proofs.RowLaws.{begun, threshold-is, count-is, one-more}
 
 -- quiet turns keep what a route keeps, and bring it no farther from its end
@@ -81,6 +83,24 @@ module _ (W : Route Float) (rule : Rule) (script : List Float) (documents₀ : L
       count-is = count-is (G .kept);
       stopped = (sym (count-is (G .kept)) ∙ h, (x, ap (λ (z : Turn (W .Place) Float). z .due) turn-is ∙ e));
     }
+
+    -- either end, with the scorers in their slots
+    module _ (cursor : ℕ → Cursor) where
+      abbrev Slots : W .Place → Type 0
+      Slots z = All (AtRest cursor) (W .scorers z)
+
+      pub rests-ended : W .ended p ≡ true → Slots p → Rests W rule script documents₀ scores₀ cursor false (t .reports) documents values
+      unfolding run-ends
+      rests-ended e a = record { place = p; ran = run-ends e; at-rest = subst Slots (sym (G .place-is)) a }
+
+      pub rests-full : {q : W .Place} {x : Report Float} → W .turn (t .now) p ≡ record { next = q; due = some x } → t .reports ≡ rowsOf documents₀ scores₀ → Slots q
+          → Rests W rule script documents₀ scores₀ cursor true (t .reports) documents values
+      unfolding run-full
+      rests-full e h a = record {
+        place = p;
+        ran = run-full (ap (λ (z : Turn (W .Place) Float). z .due) e) h;
+        at-rest = subst Slots (sym (ap (λ (z : Turn (W .Place) Float). z .next) (turn-is ∙ e))) a;
+      }
 
   -- a stretch of turns without a report
   pub run-quietly : {t : Threshold} {documents : List ℕ} {values : List Float} {p q : W .Place} → Going W rule script documents₀ scores₀ t documents values p

@@ -9,6 +9,9 @@ use lib.Ieee.{Float}
 use Rattle.route.specs.F32.{f32}
 use Rattle.route.specs.Report.{Report, Callback}
 use Rattle.route.specs.Rule.{Outcome, ruled}
+use Rattle.route.specs.Lists.{All}
+use Rattle.route.specs.Cursor.{Cursor}
+use Rattle.route.specs.Scorer.{Scorer}
 use Rattle.route.specs.Route.{Route, Run, Turn, quiet, after}
 use Rattle.rule.specs.Follows.{ruleOf, startOf}
 use Rattle.rule.specs.declared.Rule.{Rule}
@@ -24,6 +27,10 @@ pub data Quietly {P : Type 0} (turn : Float → P → Turn P Float) (ended : P �
   stays : {p : P} → Quietly turn ended t p p
   goes : {p q r : P} → Quietly turn ended t p q → ended q ≡ false → turn t q ≡ quiet r → Quietly turn ended t p r
 
+-- a scorer of the route stands on the cursor of its slot
+abbrev pub AtRest : (ℕ → Cursor) → Scorer Float → Type 0
+AtRest cursor s = s .cur ≡ cursor (s .ord)
+
 module _ (W : Route Float) (rule : Rule) (script : List Float) where
   -- the route after a number of steps, from no report
   abbrev pub runAfter : ℕ → Run (W .Place) (List (Report Float))
@@ -33,6 +40,11 @@ module _ (W : Route Float) (rule : Rule) (script : List Float) where
   abbrev pub Stopped : Bool → ℕ → Run (W .Place) (List (Report Float)) → Type 0
   Stopped false n u = W .ended (u .place) ≡ true
   Stopped true n u = (length (u .state) ≡ n) × ((x : Report Float) × (W .turn (callbackOf rule script .threshold (u .state)) (u .place) .due ≡ some x))
+
+  -- where the scorers stand as it stops: where the route does, or, with every row full, where the turn leads whose report has none
+  abbrev pub leftAt : Bool → Run (W .Place) (List (Report Float)) → W .Place
+  leftAt false u = u .place
+  leftAt true u = W .turn (callbackOf rule script .threshold (u .state)) (u .place) .next
 
   module _ (documents₀ : List ℕ) (scores₀ : List Float) where
     -- a run on its way: some steps of the route lead to `place`, and rows and threshold are what they leave
@@ -48,6 +60,12 @@ module _ (W : Route Float) (rule : Rule) (script : List Float) where
       pub written : Written (runAfter steps .state) documents₀ scores₀ documents values
       pub count-is : count ≡ length (runAfter steps .state)
       pub stopped : Stopped full (rowsOf documents₀ scores₀) (runAfter steps)
+
+    -- and each of the route's scorers has its block, its place and whether it is loaded by its slot's cursor
+    pub record Rests (cursor : ℕ → Cursor) (full : Bool) (count : ℕ) (documents : List ℕ) (values : List Float) : Type 0 where
+      pub place : W .Place
+      pub ran : Ran full count documents values place
+      pub at-rest : All (AtRest cursor) (W .scorers (leftAt full (runAfter (ran .steps))))
 
 -- 01's table: 12 where the rows were full, else 0, with the reports
 abbrev pub outcomeOf : Bool → List (Report Float) → Outcome Float

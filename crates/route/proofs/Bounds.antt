@@ -1,4 +1,4 @@
--- What a list's bounds cover, and the score of a document.
+-- What a list's bounds cover.
 use mathlib.Core.Bool.{cond}
 use mathlib.Core.Option.{Option, none, some}
 use mathlib.Core.Path.{ap, refl, _∙_, _≡_}
@@ -92,37 +92,6 @@ module _ (B : ℕ) {O : Ops} {L : Ordered O} {P : O .S → Type 0} (vs : Values 
         let s = ap (start B) g in
         by-test (λ z. L .rank (l .score i) ≤ L .rank z) (c .loaded) (cond (eqb (c .blk) (l .full)) (tailMax B O l) (O .nil)) (l .top)
         (λ _. rw (eq-eqb (c .blk) (l .full) g) (tail-covers i (omega arith) b)) (λ _. v .top-covers i b))
-
-    -- ---- a document's score
-
-    look-all : (Q : Option (O .S) → Type 0) (d n p : ℕ) → p + n ≤ l .len → Q none
-        → ((i : ℕ) → p ≤ i → i < l .len → l .doc i ≡ d → Q (some (l .score i))) → Q (lookFrom l d n p)
-    look-all Q d zero p h a f = a
-    look-all Q d (suc n) p h a f =
-        by-test Q (eqb (l .doc p) d) (some (l .score p)) (lookFrom l d n (suc p))
-        (λ e. f p (omega arith) (omega arith) (eqb-true (l .doc p) d e))
-        (λ e. look-all Q d n (suc p) (omega arith) a (λ i s t u. f i (omega arith) t u))
-
-    pub score-all : (Q : Option (O .S) → Type 0) (d : ℕ) → Q none → ((i : ℕ) → i < l .len → l .doc i ≡ d → Q (some (l .score i))) → Q (scoreOf l d)
-    score-all Q d a f = look-all Q d (l .len) 0 (omega arith) a (λ i s t u. f i t u)
-
-    look-at : (d n p i : ℕ) → p + n ≤ l .len → p ≤ i → i < p + n → l .doc i ≡ d → lookFrom l d n p ≡ some (l .score i)
-    look-at d zero p i h a b e = absurd (omega arith)
-    look-at d (suc n) p i h a b e =
-        by-test (λ z. z ≡ some (l .score i)) (eqb (l .doc p) d) (some (l .score p)) (lookFrom l d n (suc p))
-        (λ t.
-        let u = eqb-true (l .doc p) d t in
-        let x = doc-inj B N l k i p (omega arith) (omega arith) (omega arith) in
-        let y : p ≡ i = omega arith in
-        ap (λ z. some (l .score z)) y)
-        (λ t.
-        look-at d n (suc p) i (omega arith)
-        (on-test (ltb p i) (λ g. ltb-true p i g)
-        (λ g. let w = ltb-false p i g in let y : p ≡ i = omega arith in absurd (eqb-false (l .doc p) d t (ap (l .doc) y ∙ e))))
-        (omega arith) e)
-
-    pub score-at : (i : ℕ) → i < l .len → scoreOf l (l .doc i) ≡ some (l .score i)
-    score-at i h = look-at (l .doc i) (l .len) 0 i (omega arith) (omega arith) (omega arith) refl
 
     max-below : (n p : ℕ) (acc : O .S) (m : ℕ) → p + n ≤ l .len → P acc → L .rank acc ≤ m → ((i : ℕ) → i < l .len → L .rank (l .score i) ≤ m)
         → L .rank (maxFrom B O l n p acc) ≤ m

@@ -19,7 +19,7 @@ use Rattle.route.proofs.Lists.{Perm, all-append, all-map, perm-middle, 
 use Rattle.route.proofs.Order.{LowOf, Ordered, above-false}
 use Rattle.route.proofs.ListLaws.{Accepted}
 use Rattle.route.proofs.Places.{docAt-in, docAt-lt}
-use Rattle.route.proofs.Bounds.{score-at}
+use Rattle.route.proofs.Looking.{score-at}
 use Rattle.route.proofs.Sums.{Dom, Exact, Sums, d-nil, dom-append, dom-opt, dom-refl, sum-snoc}
 use Rattle.route.proofs.Scorers.{Sc, absent, block-low, blocks-ok, lists, present-length, present-ok, sc-seek, sc-up, seek-lands}
 
@@ -129,7 +129,7 @@ module _ (B N : ℕ) {O : Ops} {L : Ordered O} {M : ℕ} {Z : Sums O L M} (E : E
       let i = docAt-lt B N (s .list) (g .ok) (s′ .cur .at) (omega arith) in
       let di : s .list .doc (s′ .cur .at) ≡ c = sym (docAt-in B N (s .list) (g .ok) (s′ .cur .at) i) ∙ at in
       let so : scoreOf (s .list) c ≡ some sc = subst (λ z. scoreOf (s .list) z ≡ some sc) di
-      (score-at B (Z .values) N (s .list) (g .ok) (g .vals) (s′ .cur .at) i) in
+      (score-at (s .list) B N (g .ok) (s .list .doc (s′ .cur .at)) (s′ .cur .at) i refl) in
       let oks = g .vals .score-ok (s′ .cur .at) i in
       let ok′ = all-append (Z .Ok) done (sc ∷ []) ok (oks, tt) in
       let bd = bnd-dom c (lists ss) bs (b .2) in

@@ -20,7 +20,7 @@ use Rattle.route.proofs.Lists.{Perm, all-map, all-perm, perm-length}
 use Rattle.route.proofs.Order.{LowOf, Ordered}
 use Rattle.route.proofs.ListLaws.{Accepted}
 use Rattle.route.proofs.Places.{doc-le}
-use Rattle.route.proofs.Bounds.{score-all}
+use Rattle.route.proofs.Looking.{score-all}
 use Rattle.route.proofs.Sums.{Dom, Exact, Sums, d-keep, d-nil, dom-opt, total-eq}
 use Rattle.route.proofs.Scorers.{QueryOk, lists, present-length, present-ok, present-perm}
 use Rattle.route.proofs.Hits.{Every, e-all, e-not, every}
@@ -84,7 +84,7 @@ module _ {B N : ℕ} {O : Ops} {L : Ordered O} {M : ℕ} {Z : Sums O L M} (E : E
       dom-of : (ls : List Pl) → All (Accepted B N O L (Z .Ok)) ls → Dom O L (present d ls) (tps ls)
       dom-of [] a = d-nil
       dom-of (l ∷ ls) a = dom-opt O L (scoreOf l d) (l .top)
-          (score-all B (Z .values) N l (a .0 .ok) (a .0 .vals) (λ o. LowOf O L o (l .top)) d tt (λ i m e. a .0 .vals .top-covers i m))
+          (score-all l (λ o. LowOf O L o (l .top)) d tt (λ i m e. a .0 .vals .top-covers i m))
           (dom-of ls (a .1))
 
   pub top-sum : (ld : T) (ss : List T) → ld .list ≡ ll → lists ss ≡ sl → maxScoreSum O ld ss ≡ sum O (tps (ll ∷ sl))
@@ -121,7 +121,7 @@ module _ {B N : ℕ} {O : Ops} {L : Ordered O} {M : ℕ} {Z : Sums O L M} (E : E
     pub range-low : (d : ℕ) (t : O .S) → tr ≤ L .rank t → Bnd B N E d sl bs → ((j : ℕ) → j < ll .len → ll .doc j ≡ d → LowC j)
         → LowOf O L (hit O intersection q d) t
     range-low d t h b f =
-        (score-all B (Z .values) N ll (parts-ok .0 .ok) (parts-ok .0 .vals) (λ o. scoreOf ll d ≡ o → LowOf O L (hit O intersection q d) t) d
+        (score-all ll (λ o. scoreOf ll d ≡ o → LowOf O L (hit O intersection q d) t) d
         (λ u. all-low d t (λ n.
         let p = present-length d sl in
         let z : length (scoresAt d) ≡ length (present d sl) = ap (λ o. length (optList o ++ present d sl)) u in

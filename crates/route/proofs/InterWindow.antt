@@ -20,7 +20,7 @@ use Rattle.route.proofs.Order.{Ordered}
 use Rattle.route.proofs.ListLaws.{ListOk}
 use Rattle.route.proofs.Places.{docAt-le}
 use Rattle.route.proofs.Cursor.{find-up, first-wf}
-use Rattle.route.proofs.Bounds.{score-all}
+use Rattle.route.proofs.Looking.{score-all}
 use Rattle.route.proofs.Sums.{Sums}
 use Rattle.route.proofs.Scorers.{Sc, lists, present-length, sc-shallow}
 
@@ -90,7 +90,7 @@ module _ (B N : ℕ) {O : Ops} {L : Ordered O} {M : ℕ} (Z : Sums O L M) where
       go false u w k =
           let out = ltb-false (start B (seekBlock B d s .cur .blk)) (s .list .len) u in
           let no : scoreOf (s .list) c ≡ none =
-          score-all B (Z .values) N (s .list) (a .0 .good .ok) (a .0 .good .vals) (λ o. o ≡ none) c refl
+          score-all (s .list) (λ o. o ≡ none) c refl
           (λ i m n. absurd (omega (arith, f .past i m (omega arith) .1))) in
           subst (λ o. length (optList o ++ P) < suc (length ss)) (sym no) (let z : length P < suc (length ss) = omega (arith, pl) in z)
 

@@ -26,7 +26,7 @@ use Rattle.route.proofs.Order.{FinOf, LowOf, NeverFalls, Ordered, above
 use Rattle.route.proofs.Scan.{offer-good, offer-rise, pass-all, pass-to, rest, rest-end, rest-turn}
 use Rattle.route.proofs.Places.{docAt-in, docAt-le, last-le}
 use Rattle.route.proofs.Cursor.{Past, block-hits, find-misses, find-up}
-use Rattle.route.proofs.Bounds.{score-at}
+use Rattle.route.proofs.Looking.{score-at}
 use Rattle.route.proofs.Sums.{Exact, Sums, dom-opt}
 use Rattle.route.proofs.Ordering.{sort-perm}
 use Rattle.route.proofs.Scorers.{QueryOk, Sc, absent, block-low, blocks-ok, fresh-fit, fresh-lists, lists, present-length, present-ok, sc-shallow, sc-up, shallow-is}
@@ -381,7 +381,7 @@ module _ {B N : ℕ} {O : Ops} {L : Ordered O} {K : Callback (O .S)} (G : NeverF
             } in
             let w : scoresAt E Q pm (c .doc) ≡ x0 ∷ present (c .doc) sl =
             ap (λ o. optList o ++ present (c .doc) sl) (subst (λ z. scoreOf ll z ≡ some x0) j2
-            (score-at B (Z .values) N ll k (parts-ok E Q pm .0 .vals) j j1)) in
+            (score-at ll B N k (ll .doc j) j j1 refl)) in
             found-inv (t .found) cs e bs d (c .doc) (i .tr) ld (t .secs) r x0 a′ (i .low) j5 (omega arith) (λ y m n. i .bnd y (omega arith) n) j7 w
             (subst (λ z. Found B N E (c .doc) (K .threshold r) (x0 ∷ []) z (t .found)) (a .is-sl) (tr .found-is))
 

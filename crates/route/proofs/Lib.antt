@@ -9,6 +9,7 @@ pub mod TwoStarts
 pub mod ListLaws
 pub mod Places
 pub mod Cursor
+pub mod Looking
 pub mod Bounds
 pub mod Sums
 pub mod Grid

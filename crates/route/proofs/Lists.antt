@@ -63,6 +63,10 @@ module _ {A : Type 0} where
   all-imp P Q (x ∷ xs) f a = (f x (a .0), all-imp P Q xs f (a .1))
 
 module _ {A B : Type 0} where
+  pub all-each : (Q : B → Type 0) (g : A → B) (xs : List A) → ((x : A) → Q (g x)) → All Q (map g xs)
+  all-each Q g [] f = tt
+  all-each Q g (x ∷ xs) f = (f x, all-each Q g xs f)
+
   pub all-map : (P : A → Type 0) (Q : B → Type 0) (g : A → B) (xs : List A) → ((x : A) → P x → Q (g x)) → All P xs → All Q (map g xs)
   all-map P Q g [] f a = tt
   all-map P Q g (x ∷ xs) f a = (f x (a .0), all-map P Q g xs f (a .1))

@@ -19,7 +19,8 @@ use Rattle.route.proofs.Order.{LowOf, Ordered}
 use Rattle.route.proofs.ListLaws.{Accepted}
 use Rattle.route.proofs.Places.{docAt-in, docAt-le, docAt-lt, docAt-out, last-le}
 use Rattle.route.proofs.Cursor.{Past, Wf, advance-is, fresh-is, on-block, past-up, seek-is, seekBlock-is}
-use Rattle.route.proofs.Bounds.{block-covers, block-fin, score-all, score-at}
+use Rattle.route.proofs.Bounds.{block-covers, block-fin}
+use Rattle.route.proofs.Looking.{score-all, score-at}
 use Rattle.route.proofs.Sums.{Dom, Sums, d-nil, dom-opt}
 
 module _ {S : Type 0} where
@@ -84,7 +85,7 @@ module _ (B N : ℕ) {O : Ops} {L : Ordered O} {M : ℕ} (Z : Sums O L M) where
   pub absent : (f d : ℕ) (s : Scorer (O .S)) → Sc f s → f ≤ d → d < docOf s → scoreOf (s .list) d ≡ none
   absent f d s c h k =
       let g = c .good .ok in
-      score-all B (Z .values) N (s .list) g (c .good .vals) (λ o. o ≡ none) d refl
+      score-all (s .list) (λ o. o ≡ none) d refl
       (λ i m e.
       let p = c .past i m (omega arith) .0 in
       absurd (omega (arith, docAt-le B N (s .list) g (s .cur .at) i p, docAt-in B N (s .list) g i m)))
@@ -98,14 +99,14 @@ module _ (B N : ℕ) {O : Ops} {L : Ordered O} {M : ℕ} (Z : Sums O L M) where
   pub finished : (f d : ℕ) (s : Scorer (O .S)) → Sc f s → f ≤ d → docOf s ≡ TERMINATED → scoreOf (s .list) d ≡ none
   finished f d s c h k =
       let g = c .good .ok in
-      score-all B (Z .values) N (s .list) g (c .good .vals) (λ o. o ≡ none) d refl
+      score-all (s .list) (λ o. o ≡ none) d refl
       (λ i m e.
       let p = c .past i m (omega arith) .0 in
       absurd (omega (arith, docAt-le B N (s .list) g (s .cur .at) i p, docAt-in B N (s .list) g i m, g .below i m, g .few)))
 
   -- the list bounds dominate
   pub top-low : (d : ℕ) (s : Scorer (O .S)) → Accepted B N O L (Z .Ok) (s .list) → LowOf O L (scoreOf (s .list) d) (s .list .top)
-  top-low d s g = score-all B (Z .values) N (s .list) (g .ok) (g .vals) (λ o. LowOf O L o (s .list .top)) d tt (λ i m e. g .vals .top-covers i m)
+  top-low d s g = score-all (s .list) (λ o. LowOf O L o (s .list .top)) d tt (λ i m e. g .vals .top-covers i m)
 
   pub dom-tops : (f d : ℕ) (ss : List (Scorer (O .S))) → All (Sc f) ss → Dom O L (contrib d ss) (map maxScore ss)
   dom-tops f d [] a = d-nil
@@ -115,7 +116,7 @@ module _ (B N : ℕ) {O : Ops} {L : Ordered O} {M : ℕ} (Z : Sums O L M) where
   pub block-low : (f d : ℕ) (s : Scorer (O .S)) → Sc f s → f ≤ d → d ≤ lastDocInBlock B s → LowOf O L (scoreOf (s .list) d) (blockMaxScore B O s)
   block-low f d s c h k =
       let g = c .good .ok in
-      score-all B (Z .values) N (s .list) g (c .good .vals) (λ o. LowOf O L o (blockMaxScore B O s)) d tt
+      score-all (s .list) (λ o. LowOf O L o (blockMaxScore B O s)) d tt
       (λ i m e.
       let p = c .past i m (omega arith) .1 in
       block-covers B (Z .values) N (s .list) g (c .good .vals) (s .cur) i (c .wf .in-list) m p
@@ -137,7 +138,7 @@ module _ (B N : ℕ) {O : Ops} {L : Ordered O} {M : ℕ} (Z : Sums O L M) where
       let i = docAt-lt B N (s .list) (g .ok) (s .cur .at) (omega arith) in
       let q : s .list .doc (s .cur .at) ≡ d = sym (docAt-in B N (s .list) (g .ok) (s .cur .at) i) ∙ e in
       let w : scoreOf (s .list) d ≡ some (scoreHere s) =
-      subst (λ z. scoreOf (s .list) z ≡ some (scoreHere s)) q (score-at B (Z .values) N (s .list) (g .ok) (g .vals) (s .cur .at) i) in
+      subst (λ z. scoreOf (s .list) z ≡ some (scoreHere s)) q (score-at (s .list) B N (g .ok) (s .list .doc (s .cur .at)) (s .cur .at) i refl) in
       ap (λ o. optList o ++ contrib d ss) w ∙ ap (λ z. scoreHere s ∷ z) (contrib-here f d ss (a .1) h (b .1))
 
   -- ---- values that sums are right about
@@ -146,7 +147,7 @@ module _ (B N : ℕ) {O : Ops} {L : Ordered O} {M : ℕ} (Z : Sums O L M) where
   present-ok d [] a = tt
   present-ok d (l ∷ ls) a =
       let g = a .0 in
-      score-all B (Z .values) N l (g .ok) (g .vals) (λ o. All (Z .Ok) (optList o ++ present d ls)) d
+      score-all l (λ o. All (Z .Ok) (optList o ++ present d ls)) d
       (present-ok d ls (a .1)) (λ i m e. (g .vals .score-ok i m, present-ok d ls (a .1)))
 
   pub contrib-ok : (f d : ℕ) (ss : List (Scorer (O .S))) → All (Sc f) ss → All (Z .Ok) (contrib d ss)

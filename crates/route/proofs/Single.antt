@@ -20,12 +20,13 @@ use Rattle.route.proofs.Scan.{offer-good, pass-all, pass-to, rest, rest
 use Rattle.route.proofs.ListLaws.{ListOk, ScoresOk}
 use Rattle.route.proofs.Places.{docAt-cap, docAt-in, docAt-le, docAt-lt, docAt-out, last-cap, last-le, last-out, le-last, start-le, start-suc}
 use Rattle.route.proofs.Cursor.{Past, Wf, advance-is, fresh-is, on-block, past-up, seek-is, seekBlock-is}
-use Rattle.route.proofs.Bounds.{block-covers, block-fin, score-all, score-at}
+use Rattle.route.proofs.Bounds.{block-covers, block-fin}
+use Rattle.route.proofs.Looking.{score-all, score-at}
 
 module _ (B N : ℕ) {O : Ops} {L : Ordered O} {K : Callback (O .S)} (G : NeverFalls O L K)
     {P : O .S → Type 0} (vs : Values O L P) (l : Postings (O .S)) (k : ListOk B N l) (v : ScoresOk B O L P l) where
   fin : (d : ℕ) → FinOf O L (scoreOf l d)
-  fin d = score-all B vs N l k v (FinOf O L) d tt (λ i h e. vs .fin (l .score i) (v .score-ok i h))
+  fin d = score-all l (FinOf O L) d tt (λ i h e. vs .fin (l .score i) (v .score-ok i h))
 
   -- the reports from a on
   Rest : ℕ → K .State → K .State
@@ -33,7 +34,7 @@ module _ (B N : ℕ) {O : Ops} {L : Ordered O} {K : Callback (O .S)} (G : NeverF
 
   -- a document is no report if no place of the list that holds it is
   low : (d : ℕ) (t : O .S) → ((i : ℕ) → i < l .len → l .doc i ≡ d → L .rank (l .score i) ≤ L .rank t) → LowOf O L (scoreOf l d) t
-  low d t f = score-all B vs N l k v (λ o. LowOf O L o t) d tt f
+  low d t f = score-all l (λ o. LowOf O L o t) d tt f
 
   -- where the reports end up
   module _ (total : K .State) where
@@ -123,7 +124,7 @@ module _ (B N : ℕ) {O : Ops} {L : Ordered O} {K : Callback (O .S)} (G : NeverF
         let g′ = offer-good G d (l .score (c .at)) r g f in
         let doc-is : l .doc (c .at) ≡ d = omega (arith, docAt-in B N l k (c .at) i) in
         let sc : scoreOf l d ≡ some (l .score (c .at)) = subst (λ z. scoreOf l z ≡ some (l .score (c .at))) doc-is
-        (score-at B vs N l k v (c .at) i) in
+        (score-at l B N k (l .doc (c .at)) (c .at) i refl) in
         let turned : Rest (suc d) s ≡ total =
         ap (λ o. Rest (suc d) (turnOf O K o d r)) (sym sc)
         ∙ sym (rest-turn G (scoreOf l) fin N d r (omega (arith, k .below (c .at) i))) ∙ e in

@@ -31,7 +31,7 @@ module _ (B N : ℕ) {S : Type 0} where
     pub safe : Safe (s .list) (s .cur)
 
   -- on a document, the skip reader is in the list
-  inside : (s : Scorer S) → SafeS s → docOf s < TERMINATED → (s .cur .blk ≤ s .list .full) × (s .cur .at < s .list .len)
+  pub inside : (s : Scorer S) → SafeS s → docOf s < TERMINATED → (s .cur .blk ≤ s .list .full) × (s .cur .at < s .list .len)
   inside s k h =
       let l = s .list in
       let i = docAt-lt B N l (k .ok) (s .cur .at) h in

@@ -26,7 +26,7 @@ returns c =
     let k = c .before .before .before .before in
     let s = k .before .before .before .before .before .before .before .before in
     let a = s .before .before .before .before .before in
-    answers (a .pre .0) (s .by-size .ensures) _ _ _ _ _ _ _ (k .run-in-order .ensures)
+    answers (a .pre .0) (s .by-size .ensures) _ _ _ _ _ _ _ _ (k .run-in-order .ensures)
 
 pub block-wand-intersection-spec : {M : Type 1} → statement M
 block-wand-intersection-spec =

@@ -100,7 +100,7 @@ returns-2 c =
     let a = o .before .before .before .before .before .before .before .before .before .before .before .before .before .before in
     let R = b .block-wand .ensures in
     same-route (by-pivots (a .args .scoring) (a .args .file .now) (a .args .query .now) (a .pre .2) _ _ (o .open-lists .ensures) (r .retain .result) (r .retain .ensures) (e .if1 .left))
-    (record { full = b .block-wand .result .full; count = b .block-wand .result .count; place = R .0; outcome-is = c .finish .ensures; ran = R .1 })
+    (record { full = b .block-wand .result .full; count = b .block-wand .result .count; place = R .place; outcome-is = c .finish .ensures; ran = R .ran })
 
 pub run-union-spec : {M : Type 1} → statement M
 run-union-spec =

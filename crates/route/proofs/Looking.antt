@@ -1,23 +1,30 @@
 -- A document's score in a list with right documents, whatever the scores: it stands where the document does, or nowhere.
 use mathlib.Core.Path.{_≡_, refl, ap, _∙_}
-use mathlib.Core.Option.{none, some}
+use mathlib.Core.Option.{Option, none, some}
 use Prim.Native.Nat.{ℕ, zero, suc, _+_, _≤_, _<_}
 use native.Mathlib.Omega.{arith}
 use lib.Dec.{eqb}
-use borrow.Author.Tests.{eqb-true, eqb-false, ne-eqb}
+use borrow.Author.Tests.{eqb-true, eqb-false}
 use Rattle.route.specs.Postings.{Postings, lookFrom, scoreOf}
 use Rattle.route.proofs.Cases.{by-test, lt-of-ne}
 use Rattle.route.proofs.ListLaws.{ListOk}
 use Rattle.route.proofs.Places.{doc-inj}
 
 module _ {S : Type 0} (l : Postings S) where
-  look-none : (d n p : ℕ) → p + n ≤ l .len → ((i : ℕ) → i < l .len → l .doc i ≡ d → ⊥) → lookFrom l d n p ≡ none
-  look-none d zero p h f = refl
-  look-none d (suc n) p h f = rw (ne-eqb (l .doc p) d (f p (omega arith))) (look-none d n (suc p) (omega arith) f)
+  look-all : (Q : Option S → Type 0) (d n p : ℕ) → p + n ≤ l .len → Q none → ((i : ℕ) → p ≤ i → i < l .len → l .doc i ≡ d → Q (some (l .score i))) → Q (lookFrom l d n p)
+  look-all Q d zero p h a f = a
+  look-all Q d (suc n) p h a f =
+      by-test Q (eqb (l .doc p) d) (some (l .score p)) (lookFrom l d n (suc p))
+      (λ e. f p (omega arith) (omega arith) (eqb-true (l .doc p) d e))
+      (λ e. look-all Q d n (suc p) (omega arith) a (λ i s t u. f i (omega arith) t u))
+
+  -- what holds of no score, and of the score at each place that has the document
+  pub score-all : (Q : Option S → Type 0) (d : ℕ) → Q none → ((i : ℕ) → i < l .len → l .doc i ≡ d → Q (some (l .score i))) → Q (scoreOf l d)
+  score-all Q d a f = look-all Q d (l .len) 0 (omega arith) a (λ i s t u. f i t u)
 
   -- no place has it
   pub score-none : (d : ℕ) → ((i : ℕ) → i < l .len → l .doc i ≡ d → ⊥) → scoreOf l d ≡ none
-  score-none d f = look-none d (l .len) 0 (omega arith) f
+  score-none d f = score-all (λ o. o ≡ none) d refl (λ i h e. absurd (f i h e))
 
   module _ (B N : ℕ) (k : ListOk B N l) where
     look-at : (d n p i : ℕ) → p + n ≤ l .len → p ≤ i → i < p + n → l .doc i ≡ d → lookFrom l d n p ≡ some (l .score i)
