@@ -49,6 +49,13 @@ one-step-is : one-step ≡ gridF 1
 unfolding gridF round
 one-step-is = refl
 
+abbrev zero-f : Float
+zero-f = fin false 0 (pos 0)
+
+zero-is : zero-f ≡ gridF 0
+unfolding gridF round
+zero-is = refl
+
 module _ (m : ℕ) (e : ℤ) (small : m * up e < 8192 * down e) where
   abbrev x : Float
   x = fin false m e
@@ -108,9 +115,13 @@ module _ (m : ℕ) (e : ℤ) (small : m * up e < 8192 * down e) where
       ∙ grid-sub d 1 (omega (arith, q-high, s-small)) (let o = over (ap (lt x) (sym near-is) ∙ t) in omega arith)
       ∙ ap gridF (let o = over (ap (lt x) (sym near-is) ∙ t) in omega arith)
 
-  pub cut-near : lt x (sub binary32 (add binary32 x base) base) ≡ false → sub binary32 (add binary32 x base) base ≡ stepDown x
+  pub cut-near : lt x (sub binary32 (add binary32 x base) base) ≡ false → sub binary32 (sub binary32 (add binary32 x base) base) zero-f ≡ stepDown x
   unfolding stepDown
-  cut-near t = near-is ∙ ap gridF (not-over (ap (lt x) (sym near-is) ∙ t))
+  cut-near t =
+      ap (λ (z : Float). sub binary32 z zero-f) near-is
+      ∙ ap (sub binary32 (gridF d)) zero-is
+      ∙ grid-sub d 0 (omega (arith, q-high, s-small)) (omega arith)
+      ∙ ap gridF (let n = not-over (ap (lt x) (sym near-is) ∙ t) in omega arith)
 
 -- ---- from 8192 on every f32 is a multiple of 1/1024
 -- a value of n steps is the grid's
@@ -133,8 +144,6 @@ cut-high (suc m) (negsuc k) p h =
     grid-unique (fin false (suc m) (negsuc k)) n p (refl, same) ∙ ap gridF (sym (ap (λ (z : ℕ). z / 2 ^ suc k) same ∙ mul-div-cancel n (pow-pos (suc k))))
 
 -- ---- the code's four ways, for every f32
-abbrev zero-f : Float
-zero-f = fin false 0 (pos 0)
 
 abbrev near : Float → Float
 near x = sub binary32 (add binary32 x base) base
@@ -155,7 +164,7 @@ step-over (inf false) p h t = absurd (false≢true h)
 step-over (fin true m e) p h t = absurd (false≢true p)
 step-over (fin false m e) p h t = cut-over m e (below-base m e h) t
 
-pub step-near : (x : Float) → lt zero-f x ≡ true → lt x base ≡ true → lt x (near x) ≡ false → near x ≡ stepDown x
+pub step-near : (x : Float) → lt zero-f x ≡ true → lt x base ≡ true → lt x (near x) ≡ false → sub binary32 (near x) zero-f ≡ stepDown x
 unfolding lt
 step-near nan p h t = absurd (false≢true p)
 step-near (inf true) p h t = absurd (false≢true p)

@@ -42,17 +42,16 @@ pub fn u32_to_f32(n: u32) -> f32
     (kept as f32) * (unit as f32)
 }
 
-// The cut of a score to the grid: x + 8192 is rounded to a multiple of 1/1024, which is one step too high at most.
+// The cut of a score to the grid: x + 8192 is rounded to a multiple of 1/1024, which is one step too high at most. Which of the two it is no
+// processor can foresee, so that what is taken off is chosen, and not the way.
 pub fn step_down(x: f32) -> f32
     ensures { λ r. ⌜ r ≡ stepDown x ⌝ }
 {
     if x > 0.0 {
         if x < GRID_BASE {
             let near = (x + GRID_BASE) - GRID_BASE;
-            if near > x {
-                return near - STEP;
-            }
-            return near;
+            let over = if near > x { STEP } else { 0.0 };
+            return near - over;
         }
         return x;
     }

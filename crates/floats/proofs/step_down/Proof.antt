@@ -1,4 +1,5 @@
 -- `floats::step_down` meets its contract: below 8192 the comparison with x tells a step too high from the cut, and from there on every f32 is on the grid.
+use mathlib.Core.Logic.{inl, inr}
 use mathlib.Core.Path.{sym, subst}
 use lib.Dec.{T}
 use lib.Ieee.{ofBits}
@@ -8,19 +9,20 @@ use Rattle.floats.proofs.step_down.Tie as tie
 
 returns : tie.Need-returns
 unfolding ofBits
-returns c = let s = c .before .before .before in step-over (s .args .x) (c .before .before .if1 .taken) (c .before .if2 .taken) (c .if3 .taken)
+returns c =
+    let s = c .before .before .before in
+    elim (c .if3 .came) [
+      | inl t ↦ let e = t .1 in rw e (step-over (s .args .x) (c .before .before .if1 .taken) (c .before .if2 .taken) (t .0 .taken))
+      | inr t ↦ let e = t .1 in rw e (step-near (s .args .x) (c .before .before .if1 .taken) (c .before .if2 .taken) (t .0 .left))
+    ]
 
 returns-2 : tie.Need-returns-2
 unfolding ofBits
-returns-2 c = let s = c .before .before .before in step-near (s .args .x) (c .before .before .if1 .taken) (c .before .if2 .taken) (c .if3 .left)
+returns-2 c = let s = c .before .before in step-high (s .args .x) (subst T (sym (s .good .0 .1)) tt) (c .before .if1 .taken) (c .if2 .left)
 
 returns-3 : tie.Need-returns-3
 unfolding ofBits
-returns-3 c = let s = c .before .before in step-high (s .args .x) (subst T (sym (s .good .0 .1)) tt) (c .before .if1 .taken) (c .if2 .left)
-
-returns-4 : tie.Need-returns-4
-unfolding ofBits
-returns-4 c = step-zero (c .before .args .x) (c .if1 .left)
+returns-3 c = step-zero (c .before .args .x) (c .if1 .left)
 
 pub step-down-spec : {M : Type 1} → statement M
-step-down-spec = tie.close (tie.spec returns returns-2 returns-3 returns-4)
+step-down-spec = tie.close (tie.spec returns returns-2 returns-3)
