@@ -1,6 +1,6 @@
 -- A scorer's moves: each is the route's over the decoded list.
 use mathlib.Core.Path.{_≡_, refl, sym, ap, _∙_, subst}
-use mathlib.Core.Bool.{true, false, true≢false}
+use mathlib.Core.Bool.{Bool, true, false, true≢false}
 use mathlib.Core.List.{List}
 use mathlib.Core.Logic.{inl, inr}
 use Prim.Native.Nat.{ℕ, zero, suc, min, _+_, _-_, _*_, _/_, _%_, _≤_, _<_}
@@ -190,6 +190,17 @@ module _ {file : List ℕ} {x : Part} (L : ListIn file x) (p : SegmentPostings) 
           cursor-is = λ s. M .cursor-is s ∙ ap (loadAt (listOf s file x) 128 t) (block-found s) ∙ sym (far k s);
           placed = M .placed;
         }
+
+      -- the target is in the block, which is loaded
+      pub sought-within : p .«block_loaded» ≡ true → getD docs next 0 < t → t ≤ p .«skip_reader» .«last_doc_in_block» → {cur : ℕ} → cur ≡ countBelow 128 docs t
+          → Moved file x sought (record { «skip_reader» = p .«skip_reader»; «block_loaded» = p .«block_loaded»; decoded = p .decoded; cur = cur }) docs freqs
+      sought-within on k r {cur} c =
+          let d = P .loaded-is on in
+          let D : Decoded file x (p .«skip_reader» .block) docs freqs = subst (λ (b : ℕ). Decoded file x b docs freqs) d (P .holds) in
+          subst (λ (q : SegmentPostings). Moved file x sought q docs freqs)
+          (ap (λ (z : Bool). record { «skip_reader» = p .«skip_reader»; «block_loaded» = z; decoded = p .«skip_reader» .block; cur = cur }) (sym on)
+          ∙ ap (λ (z : ℕ). record { «skip_reader» = p .«skip_reader»; «block_loaded» = p .«block_loaded»; decoded = z; cur = cur }) (sym d))
+          (sought-far (stays file x L p (P .stands) t r docs freqs P) k (lands L p P D t r c))
 
   -- the next posting
   abbrev advanced : Scoring → Cursor

@@ -11,6 +11,7 @@ use lib.Ieee.{Float}
 use mathlib.Core.Logic.{inl, inr}
 use borrow.Author.Tests.{eq-eqb, lt-ltb, le-ltb}
 use Rattle.arrays.proofs.Order.{lt-or-ge}
+use Rattle.block_search.specs.Search.{countBelow}
 use Rattle.bm25.specs.declared.Scoring.{Scoring}
 use Rattle.bm25.specs.declared.Scoring.the-variants.{Unstepped}
 use Rattle.notefile.specs.Lists.{fullBlocks}
@@ -24,7 +25,7 @@ use Rattle.postings.specs.Places.{cursorOf, Placed, Moved, Shallow, Here}
 use Rattle.postings.specs.declared.skip.SkipReader.{SkipReader}
 use Rattle.postings.specs.declared.cursor.SegmentPostings.{SegmentPostings}
 use Rattle.postings.proofs.Readers.{block-is, stands-on}
-use Rattle.postings.proofs.Moves.{advanced-in, doc-here, sought-here, sought-next, stays}
+use Rattle.postings.proofs.Moves.{advanced-in, doc-here, sought-here, sought-next, sought-within, stays}
 use Rattle.term_scorer.specs.Rows.{partIn, partRow, flag, firstOf, placeRow, Narrow, cursorIn, postingsIn, Standing, PlaceIn, MovedRow, ShallowRow}
 
 flag-back : (b : Bool) → eqb (flag b) 1 ≡ b
@@ -227,6 +228,26 @@ module _ (file list row : List ℕ) (L : ListIn file (partIn list)) {docs freqs 
     seeks-next h {next} (e, i) k =
         moves-in file list row (λ l c. seekIn l 128 t c) P next
         (sought-next L (postingsIn file (partIn list) row) (P .placed) t (omega (arith, h, doc-is, doc-in-array)) e i k) refl
+
+    module _ (h : doc < t) {next : ℕ} (e : (next ≡ min (suc (getD row 6 0)) 127) × (next < 128)) (k : getD docs next 0 < t) (on : getD row 4 0 ≡ 1) (r : t ≤ getD row 3 0)
+        {cur : ℕ} (c : cur ≡ countBelow 128 docs t) where
+      found-within : Moved file (partIn list) (λ s. seekIn (listOf s file (partIn list)) 128 t (cursorOf (postingsIn file (partIn list) row)))
+          (record {
+            «skip_reader» = postingsIn file (partIn list) row .«skip_reader»;
+            «block_loaded» = postingsIn file (partIn list) row .«block_loaded»;
+            decoded = postingsIn file (partIn list) row .decoded;
+            cur = cur;
+          }) docs freqs
+      unfolding postingsIn
+      found-within =
+          let l = ap (λ (z : List ℕ). getD z 3 0) (P .standing .row-is) in
+          sought-within L (postingsIn file (partIn list) row) (P .placed) t (omega (arith, h, doc-is, doc-in-array)) (e .0) (e .1) (eq-eqb (getD row 4 0) 1 on) k (omega (arith, r, l)) c
+
+      pub within-inside : cur < 128
+      within-inside = found-within .placed .inside
+
+      pub seeks-within : Sought (set row 6 cur) (getD docs cur 0)
+      seeks-within = moves-in file list row (λ l z. seekIn l 128 t z) P cur found-within refl
 
   pub advances-in : (getD row 6 0 ≡ 127 → ⊥) → MovedRow file (partIn list) (λ s. advanceIn (listOf s file (partIn list)) 128 (cursorIn row)) row (set row 6 (getD row 6 0 + 1)) docs freqs (getD docs (getD row 6 0 + 1) 0)
   unfolding postingsIn

@@ -13,6 +13,7 @@ use crate::place::LOADED;
 use crate::place::keep;
 use crate::place::part_of;
 use crate::place::postings_of;
+use block_search::search_block;
 use notefile::part::Part;
 use postings::block::load_block;
 use postings::cursor::SegmentPostings;
@@ -67,7 +68,7 @@ fn seek_far(
     r.doc(docs)
 }
 
-// On to the first posting from the target on: where the scorer stands, or the next one, or in another block.
+// On to the first posting from the target on: where the scorer stands, the next one, another of the block, or in another block.
 pub fn seek(
     file: &[u8],
     list: &[usize; 8],
@@ -88,6 +89,13 @@ pub fn seek(
     if target <= next_doc {
         place[CUR] = next;
         return next_doc;
+    }
+    if place[LOADED] == 1 {
+        if place[LAST] >= target as usize {
+            let cur = search_block(docs, target);
+            place[CUR] = cur;
+            return docs[cur];
+        }
     }
     seek_far(file, list, target, place, docs, freqs)
 }

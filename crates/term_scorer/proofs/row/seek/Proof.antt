@@ -1,6 +1,9 @@
--- `row::seek` meets its contract: the present posting or the next of the block, else the block that may hold the target.
+-- `row::seek` meets its contract: the present posting, the next, another of a loaded block, else the block that may hold the target.
+use Prim.Native.Nat.{_<_}
+use native.Mathlib.Omega.{arith}
 use borrow.Author.Needs.{needs}
-use Rattle.term_scorer.proofs.Rows.{cur-inside, seeks-here, seeks-next}
+use Rattle.postings.proofs.Blocks.{decoded-sorted}
+use Rattle.term_scorer.proofs.Rows.{cur-inside, seeks-here, seeks-next, seeks-within, within-inside}
 use Rattle.term_scorer.proofs.row.seek.Statement.{statement}
 use Rattle.term_scorer.proofs.row.seek.Tie as tie
 
@@ -32,11 +35,71 @@ returns-2 c =
     let a = n .before .before .before .before in
     seeks-next (a .args .file .now) (a .args .list .now) (a .args .place .now) (a .pre .1) (a .pre .2) (a .args .target) (a .pre .3) (n .before .before .if1 .left) (n .next-place .ensures) (c .if2 .taken)
 
-seek-far-requires : tie.Need-seek-far-requires
-seek-far-requires c κs = let a = c .before .before .before .before .before .before .before .before .before in (a .pre .0, a .pre .1, a .pre .2, a .pre .4)
+element-copy-out-if3 : tie.Need-element-copy-out-if3
+element-copy-out-if3 c = search needs
+
+element-copy-out-if4 : tie.Need-element-copy-out-if4
+element-copy-out-if4 c = search needs
+
+search-block-requires : tie.Need-search-block-requires
+search-block-requires c κs =
+    let a = c .before .before .before .before .before .before .before .before .before .before .before in
+    decoded-sorted (a .pre .1) (a .pre .2 .placed .holds)
+
+element-write-place-2 : tie.Need-element-write-place-2
+element-write-place-2 c = search needs
+
+-- the place found is one of the block's
+found-in : (c : tie.After-search-block) → c .search-block .result < 128
+found-in c =
+    let t = c .before .before in
+    let o = t .before .before in
+    let e = o .before .before in
+    let n = e .before .before in
+    let a = n .before .before .before .before in
+    within-inside (a .args .file .now) (a .args .list .now) (a .args .place .now) (a .pre .1) (a .pre .2) (a .args .target) (a .pre .3) (n .before .before .if1 .left) (n .next-place .ensures) (e .if2 .left) (o .if3 .taken) (t .if4 .taken) (c .search-block .ensures)
+
+mul-result : tie.Need-mul-result
+mul-result c = omega (arith, found-in c)
+
+element-copy-out-result : tie.Need-element-copy-out-result
+element-copy-out-result c = found-in c
 
 returns-3 : tie.Need-returns-3
-returns-3 c = c .seek-far .ensures
+returns-3 c =
+    let s = c .before in
+    let t = s .before .before in
+    let o = t .before .before in
+    let e = o .before .before in
+    let n = e .before .before in
+    let a = n .before .before .before .before in
+    seeks-within (a .args .file .now) (a .args .list .now) (a .args .place .now) (a .pre .1) (a .pre .2) (a .args .target) (a .pre .3) (n .before .before .if1 .left) (n .next-place .ensures) (e .if2 .left) (o .if3 .taken) (t .if4 .taken) (s .search-block .ensures)
+
+seek-far-requires : tie.Need-seek-far-requires
+seek-far-requires c κs =
+    let a = c .before .before .before .before .before .before .before .before .before .before .before in
+    (a .pre .0, a .pre .1, a .pre .2, a .pre .4)
+
+returns-4 : tie.Need-returns-4
+returns-4 c = c .seek-far .ensures
 
 pub seek-spec : {M : Type 1} → statement M
-seek-spec = tie.close (tie.spec returns element-copy-out-next-place next-place-requires mul-next-doc element-copy-out-next-doc element-write-place returns-2 seek-far-requires returns-3)
+seek-spec =
+    tie.close
+    (tie.spec
+    returns
+    element-copy-out-next-place
+    next-place-requires
+    mul-next-doc
+    element-copy-out-next-doc
+    element-write-place
+    returns-2
+    element-copy-out-if3
+    element-copy-out-if4
+    search-block-requires
+    element-write-place-2
+    mul-result
+    element-copy-out-result
+    returns-3
+    seek-far-requires
+    returns-4)
