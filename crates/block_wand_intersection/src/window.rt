@@ -56,7 +56,7 @@ fn gather(
     let mut i = 1usize;
     while i < n {
         let q = order[i];
-        slot::seek_block(file, lists, q, doc, places);
+        slot::shallow_seek(file, lists, q, doc, places);
         if !slot::has_remaining_docs(file, lists, q, places) {
             return Secondaries {
                 remain: false,
@@ -65,7 +65,7 @@ fn gather(
             };
         }
         window_end = least(window_end, slot::last_doc_in_block(q, places));
-        let bound = score::block_max(
+        let bound = score::known_block_max(
             file,
             norms,
             weights,

@@ -40,8 +40,8 @@ pub fn seek_blocks(
     while i < pivot_len {
         let scorer = scorers[i];
         let q = scorer.slot as usize;
-        slot::seek_block(file, lists, q, pivot_doc, places);
-        let bound = score::block_max(
+        slot::shallow_seek(file, lists, q, pivot_doc, places);
+        let bound = score::known_block_max(
             file,
             norms,
             weights,

@@ -6,6 +6,7 @@ use mathlib.Core.Logic.{inl, inr}
 use Prim.Native.Nat.{ℕ, zero, suc, _+_, _<_}
 use native.Mathlib.Omega.{arith}
 use lib.ListN.{getD, set}
+use lib.Seq.{set-getD}
 use lib.Ieee.{Float, nan, binary32, ofBits}
 use borrow.Author.Tests.{lt-ltb, le-ltb}
 use Rattle.arrays.proofs.Order.{lt-or-ge}
@@ -76,19 +77,13 @@ module _ (file : List ℕ) (x : Part) (weight : Float) (cache : List Float) (W :
     unfolding postingsIn cursorIn
     score-here ed hd ei ef er = score-in-block (getD row 6 0) (P .placed .inside) ed hd ei ef er
 
--- a list put back where it stood
-put-back : {A : Type 0} (d : A) (xs : List A) (i : ℕ) → set xs i (getD xs i d) ≡ xs
-put-back d [] i = refl
-put-back d (x ∷ xs) zero = refl
-put-back d (x ∷ xs) (suc i) = ap (λ ys. x ∷ ys) (put-back d xs i)
-
 module _ (scoring : Scoring) (file : List ℕ) (lists : List (List ℕ)) (q : ℕ) (places : List (List ℕ)) (bounds : List Float) where
   -- a bound that was known
   pub bound-known : getD (getD places q []) 7 0 ≡ 1 → BoundKept scoring file lists places bounds q → Bounded scoring file lists q places bounds places bounds (getD bounds q nan)
   bound-known k B = record {
     bound-is = B k;
-    places-are = sym (ap (λ (z : ℕ). set places q (set (getD places q []) 7 z)) (sym k) ∙ ap (set places q) (put-back 0 (getD places q []) 7) ∙ put-back [] places q);
-    bounds-are = sym (put-back nan bounds q);
+    places-are = sym (ap (λ (z : ℕ). set places q (set (getD places q []) 7 z)) (sym k) ∙ ap (set places q) (set-getD (getD places q []) 7 0) ∙ set-getD places q []);
+    bounds-are = sym (set-getD bounds q nan);
   }
 
   -- one that was worked out

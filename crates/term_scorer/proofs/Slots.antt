@@ -4,13 +4,13 @@ use mathlib.Core.List.{List, []}
 use Prim.Native.Nat.{ℕ, _≤_, _<_}
 use native.Mathlib.Omega.{arith}
 use lib.ListN.{getD, set}
-use lib.Seq.{getD-set-same}
+use lib.Seq.{getD-set-same, set-getD}
 use Rattle.bm25.specs.declared.Scoring.{Scoring}
 use Rattle.notefile.specs.declared.part.Part.{Part}
-use Rattle.route.specs.Cursor.{Cursor, fresh}
+use Rattle.route.specs.Cursor.{Cursor, fresh, seekBlockIn}
 use Rattle.term_scorer.specs.Rows.{cursorIn, partIn, partRow, PartRow, MovedRow, ShallowRow}
-use Rattle.term_scorer.specs.Slots.{Sixteen, cursorAt, held, partAt, MovedSlot, Shallowed, Opened}
-use Rattle.term_scorer.proofs.Rows.{part-back}
+use Rattle.term_scorer.specs.Slots.{Sixteen, StandingIn, cursorAt, held, listAt, partAt, MovedSlot, Shallowed, Opened}
+use Rattle.term_scorer.proofs.Rows.{part-back, stays-shallow}
 
 -- the row that was put into a slot
 same-row : {A : Type 0} (xss : List (List A)) (q : ℕ) (xs : List A) → q < 16 → Sixteen xss → getD (set xss q xs) q [] ≡ xs
@@ -38,6 +38,11 @@ module _ (file : List ℕ) (lists : List (List ℕ)) (q : ℕ) (h : q < 16) wher
   pub shallowed : (to : Scoring → Cursor) {places : List (List ℕ)} → Sixteen places → {p : List ℕ}
       → ShallowRow file (partAt lists q) to (getD places q []) p → Shallowed file lists q to places (set places q p)
   shallowed to {places} l {p} M = record { only = only-row places q p h l; moved = rw (same-row places q p h l) M }
+
+-- a skip reader whose block may hold the target stays
+pub stayed : (file : List ℕ) (lists : List (List ℕ)) (q : ℕ) {places : List (List ℕ)} → StandingIn file lists places q → (t : ℕ) → t ≤ getD (getD places q []) 3 0
+    → Shallowed file lists q (λ s. seekBlockIn (listAt s file lists q) 128 t (cursorAt places q)) places places
+stayed file lists q {places} S t h = record { only = sym (set-getD places q []); moved = stays-shallow file (getD lists q []) (getD places q []) (S .list) (S .standing) t h }
 
 module _ (file : List ℕ) (x : Part) (q : ℕ) (h : q < 16) (lists : List (List ℕ)) (l : Sixteen lists) where
   part-there : partAt (set lists q (partRow x)) q ≡ x

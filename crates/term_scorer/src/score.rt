@@ -158,3 +158,39 @@ pub fn block_max(
     bounds[q] = bound;
     bound
 }
+
+// `block_max` for a loop over scorers: most bounds are known, and this much can stand in the loop.
+pub fn known_block_max(
+    file: &[u8],
+    norms: FieldNormReader,
+    weights: &[f32; 16],
+    caches: &[[f32; 256]; 16],
+    scoring: Scoring,
+    lists: &[[usize; 8]; 16],
+    q: usize,
+    places: &mut [[usize; 8]; 16],
+    docs: &[[u32; 128]; 16],
+    freqs: &[[u32; 128]; 16],
+    bounds: &mut [f32; 16],
+) -> f32
+    requires { ⌜ (q < 16) × (norms ≡ normReader (now file)) × SlotIn (now file) (now lists) (held (now places) (now docs) (now freqs)) q × Weighed (now lists) (now weights) (now caches) q × BoundKept scoring (now file) (now lists) (now places) (now bounds) q × Sixteen (now bounds) ⌝ }
+    ensures { λ r. ⌜ Bounded scoring (now (file .entry)) (now (lists .entry)) q (now (places .entry)) (now (bounds .entry)) (now (places .exit)) (now (bounds .exit)) r ⌝ }
+{
+    let state = places[q][BOUND];
+    if state == KNOWN {
+        return bounds[q];
+    }
+    block_max(
+        file,
+        norms,
+        weights,
+        caches,
+        scoring,
+        lists,
+        q,
+        places,
+        docs,
+        freqs,
+        bounds,
+    )
+}

@@ -80,6 +80,24 @@ pub fn seek_block(
     row::seek_block(file, &lists[q], target, &mut places[q]);
 }
 
+// `seek_block` for a loop over scorers: most stay in their block, and this much can stand in the loop.
+pub fn shallow_seek(
+    file: &[u8],
+    lists: &[[usize; 8]; 16],
+    q: usize,
+    target: u32,
+    places: &mut [[usize; 8]; 16],
+)
+    requires { ⌜ (q < 16) × StandingIn (now file) (now lists) (now places) q ⌝ }
+    ensures { λ _. ⌜ Shallowed (now (file .entry)) (now (lists .entry)) q (λ s. seekBlockIn (listAt s (now (file .entry)) (now (lists .entry)) q) 128 target (cursorAt (now (places .entry)) q)) (now (places .entry)) (now (places .exit)) ⌝ }
+{
+    let last = places[q][LAST];
+    if target as usize <= last {
+        return;
+    }
+    seek_block(file, lists, q, target, places);
+}
+
 // On to the first posting from the target on.
 pub fn seek(
     file: &[u8],

@@ -27,8 +27,8 @@ mul-q c = search needs
 element-copy-out-q : tie.Need-element-copy-out-q Inv-loop μ-loop
 element-copy-out-q c = search needs
 
-seek-block-requires : tie.Need-seek-block-requires Inv-loop μ-loop
-seek-block-requires c κs =
+shallow-seek-requires : tie.Need-shallow-seek-requires Inv-loop μ-loop
+shallow-seek-requires c κs =
     let l = c .before .before in
     let a = l .before .before .before in
     let O = a .pre .0 in
@@ -46,7 +46,7 @@ has-remaining-docs-requires c κs =
     let G = l .before .loop .inv in
     let hi = l .loop-test .taken in
     let hq = O .below _ hi in
-    let M = shallow-moves (G .ready .seated .slot _ hq) (s .seek-block .ensures) in
+    let M = shallow-moves (G .ready .seated .slot _ hq) (s .shallow-seek .ensures) in
     (slot-small O hi, standing-in (seated-there _ _ _ _ O G hi M .slot _ hq))
 
 returns : tie.Need-returns Inv-loop μ-loop
@@ -59,7 +59,7 @@ returns c =
     let G = l .before .loop .inv in
     let hi = l .loop-test .taken in
     let hq = O .below _ hi in
-    let M = shallow-moves (G .ready .seated .slot _ hq) (s .seek-block .ensures) in
+    let M = shallow-moves (G .ready .seated .slot _ hq) (s .shallow-seek .ensures) in
     runs-out _ _ _ _ O G hi M (h .has-remaining-docs .ensures) (c .if1 .taken)
 
 last-doc-in-block-requires : tie.Need-last-doc-in-block-requires Inv-loop μ-loop
@@ -71,14 +71,14 @@ last-doc-in-block-requires c κs =
     let G = l .before .loop .inv in
     let hi = l .loop-test .taken in
     let hq = O .below _ hi in
-    let M = shallow-moves (G .ready .seated .slot _ hq) (s .seek-block .ensures) in
+    let M = shallow-moves (G .ready .seated .slot _ hq) (s .shallow-seek .ensures) in
     (slot-small O hi, last-fits (seated-there _ _ _ _ O G hi M) hq)
 
 least-requires : tie.Need-least-requires Inv-loop μ-loop
 least-requires c κs = search needs
 
-block-max-requires : tie.Need-block-max-requires Inv-loop μ-loop
-block-max-requires c κs =
+known-block-max-requires : tie.Need-known-block-max-requires Inv-loop μ-loop
+known-block-max-requires c κs =
     let s = c .before .before .before .before .before .before .before .before in
     let l = s .before .before .before in
     let a = l .before .before .before in
@@ -86,7 +86,7 @@ block-max-requires c κs =
     let G = l .before .loop .inv in
     let hi = l .loop-test .taken in
     let hq = O .below _ hi in
-    let M = shallow-moves (G .ready .seated .slot _ hq) (s .seek-block .ensures) in
+    let M = shallow-moves (G .ready .seated .slot _ hq) (s .shallow-seek .ensures) in
     (slot-small O hi, a .pre .1 .norms-are, seated-there _ _ _ _ O G hi M .slot _ hq, a .pre .1 .weighed _ hq, kept-there _ _ _ _ O G hi M _ hq, G .ready .long)
 
 add-i : tie.Need-add-i Inv-loop μ-loop
@@ -108,8 +108,8 @@ loop-again c =
     let G = l .before .loop .inv in
     let hi = l .loop-test .taken in
     let hq = O .below _ hi in
-    let M = shallow-moves (G .ready .seated .slot _ hq) (s .seek-block .ensures) in
-    goes-on _ _ _ _ O G hi M (h .has-remaining-docs .ensures) (e .if1 .left) (a .pre .3) (t .last-doc-in-block .ensures) (m .least .ensures) (c .block-max .ensures)
+    let M = shallow-moves (G .ready .seated .slot _ hq) (s .shallow-seek .ensures) in
+    goes-on _ _ _ _ O G hi M (h .has-remaining-docs .ensures) (e .if1 .left) (a .pre .3) (t .last-doc-in-block .ensures) (m .least .ensures) (c .known-block-max .ensures)
 
 returns-2 : tie.Need-returns-2 Inv-loop μ-loop
 returns-2 c = ended _ _ _ _ (c .before .before .before .pre .0) (c .before .loop .inv) (c .loop-test .left)
@@ -123,12 +123,12 @@ gather-spec =
     loop-holds
     mul-q
     element-copy-out-q
-    seek-block-requires
+    shallow-seek-requires
     has-remaining-docs-requires
     returns
     last-doc-in-block-requires
     least-requires
-    block-max-requires
+    known-block-max-requires
     add-i
     loop-less
     loop-again

@@ -60,17 +60,17 @@ array-copy-out-scorer c = search needs
 cast-q : tie.Need-cast-q Inv-loop μ-loop
 cast-q c = search needs
 
-seek-block-requires : tie.Need-seek-block-requires Inv-loop μ-loop
-seek-block-requires c κs = let S = seat-in (c .before .before .before) in (S .stand .slot-in, standing-in _ _ _ _ (S .stand))
+shallow-seek-requires : tie.Need-shallow-seek-requires Inv-loop μ-loop
+shallow-seek-requires c κs = let S = seat-in (c .before .before .before) in (S .stand .slot-in, standing-in _ _ _ _ (S .stand))
 
-block-max-requires : tie.Need-block-max-requires Inv-loop μ-loop
-block-max-requires c κs =
+known-block-max-requires : tie.Need-known-block-max-requires Inv-loop μ-loop
+known-block-max-requires c κs =
     let b = c .before .before .before .before .before .before in
     let a = b .before .before .before in
     let S = seat-in b in
     let x = getD (a .args .t7) (b .before .loop .i) noScorer in
     let T = terms (a .args .scoring) (a .args .weights .now) (a .args .caches .now) (b .before .loop .bounds) in
-    let Z = shallow-seat (a .args .file .now) (a .args .lists .now) _ (a .args .docs .now) (a .args .freqs .now) {to = λ k. seekBlockIn (listAt k (a .args .file .now) (a .args .lists .now) (x .slot)) 128 (a .args .pivot-doc) (cursorAt (b .before .loop .places) (x .slot))} (c .before .before .seek-block .ensures) T S in
+    let Z = shallow-seat (a .args .file .now) (a .args .lists .now) _ (a .args .docs .now) (a .args .freqs .now) {to = λ k. seekBlockIn (listAt k (a .args .file .now) (a .args .lists .now) (x .slot)) 128 (a .args .pivot-doc) (cursorAt (b .before .loop .places) (x .slot))} (c .before .before .shallow-seek .ensures) T S in
     (S .stand .slot-in, a .pre .1, Z .stand .slot, Z .weighed, Z .bound, still-sixteen b)
 
 add-i : tie.Need-add-i Inv-loop μ-loop
@@ -87,7 +87,7 @@ loop-again c =
       λ l e apart s.
           let w = first-same (a .args .pivot-len) l (a .args .t7) (b .before .loop .i) e (omega arith) (long a) in
           bounds-next (a .args .file .now) (a .args .lists .now) _ _ (a .args .docs .now) (a .args .freqs .now) (a .args .pivot-doc) l (b .before .loop .inv .1 l e apart s) (w .0) apart
-          (getD (a .args .t7) (b .before .loop .i) noScorer) (w .1) (c .before .before .before .seek-block .ensures) (c .block-max .ensures),
+          (getD (a .args .t7) (b .before .loop .i) noScorer) (w .1) (c .before .before .before .shallow-seek .ensures) (c .known-block-max .ensures),
     )
 
 returns : tie.Need-returns Inv-loop μ-loop
@@ -103,8 +103,8 @@ seek-blocks-spec =
     mul-scorer
     array-copy-out-scorer
     cast-q
-    seek-block-requires
-    block-max-requires
+    shallow-seek-requires
+    known-block-max-requires
     add-i
     loop-less
     loop-again
