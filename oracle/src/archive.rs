@@ -3,7 +3,8 @@
 use crate::case::{Case, Outcome, Row};
 use crate::compare::same_outcome;
 
-mod c {
+/// The calls as `noterank.h` declares them.
+pub mod c {
     extern "C" {
         pub fn noterank_check(file: *const u8, file_len: usize) -> u32;
 

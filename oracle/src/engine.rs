@@ -16,13 +16,12 @@ pub use crate::standins::loads::Load;
 use crate::standins::{loads, step};
 use crate::{DocSet, Score, VInt, TERMINATED};
 
-/// A list's part of the file.
+/// A list's part of the file, its bytes as the published code opens them.
 struct Entry {
     weight: f32,
     count: u32,
     option: IndexRecordOption,
-    skips: Vec<u8>,
-    postings: Vec<u8>,
+    bytes: OwnedBytes,
 }
 
 /// A file taken apart, ready to build scorers from.
@@ -47,7 +46,7 @@ fn norms(header: u128, bytes: &[u8]) -> FieldNormReader {
     if low_bits(header >> 67, 1) == 1 {
         return FieldNormReader::constant(documents, id_to_fieldnorm(code));
     }
-    let bytes = OwnedBytes::tagged(bytes[..documents as usize].to_vec(), 0);
+    let bytes = OwnedBytes::new(bytes[..documents as usize].to_vec());
     FieldNormReader::open(FileSlice::from(bytes)).expect("bytes in memory are read")
 }
 
@@ -65,15 +64,15 @@ impl Source {
             let entry = number(&file[9 + 13 * list..][..13]);
             let skips = low_bits(entry >> 26, 24) as usize;
             let postings = low_bits(entry, 26) as usize;
+            let count = low_bits(entry >> 51, 21);
             entries.push(Entry {
                 weight: f32::from_bits(low_bits(entry >> 72, 32)),
-                count: low_bits(entry >> 51, 21),
+                count,
                 option: match low_bits(entry >> 50, 1) {
                     0 => IndexRecordOption::WithFreqs,
                     _ => IndexRecordOption::WithFreqsAndPositions,
                 },
-                skips: file[at..][..skips].to_vec(),
-                postings: file[at + skips..][..postings].to_vec(),
+                bytes: published_layout(count, skips, &file[at..][..skips + postings]),
             });
             at += skips + postings;
         }
@@ -84,30 +83,22 @@ impl Source {
     /// A scorer at its first document, its first block loaded.
     fn scorer(&self, list: usize, position: u32) -> TermScorer {
         let entry = &self.entries[list];
-        let data = OwnedBytes::tagged(entry.data(), position);
-        let open = BlockSegmentPostings::open(
-            entry.count,
-            FileSlice::from(data),
-            entry.option,
-            entry.option,
-        );
+        let data = FileSlice::from(entry.bytes.tagged(position));
+        let open = BlockSegmentPostings::open(entry.count, data, entry.option, entry.option);
         let blocks = open.expect("an accepted list opens");
         let postings = SegmentPostings::from_block_postings(blocks, None);
         TermScorer::new(postings, self.norms.clone(), weight(entry.weight, self.average))
     }
 }
 
-impl Entry {
-    /// The published layout: with full blocks, the skip entries' length goes before them.
-    fn data(&self) -> Vec<u8> {
-        let mut data = Vec::new();
-        if self.count >= 128 {
-            VInt::serialize_u64(self.skips.len() as u64, &mut data);
-        }
-        data.extend_from_slice(&self.skips);
-        data.extend_from_slice(&self.postings);
-        data
+/// A list's bytes with the length of its skip entries before them, if it has full blocks.
+fn published_layout(count: u32, skips: usize, list: &[u8]) -> OwnedBytes {
+    let mut bytes = Vec::new();
+    if count >= 128 {
+        VInt::serialize_u64(skips as u64, &mut bytes);
     }
+    bytes.extend_from_slice(list);
+    OwnedBytes::new(bytes)
 }
 
 /// The published constructors multiply an idf by 2.2. An idf that gives exactly 1, boosted by the
@@ -156,17 +147,22 @@ impl Callback<'_> {
     }
 }
 
-fn dispatch(mode: u32, mut scorers: Vec<TermScorer>, callback: &mut Callback) {
-    let start = callback.case.start;
-    let mut report = |document, score| callback.report(document, score);
-    match mode {
-        INTERSECTION => block_wand_intersection(scorers, start, &mut report),
+/// The published run of a case: `report` takes each row and gives the next threshold. A panic leaves
+/// the stepped cut as the case has it.
+pub fn rank(source: &Source, case: &Case, report: &mut dyn FnMut(u32, Score) -> Score) {
+    step::set(case.scoring == STEPPED);
+    let numbered = case.query.iter().zip(0..);
+    let mut scorers: Vec<TermScorer> =
+        numbered.map(|(&list, at)| source.scorer(list as usize, at)).collect();
+    match case.mode {
+        INTERSECTION => block_wand_intersection(scorers, case.start, report),
         SINGLE => match scorers.pop() {
-            Some(scorer) => block_wand_single_scorer(scorer, start, &mut report),
+            Some(scorer) => block_wand_single_scorer(scorer, case.start, report),
             None => unreachable!("a single run has one list"),
         },
-        _ => block_wand(scorers, start, &mut report),
+        _ => block_wand(scorers, case.start, report),
     }
+    step::set(false);
 }
 
 /// A skipping run's outcome and its block loads.
@@ -179,11 +175,8 @@ pub struct Skipped {
 pub fn run(source: &Source, case: &Case) -> Result<Skipped, String> {
     let mut callback = Callback { case, rows: Vec::new(), best: Vec::new() };
     loads::take();
-    step::set(case.scoring == STEPPED);
     let ended = catch_unwind(AssertUnwindSafe(|| {
-        let numbered = case.query.iter().zip(0..);
-        let scorers = numbered.map(|(&list, at)| source.scorer(list as usize, at)).collect();
-        dispatch(case.mode, scorers, &mut callback);
+        rank(source, case, &mut |document, score| callback.report(document, score))
     }));
     step::set(false);
     let outcome = match ended {

@@ -53,20 +53,26 @@ fn word_place(w: usize, n: usize) -> usize {
     16 * w + 4 * n
 }
 
-/// A lane as a queue of bits: words go in at the top, values come out at the bottom.
-fn unpack_lane(packed: &[u8], lane: usize, values: &mut [u32], num_bits: u8) {
-    let (mut queue, mut held, mut word) = (0u64, 0u8, 0usize);
-    for value in values.iter_mut().skip(lane).step_by(LANES) {
-        if held < num_bits {
-            let at = word_place(word, lane);
-            let bytes = [packed[at], packed[at + 1], packed[at + 2], packed[at + 3]];
-            queue |= u64::from(u32::from_le_bytes(bytes)) << held;
-            held += 32;
-            word += 1;
+/// Word `w` of every lane.
+fn words(packed: &[u8], w: usize) -> [u32; LANES] {
+    let bytes = &packed[word_place(w, 0)..word_place(w + 1, 0)];
+    std::array::from_fn(|n| {
+        u32::from_le_bytes([bytes[4 * n], bytes[4 * n + 1], bytes[4 * n + 2], bytes[4 * n + 3]])
+    })
+}
+
+/// Row by row, a value of each lane: they stand at the same bits of words side by side.
+fn unpack_rows(packed: &[u8], values: &mut [u32], num_bits: u8) {
+    let width = usize::from(num_bits);
+    let kept = mask(num_bits) as u32;
+    for (row, values) in values.chunks_exact_mut(LANES).enumerate() {
+        let (word, shift) = (row * width / 32, row * width % 32);
+        let mut found = words(packed, word).map(|low| low >> shift);
+        if shift + width > 32 {
+            let above = words(packed, word + 1);
+            found = std::array::from_fn(|n| found[n] | above[n] << (32 - shift));
         }
-        *value = (queue & mask(num_bits)) as u32;
-        queue >>= num_bits;
-        held -= num_bits;
+        values.copy_from_slice(&found.map(|value| value & kept));
     }
 }
 
@@ -130,8 +136,10 @@ impl BitPacker for BitPacker4x {
     }
 
     fn decompress(&self, packed: &[u8], values: &mut [u32], num_bits: u8) -> usize {
-        for lane in 0..LANES {
-            unpack_lane(packed, lane, &mut values[..BLOCK_LEN], num_bits);
+        match num_bits {
+            // No word holds anything, and the last list may end here.
+            0 => values[..BLOCK_LEN].fill(0),
+            _ => unpack_rows(packed, &mut values[..BLOCK_LEN], num_bits),
         }
         packed_size(num_bits)
     }

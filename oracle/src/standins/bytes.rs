@@ -1,25 +1,32 @@
 //! Bytes in memory where the published files expect bytes of an index.
 
 use std::io;
-use std::ops::Range;
 use std::sync::Arc;
 
-/// A part of shared bytes. The tag names the scorer that reads them.
+/// A part of shared bytes, beside their owner as in the published crate, so that a read goes
+/// straight to them. The tag names the scorer that reads them.
 #[derive(Clone)]
 pub struct OwnedBytes {
-    bytes: Arc<[u8]>,
-    range: Range<usize>,
+    part: &'static [u8],
+    _owner: Arc<[u8]>,
     tag: u32,
 }
 
 impl OwnedBytes {
-    pub fn tagged(bytes: Vec<u8>, tag: u32) -> OwnedBytes {
-        let range = 0..bytes.len();
-        OwnedBytes { bytes: bytes.into(), range, tag }
+    pub fn new(bytes: Vec<u8>) -> OwnedBytes {
+        let owner: Arc<[u8]> = bytes.into();
+        // Sound: the owner is kept beside the part, and nothing writes to the bytes.
+        let part = unsafe { std::slice::from_raw_parts(owner.as_ptr(), owner.len()) };
+        OwnedBytes { part, _owner: owner, tag: 0 }
     }
 
     pub fn empty() -> OwnedBytes {
-        OwnedBytes::tagged(Vec::new(), 0)
+        OwnedBytes::new(Vec::new())
+    }
+
+    /// The same bytes for another reader.
+    pub fn tagged(&self, tag: u32) -> OwnedBytes {
+        OwnedBytes { tag, ..self.clone() }
     }
 
     pub fn tag(&self) -> u32 {
@@ -27,23 +34,20 @@ impl OwnedBytes {
     }
 
     pub fn as_slice(&self) -> &[u8] {
-        &self.bytes[self.range.clone()]
+        self.part
     }
 
     pub fn len(&self) -> usize {
-        self.range.len()
+        self.part.len()
     }
 
     pub fn advance(&mut self, length: usize) {
-        assert!(length <= self.len(), "advance past the end");
-        self.range.start += length;
+        self.part = &self.part[length..];
     }
 
     pub fn split(self, length: usize) -> (OwnedBytes, OwnedBytes) {
-        let (mut left, mut right) = (self.clone(), self);
-        right.advance(length);
-        left.range.end = right.range.start;
-        (left, right)
+        let (left, right) = self.part.split_at(length);
+        (OwnedBytes { part: left, ..self.clone() }, OwnedBytes { part: right, ..self })
     }
 }
 

@@ -16,6 +16,7 @@ thread_local! {
 }
 
 /// Called by the patched `load_block` with the number of documents before the block.
+#[cfg_attr(feature = "unrecorded", allow(dead_code))]
 pub fn record(data: &OwnedBytes, documents_before: u32) {
     let load = Load { position: data.tag(), block: documents_before / 128 };
     LOADS.with(|loads| loads.borrow_mut().push(load));

@@ -1,0 +1,147 @@
+//! Times the archive beside the published Rust, in one process and on the same files.
+
+mod check;
+mod clock;
+mod corpus;
+mod data;
+mod engines;
+mod file;
+mod measure;
+mod options;
+mod saved;
+mod tables;
+
+use std::collections::HashMap;
+use std::process::ExitCode;
+use std::time::Duration;
+
+use corpus::{Corpus, Prepared};
+use engines::{our_run, rust_run, Rows};
+use measure::{Shape, Times, LISTS};
+use options::{Loop, Options, Work};
+use saved::Saved;
+use tables::{CheckRow, RunRow};
+
+/// Random files on which the checks must agree before anything is timed.
+const CASES: u64 = 5_000;
+
+/// Every run that is asked for. A round goes over all of them, so that a slow moment of the machine
+/// meets every row the same.
+fn time_runs(options: &Options) -> Result<Vec<RunRow>, String> {
+    let wanted = |shape: &Shape| options.only.iter().all(|word| shape.words().contains(word));
+    let shapes: Vec<Shape> = Shape::all().into_iter().filter(wanted).collect();
+    if shapes.is_empty() {
+        return Ok(Vec::new());
+    }
+    let corpus = Corpus::new();
+    let files: HashMap<usize, Prepared> =
+        LISTS.into_iter().map(|lists| (lists, corpus.prepare(lists))).collect();
+    let mut rows = Vec::new();
+    for shape in shapes {
+        let file = &files[&shape.lists];
+        measure::same_check(&file.file)?;
+        measure::same_rows(file, &shape)?;
+        rows.push(RunRow { shape, postings: file.postings, times: Times::NONE });
+    }
+    for _ in 0..options.rounds {
+        for row in &mut rows {
+            measure::runs(&files[&row.shape.lists], &row.shape, &mut row.times);
+        }
+    }
+    Ok(rows)
+}
+
+/// The check of each file that was run on: the least time over all of its rows.
+fn checks_of(rows: &[RunRow]) -> Vec<CheckRow> {
+    let mut checks = Vec::new();
+    for lists in LISTS {
+        let of_file: Vec<&RunRow> = rows.iter().filter(|row| row.shape.lists == lists).collect();
+        let mut times = Times::NONE;
+        for row in &of_file {
+            times.our_check = times.our_check.min(row.times.our_check);
+            times.rust_check = times.rust_check.min(row.times.rust_check);
+        }
+        checks.extend(of_file.first().map(|row| CheckRow { lists, postings: row.postings, times }));
+    }
+    checks
+}
+
+fn time_growth(options: &Options) -> Result<Vec<CheckRow>, String> {
+    if !options.only.is_empty() && options.only != ["check"] {
+        return Ok(Vec::new());
+    }
+    let powers = if options.quick { 4..=6 } else { 4..=7 };
+    let files: Vec<Prepared> =
+        powers.map(|power| Corpus::of_postings(10usize.pow(power))).collect();
+    let mut rows = Vec::new();
+    for file in &files {
+        measure::same_check(&file.file)?;
+        rows.push(CheckRow { lists: file.lists, postings: file.postings, times: Times::NONE });
+    }
+    for _ in 0..options.rounds {
+        for (file, row) in files.iter().zip(&mut rows) {
+            measure::checks(file, &mut row.times);
+        }
+    }
+    Ok(rows)
+}
+
+fn print_tables(options: &Options) -> Result<(), String> {
+    let earlier = options.against.as_deref().map(Saved::read).transpose()?;
+    measure::same_refusals(CASES)?;
+    let runs = time_runs(options)?;
+    let checks = checks_of(&runs);
+    if let Some(path) = &options.save {
+        saved::save(path, &runs)?;
+    }
+    let growth = time_growth(options)?;
+    if runs.is_empty() && growth.is_empty() {
+        return Err("no row has all of these words".to_string());
+    }
+    if !checks.is_empty() {
+        tables::checks("The check of the files below", &checks);
+    }
+    if !growth.is_empty() {
+        tables::checks("The check, by the size of the file", &growth);
+    }
+    if !runs.is_empty() {
+        tables::runs(&runs, earlier.as_ref());
+        tables::growth(&runs);
+    }
+    tables::targets(&checks, &runs);
+    Ok(())
+}
+
+fn run_again(prepared: &Prepared, wanted: &Loop) {
+    let (case, mut rows) = (wanted.shape.case(), Rows::new());
+    let (begun, mut runs) = (clock::now(), 0u32);
+    while clock::now() - begun < Duration::from_secs(wanted.seconds) {
+        if wanted.ours {
+            our_run(&prepared.file, &case, &mut rows);
+        } else {
+            rust_run(&prepared.source, &case, &mut rows);
+        }
+        runs += 1;
+    }
+    let spent = clock::now() - begun;
+    println!("{runs} runs, {:.3} ms each", spent.as_secs_f64() * 1e3 / f64::from(runs));
+}
+
+fn main() -> ExitCode {
+    let words: Vec<String> = std::env::args().skip(1).collect();
+    let done = match options::read(&words) {
+        Some(Work::Tables(options)) => print_tables(&options),
+        Some(Work::Loop(wanted)) => {
+            run_again(&Corpus::new().prepare(wanted.shape.lists), &wanted);
+            Ok(())
+        }
+        None => Err(options::USAGE.to_string()),
+    };
+    match done {
+        Ok(()) => ExitCode::SUCCESS,
+        Err(text) => {
+            eprintln!("{text}");
+            ExitCode::FAILURE
+        }
+    }
+}

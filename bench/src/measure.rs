@@ -1,0 +1,175 @@
+//! Times of calls, engines taking turns, and the comparison that comes before.
+
+use std::hint::black_box;
+use std::time::Duration;
+
+use oracle::case::{Case, BEST_K, INTERSECTION, SINGLE, STEPPED, UNION, UNSTEPPED};
+use oracle::{generate, plain};
+
+use crate::clock;
+use crate::corpus::Prepared;
+use crate::engines::{our_check, our_run, rust_check, rust_run, Rows};
+
+/// The least that is spent on a row before the next has its turn.
+const TURN: Duration = Duration::from_millis(50);
+
+pub const LISTS: [usize; 7] = [1, 2, 3, 5, 8, 12, 16];
+
+/// One run that is timed.
+#[derive(Clone, Copy)]
+pub struct Shape {
+    pub mode: u32,
+    pub lists: usize,
+    pub k: u32,
+    pub scoring: u32,
+}
+
+/// Nanoseconds of one call, the least so far.
+#[derive(Clone, Copy)]
+pub struct Times {
+    pub our_check: f64,
+    pub rust_check: f64,
+    pub our_run: f64,
+    pub rust_run: f64,
+}
+
+impl Times {
+    pub const NONE: Times =
+        Times { our_check: f64::MAX, rust_check: f64::MAX, our_run: f64::MAX, rust_run: f64::MAX };
+
+    /// Ours without its file check; never below a nanosecond, whatever the clock says.
+    pub fn our_ranking(&self) -> f64 {
+        (self.our_run - self.our_check).max(1.0)
+    }
+
+    pub fn check_ratio(&self) -> f64 {
+        self.our_check / self.rust_check
+    }
+
+    pub fn ranking_ratio(&self) -> f64 {
+        self.our_ranking() / self.rust_run
+    }
+
+    pub fn whole_ratio(&self) -> f64 {
+        self.our_run / (self.rust_check + self.rust_run)
+    }
+}
+
+impl Shape {
+    pub fn all() -> Vec<Shape> {
+        let mut shapes = Vec::new();
+        for (mode, least, most) in [(SINGLE, 1, 1), (UNION, 1, 16), (INTERSECTION, 2, 16)] {
+            for lists in LISTS.into_iter().filter(|&lists| lists >= least && lists <= most) {
+                for k in [10, 64] {
+                    shapes.extend([UNSTEPPED, STEPPED].map(|scoring| Shape {
+                        mode,
+                        lists,
+                        k,
+                        scoring,
+                    }));
+                }
+            }
+        }
+        shapes
+    }
+
+    /// How it is named in tables, filters and saved times: no two words of it can be mistaken.
+    pub fn words(&self) -> [String; 4] {
+        let mode = match self.mode {
+            UNION => "union",
+            INTERSECTION => "intersection",
+            _ => "single",
+        };
+        let scoring = if self.scoring == STEPPED { "stepped" } else { "unstepped" };
+        [mode.into(), self.lists.to_string(), self.k.to_string(), scoring.into()]
+    }
+
+    /// The file is handed over beside the case.
+    pub fn case(&self) -> Case {
+        Case {
+            query: (0..self.lists as u32).collect(),
+            mode: self.mode,
+            scoring: self.scoring,
+            rule: BEST_K,
+            k: self.k,
+            ..Case::default()
+        }
+    }
+}
+
+/// The time of the faster of two calls: the first may find the caches full of other work.
+fn least(time: &mut f64, mut call: impl FnMut()) {
+    for _ in 0..2 {
+        let start = clock::now();
+        call();
+        *time = time.min((clock::now() - start).as_nanos() as f64);
+    }
+}
+
+fn time_checks(file: &[u8], times: &mut Times) {
+    least(&mut times.our_check, || {
+        black_box(our_check(black_box(file)));
+    });
+    least(&mut times.rust_check, || {
+        black_box(rust_check(black_box(file)));
+    });
+}
+
+fn for_a_turn(mut calls: impl FnMut()) {
+    let begun = clock::now();
+    loop {
+        calls();
+        if clock::now() - begun >= TURN {
+            return;
+        }
+    }
+}
+
+/// The checks alone.
+pub fn checks(prepared: &Prepared, times: &mut Times) {
+    for_a_turn(|| time_checks(&prepared.file, times));
+}
+
+/// The checks and the runs, in close turns.
+pub fn runs(prepared: &Prepared, shape: &Shape, times: &mut Times) {
+    let (case, mut rows) = (shape.case(), Rows::new());
+    for_a_turn(|| {
+        time_checks(&prepared.file, times);
+        least(&mut times.our_run, || {
+            black_box(our_run(black_box(&prepared.file), &case, &mut rows));
+        });
+        least(&mut times.rust_run, || rust_run(black_box(&prepared.source), &case, &mut rows));
+    });
+}
+
+/// Both checks accept the file.
+pub fn same_check(file: &[u8]) -> Result<(), String> {
+    match (our_check(file), rust_check(file)) {
+        (0, 0) => Ok(()),
+        other => Err(format!("a generated file is checked as {other:?}, ours and Rust's")),
+    }
+}
+
+/// The same rows, bit for bit.
+pub fn same_rows(prepared: &Prepared, shape: &Shape) -> Result<(), String> {
+    let case = &shape.case();
+    let (mut ours, mut rusts) = (Rows::new(), Rows::new());
+    let code = our_run(&prepared.file, case, &mut ours);
+    rust_run(&prepared.source, case, &mut rusts);
+    if code == 0 && ours.written() == rusts.written() {
+        return Ok(());
+    }
+    Err(format!("ours returned {code}, or its rows differ from the Rust's: {case:?}"))
+}
+
+/// Both checks against the paper's program on random files, broken ones among them.
+pub fn same_refusals(cases: u64) -> Result<(), String> {
+    for number in 0..cases {
+        let file = generate::case(1, number).case.file;
+        let found = [our_check(&file), rust_check(&file), plain::check(&file)];
+        if found[0] != found[2] || found[1] != found[2] {
+            return Err(format!("case {number} is checked as {found:?}: ours, Rust, the paper"));
+        }
+    }
+    Ok(())
+}
