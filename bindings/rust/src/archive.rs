@@ -1,0 +1,69 @@
+//! The archive's two functions, called safely. All unsafe code of this package is here.
+
+use crate::Query;
+
+mod c {
+    extern "C" {
+        pub fn noterank_check(file: *const u8, file_len: usize) -> u32;
+
+        pub fn noterank_run(
+            file: *const u8,
+            file_len: usize,
+            query: *const u32,
+            query_len: usize,
+            walk: u32,
+            mode: u32,
+            scoring: u32,
+            rule: u32,
+            start: f32,
+            k: u32,
+            script: *const f32,
+            script_len: usize,
+            documents: *mut u32,
+            documents_len: usize,
+            scores: *mut f32,
+            scores_len: usize,
+            count: *mut u32,
+        ) -> u32;
+    }
+}
+
+/// 0, or the number of the file's refusal.
+pub fn check(file: &[u8]) -> u32 {
+    // Sound: pointer and length are those of one slice, which is only read.
+    unsafe { c::noterank_check(file.as_ptr(), file.len()) }
+}
+
+/// The number that a run returns, and its count of rows.
+pub fn run(file: &[u8], query: &Query, documents: &mut [u32], scores: &mut [f32]) -> (u32, u32) {
+    let (rule, start, k, script) = query.rule.numbers();
+    let mut count = 0;
+    // Sound:
+    // - file, lists and script are borrowed until the call returns, and are only read. Each pointer
+    //   comes with its own slice's length; that of an empty slice is not followed.
+    // - documents and scores are borrowed exclusively, so they overlap with nothing that is passed,
+    //   and no cell past their lengths is written.
+    // - count is a variable of this function: one u32.
+    let number = unsafe {
+        c::noterank_run(
+            file.as_ptr(),
+            file.len(),
+            query.lists.as_ptr(),
+            query.lists.len(),
+            query.walk as u32,
+            query.mode as u32,
+            query.scoring as u32,
+            rule,
+            start,
+            k,
+            script.as_ptr(),
+            script.len(),
+            documents.as_mut_ptr(),
+            documents.len(),
+            scores.as_mut_ptr(),
+            scores.len(),
+            &mut count,
+        )
+    };
+    (number, count)
+}
