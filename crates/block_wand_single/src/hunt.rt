@@ -60,7 +60,7 @@ fn hunt(
     }
 }
 
-// The scores of a decoded block, the weight passed once.
+// The scores of a decoded block.
 fn score_postings(
     file: &[u8],
     norms: FieldNormReader,
@@ -74,9 +74,16 @@ fn score_postings(
     requires { ⌜ TermIn (now file) norms x w ⌝ }
     ensures { λ _. ⌜ Scores (now (file .entry)) x scoring (now (docs .entry)) (now (freqs .entry)) (now (values .exit)) ⌝ }
 {
-    let mut ids = [0u8; 128];
-    norms.fieldnorm_ids(file, docs, &mut ids);
-    bm25_block::score_block(w, scoring, &ids, freqs, values);
+    bm25_block::score_block(
+        file,
+        norms,
+        &w.cache,
+        w.weight,
+        scoring,
+        docs,
+        freqs,
+        values,
+    );
 }
 
 // Hunts, then goes to the block's first posting from `doc` on. Its scores are made at once for the walk.

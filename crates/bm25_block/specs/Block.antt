@@ -9,14 +9,15 @@ use Rattle.arrays.specs.Every.{every}
 use Rattle.arrays.specs.Holds.{Holds}
 use Rattle.floats.specs.Whole.{wholeF32}
 use Rattle.floats.specs.Step.{stepDown}
-use Rattle.bm25.specs.Weight.{scoreIn}
+use Rattle.fieldnorm.specs.Reader.{fieldnormId}
+use Rattle.fieldnorm.specs.declared.FieldNormReader.{FieldNormReader}
+use Rattle.bm25.specs.Score.{scoreAt}
 use Rattle.bm25.specs.Scoring.{scored}
-use Rattle.bm25.specs.declared.Bm25Weight.{Bm25Weight}
 use Rattle.bm25.specs.declared.Scoring.{Scoring}
 
--- each code's cached norm
-abbrev pub Gathered : List Float → List ℕ → List Float → Type 0
-Gathered cache ids out = Holds nan 128 (λ i. getD cache (getD ids i 0) nan) out
+-- each posting's norm: the cache's at its document's norm code
+abbrev pub Gathered : FieldNormReader → List ℕ → List Float → List ℕ → List Float → Type 0
+Gathered reader file cache docs out = Holds nan 128 (λ i. getD cache (fieldnormId reader file (getD docs i 0)) nan) out
 
 -- f32 holds a frequency as it is: up to 2 ^ 24 it holds every whole number
 abbrev pub exactAt : List ℕ → ℕ → Bool
@@ -37,6 +38,6 @@ Weighed weight norms tfs out = Holds nan 128 (λ i. mul binary32 weight (div bin
 abbrev pub Stepped : List Float → List Float → Type 0
 Stepped xs out = Holds nan 128 (λ i. stepDown (getD xs i nan)) out
 
--- each posting's score
-abbrev pub Scored : Bm25Weight → Scoring → List ℕ → List ℕ → List Float → Type 0
-Scored w scoring ids freqs out = Holds nan 128 (λ i. scored scoring (scoreIn w (getD ids i 0) (getD freqs i 0))) out
+-- each posting's score, from its list's norms and weight: `scoreIn` of the struct that has both
+abbrev pub Scored : FieldNormReader → List ℕ → List Float → Float → Scoring → List ℕ → List ℕ → List Float → Type 0
+Scored reader file cache weight scoring docs freqs out = Holds nan 128 (λ i. scored scoring (scoreAt weight (getD cache (fieldnormId reader file (getD docs i 0)) nan) (getD freqs i 0))) out

@@ -1,6 +1,6 @@
-// The scores of a block's postings: the struct comes once, norms are gathered, and the float work is a loop of its own.
-use bm25::Bm25Weight;
+// The scores of a block's postings: weight and norms are lent, each posting's norm is read first, and the float work is a loop of its own.
 use bm25::Scoring;
+use fieldnorm::FieldNormReader;
 ghost use mathlib.Core.Path.{_≡_};
 ghost use Prim.Native.Nat.{ℕ, _<_, _≤_};
 ghost use mathlib.Core.Bool.{true};
@@ -15,14 +15,20 @@ fn place(id: u8) -> usize
     id as usize
 }
 
-// The norm of each posting.
-fn gather_norms(cache: &[f32; 256], ids: &[u8; 128], norms: &mut [f32; 128])
-    ensures { λ _. ⌜ Gathered (now (cache .entry)) (now (ids .entry)) (now (norms .exit)) ⌝ }
+// The norm of each posting, by its document's code.
+fn read_norms(
+    file: &[u8],
+    reader: FieldNormReader,
+    cache: &[f32; 256],
+    docs: &[u32; 128],
+    norms: &mut [f32; 128],
+)
+    ensures { λ _. ⌜ Gathered reader (now (file .entry)) (now (cache .entry)) (now (docs .entry)) (now (norms .exit)) ⌝ }
 {
     let n = (&norms[..]).len();
     let mut i = 0usize;
     while i < n {
-        let id = place(ids[i]);
+        let id = place(reader.fieldnorm_id(file, docs[i]));
         norms[i] = cache[id];
         i += 1;
     }
@@ -101,20 +107,23 @@ fn step_all(scores: &mut [f32; 128])
     }
 }
 
-// The scores of 128 postings, by their norm codes and frequencies.
+// The scores of 128 postings, by their documents and frequencies. The norms are lent: a list's struct is 1 KB, and a copy of it costs as much as several scores.
 pub fn score_block(
-    w: Bm25Weight,
+    file: &[u8],
+    reader: FieldNormReader,
+    cache: &[f32; 256],
+    weight: f32,
     scoring: Scoring,
-    ids: &[u8; 128],
+    docs: &[u32; 128],
     term_freqs: &[u32; 128],
     scores: &mut [f32; 128],
 )
-    ensures { λ _. ⌜ Scored w scoring (now (ids .entry)) (now («term_freqs» .entry)) (now (scores .exit)) ⌝ }
+    ensures { λ _. ⌜ Scored reader (now (file .entry)) (now (cache .entry)) weight scoring (now (docs .entry)) (now («term_freqs» .entry)) (now (scores .exit)) ⌝ }
 {
     let mut norms = [0.0f32; 128];
-    gather_norms(&w.cache, ids, &mut norms);
+    read_norms(file, reader, cache, docs, &mut norms);
     to_tfs(term_freqs, scores);
-    weigh(w.weight, &norms, scores);
+    weigh(weight, &norms, scores);
     if let Scoring::Stepped = scoring {
         step_all(scores);
     }

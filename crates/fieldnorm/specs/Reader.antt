@@ -2,7 +2,6 @@
 use mathlib.Core.List.{List}
 use Prim.Native.Nat.{ℕ, _+_}
 use lib.ListN.{getD}
-use Rattle.arrays.specs.Holds.{Holds}
 use Rattle.fieldnorm.specs.declared.FieldNormReader.{FieldNormReader}
 use Rattle.fieldnorm.specs.declared.FieldNormReader.the-variants.{FromData, Const}
 
@@ -10,7 +9,3 @@ use Rattle.fieldnorm.specs.declared.FieldNormReader.the-variants.{FromDa
 abbrev pub fieldnormId : FieldNormReader → List ℕ → ℕ → ℕ
 fieldnormId (FromData start) file d = getD file (start + d) 0
 fieldnormId (Const code) file d = code
-
--- the norm codes of 128 documents
-abbrev pub FieldnormIds : FieldNormReader → List ℕ → List ℕ → List ℕ → Type 0
-FieldnormIds reader file docs out = Holds 0 128 (λ i. fieldnormId reader file (getD docs i 0)) out

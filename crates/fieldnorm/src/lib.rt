@@ -1,7 +1,7 @@
 // Field lengths as codes of one byte: the 256 lengths, and where a document's code is read.
 ghost use mathlib.Core.Path.{_≡_};
 ghost use Rattle.fieldnorm.specs.Code.{fieldnorm};
-ghost use Rattle.fieldnorm.specs.Reader.{fieldnormId, FieldnormIds};
+ghost use Rattle.fieldnorm.specs.Reader.{fieldnormId};
 
 pub const FIELD_NORMS_TABLE: [u32; 256] = [
     0,
@@ -294,18 +294,6 @@ impl FieldNormReader {
                 0
             }
             FieldNormReader::Const(code) => code,
-        }
-    }
-
-    // The norm codes of a block's documents.
-    pub fn fieldnorm_ids(self, file: &[u8], docs: &[u32; 128], ids: &mut [u8; 128])
-        ensures { λ _. ⌜ FieldnormIds self (now (file .entry)) (now (docs .entry)) (now (ids .exit)) ⌝ }
-    {
-        let n = (&ids[..]).len();
-        let mut i = 0usize;
-        while i < n {
-            ids[i] = self.fieldnorm_id(file, docs[i]);
-            i += 1;
         }
     }
 }

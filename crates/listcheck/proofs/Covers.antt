@@ -5,30 +5,21 @@ use mathlib.Core.List.{List}
 use Prim.Native.Nat.{ℕ, _≤_, _<_}
 use native.Mathlib.Omega.{arith}
 use lib.ListN.{getD}
-use lib.Ieee.{Float, nan, binary32, ofBits, lt}
-use Rattle.fieldnorm.specs.Reader.{FieldnormIds}
+use lib.Ieee.{Float, nan, lt}
 use Rattle.fieldnorm.specs.declared.FieldNormReader.{FieldNormReader}
 use Rattle.bm25_block.specs.Block.{Scored}
-use Rattle.bm25.specs.declared.Bm25Weight.{Bm25Weight}
 use Rattle.bm25.specs.declared.Scoring.the-variants.{Unstepped}
-use Rattle.bm25.proofs.WeightLaws.{score-in}
-use Rattle.notefile.specs.Header.{normReader, normCodeOf}
-use Rattle.notefile.specs.Lists.{scoreFor}
-use Rattle.notefile.specs.Given.{WeightIn}
+use Rattle.notefile.specs.Header.{normReader}
+use Rattle.notefile.specs.Given.{WeighedIn}
 use Rattle.notefile.specs.Reads.{allCovered, scoreAmong}
 use Rattle.notefile.specs.declared.part.Part.{Part}
-use Rattle.notefile.proofs.Headers.{norm-code-small}
+use Rattle.notefile.proofs.Scores.{score-of-doc}
 use Rattle.notefile.proofs.Decoded.{every-same}
 
-module _ (file : List ℕ) (x : Part) (w : Bm25Weight) (W : WeightIn x w) (bytes : (k : ℕ) → getD file k 0 < 256) (reader : FieldNormReader) (er : reader ≡ normReader file)
-    (docs freqs ids : List ℕ) (scores : List Float) (I : FieldnormIds reader file docs ids) (S : Scored w Unstepped ids freqs scores) where
-  code-is : (i : ℕ) → i < 128 → getD ids i 0 ≡ normCodeOf file (getD docs i 0)
-  unfolding normCodeOf
-  code-is i h = I .at i h ∙ rw er
-
+module _ (file : List ℕ) (x : Part) (weight : Float) (cache : List Float) (W : WeighedIn x weight cache) (bytes : (k : ℕ) → getD file k 0 < 256) (reader : FieldNormReader) (er : reader ≡ normReader file)
+    (docs freqs : List ℕ) (scores : List Float) (S : Scored reader file cache weight Unstepped docs freqs scores) where
   score-is : (i : ℕ) → i < 128 → getD scores i nan ≡ scoreAmong file x docs freqs i
-  unfolding scoreFor
-  score-is i h = S .at i h ∙ rw (code-is i h) (score-in (ofBits binary32 (x .weight)) (ofBits binary32 (x .average)) w W (normCodeOf file (getD docs i 0)) (getD freqs i 0) (norm-code-small file bytes (getD docs i 0)))
+  score-is i h = S .at i h ∙ score-of-doc x weight cache W file bytes er (getD docs i 0) (getD freqs i 0)
 
   covered-is : (n : ℕ) → n ≤ 128 → (bound : Float) → allCovered bound n (λ i. getD scores i nan) ≡ allCovered bound n (scoreAmong file x docs freqs)
   covered-is n h bound = every-same _ _ n (λ i l. ap (λ (z : Float). not (lt bound z)) (score-is i (omega arith)))

@@ -6,22 +6,22 @@ use Prim.Native.Nat.{ℕ, suc, _+_, _*_, _≤_, _<_}
 use native.Mathlib.Numerals.{add-one}
 use native.Mathlib.Omega.{arith}
 use lib.ListN.{getD}
-use lib.Ieee.{Float, binary32, ofBits}
+use lib.Ieee.{Float, nan}
 use borrow.Author.Tests.{lt-ltb, le-ltb}
 use Rattle.arrays.specs.Every.{every}
 use Rattle.arrays.proofs.Every.{fails, one-more}
-use Rattle.bm25.specs.Bound.{blockMaxScore}
-use Rattle.bm25.specs.declared.Bm25Weight.{Bm25Weight}
-use Rattle.bm25.proofs.WeightLaws.{block-max-score-is}
+use Rattle.bm25.specs.Score.{scoreAt}
+use Rattle.bm25.specs.Bound.{maxTf}
 use Rattle.notefile.specs.Skips.{maxNormCode, skipEntryOf}
-use Rattle.notefile.specs.Lists.{fullBlocks, blockSize, blockAt, scoreFor, blockScore, blockBound, listBound}
+use Rattle.notefile.specs.Lists.{fullBlocks, blockSize, blockAt, blockScore, blockBound, listBound}
 use Rattle.notefile.specs.Conditions.{blockDocsRight, blockFreqsRight, covers, boundsRight}
 use Rattle.notefile.specs.Refusal.{firstOf, blocksRefusal}
-use Rattle.notefile.specs.Given.{WeightIn}
+use Rattle.notefile.specs.Given.{WeighedIn}
 use Rattle.notefile.specs.Reads.{DocsRead, FreqsRead, allCovered, scoreAmong, blockRefusal, lower}
 use Rattle.notefile.specs.declared.part.Part.{Part}
 use Rattle.notefile.specs.declared.skip.SkipEntry.{SkipEntry}
 use Rattle.notefile.proofs.Decoded.{every-same}
+use Rattle.notefile.proofs.Scores.{score-by-is}
 
 -- one block
 module _ (file : List ℕ) (x : Part) (b : ℕ) {docs : List ℕ} {d : Bool} (D : DocsRead file x b d docs) where
@@ -60,9 +60,10 @@ module _ (file : List ℕ) (x : Part) (b : ℕ) {docs : List ℕ} {d : Bool} (D 
         all-right f = rw (sym (D .same) ∙ d-right, sym (F .same) ∙ f-right, sym e ∙ f)
 
 -- a full block's bound, out of its entry
-pub bound-is : (file : List ℕ) (x : Part) (b : ℕ) → ((k : ℕ) → getD file k 0 < 256) → (w : Bm25Weight) → WeightIn x w → (e : SkipEntry) → e ≡ skipEntryOf file x b → {bound : Float} → bound ≡ blockMaxScore w (e .norm) (e .freq) → bound ≡ blockBound file x b
-unfolding blockBound scoreFor skipEntryOf
-bound-is file x b bytes w W e ee be = be ∙ rw ee (block-max-score-is (ofBits binary32 (x .weight)) (ofBits binary32 (x .average)) w W (maxNormCode file x b) _ (bytes _))
+pub bound-is : (file : List ℕ) (x : Part) (b : ℕ) → ((k : ℕ) → getD file k 0 < 256) → (weight : Float) (cache : List Float) → WeighedIn x weight cache → (e : SkipEntry) → e ≡ skipEntryOf file x b
+    → {most : ℕ} → most ≡ maxTf (e .freq) → {bound : Float} → bound ≡ scoreAt weight (getD cache (e .norm) nan) most → bound ≡ blockBound file x b
+unfolding blockBound skipEntryOf
+bound-is file x b bytes weight cache W e ee em be = be ∙ rw (em, ee) (score-by-is x weight cache W (maxNormCode file x b) _ (bytes _))
 
 -- the lower of two is the first condition over both
 joins : (d f c d2 f2 c2 : Bool) → lower (firstOf d f c) (firstOf d2 f2 c2) ≡ firstOf (d && d2) (f && f2) (c && c2)

@@ -5,9 +5,8 @@ ghost use Prim.Native.Nat.{_≤_};
 ghost use lib.ListN.{getD};
 ghost use lib.Ieee.{nan};
 ghost use Rattle.notefile.specs.Header.{normReader};
-ghost use Rattle.notefile.specs.Given.{WeightIn};
+ghost use Rattle.notefile.specs.Given.{WeighedIn};
 ghost use Rattle.notefile.specs.Reads.{allCovered, scoreAmong};
-use bm25::Bm25Weight;
 use bm25::Scoring;
 use fieldnorm::FieldNormReader;
 use notefile::part::Part;
@@ -28,26 +27,34 @@ fn covered(scores: &[f32; 128], n: usize, bound: f32) -> bool
     right
 }
 
-// Whether neither bound lies below a score of the first n postings. Norms are gathered and scores made for the whole block at once.
+// Whether neither bound lies below a score of the first n postings. Scores are made for the whole block at once.
 pub fn both_cover(
     file: &[u8],
     reader: FieldNormReader,
     x: Part,
-    w: Bm25Weight,
+    cache: &[f32; 256],
+    weight: f32,
     n: usize,
     top: f32,
     bound: f32,
     docs: &[u32; 128],
     freqs: &[u32; 128],
 ) -> bool
-    requires { ⌜ (reader ≡ normReader (now file)) × WeightIn x w × (n ≤ 128) ⌝ }
+    requires { ⌜ (reader ≡ normReader (now file)) × WeighedIn x weight (now cache) × (n ≤ 128) ⌝ }
     ensures { λ r. ⌜ r ≡ allCovered top n (scoreAmong (now (file .entry)) x (now (docs .entry)) (now (freqs .entry)))
         && allCovered bound n (scoreAmong (now (file .entry)) x (now (docs .entry)) (now (freqs .entry))) ⌝ }
 {
-    let mut ids = [0u8; 128];
     let mut scores = [0.0f32; 128];
-    reader.fieldnorm_ids(file, docs, &mut ids);
-    bm25_block::score_block(w, Scoring::Unstepped, &ids, freqs, &mut scores);
+    bm25_block::score_block(
+        file,
+        reader,
+        cache,
+        weight,
+        Scoring::Unstepped,
+        docs,
+        freqs,
+        &mut scores,
+    );
     if covered(&scores, n, top) {
         return covered(&scores, n, bound);
     }

@@ -28,12 +28,13 @@ fn check_block(
     limit: u32,
     reader: FieldNormReader,
     x: Part,
-    w: Bm25Weight,
+    cache: &[f32; 256],
+    weight: f32,
     top: f32,
     b: usize,
     at: usize,
 ) -> u32
-    requires { ⌜ Against (now file) x limit reader w top × PackedIn (now file) x b at × (lastBefore (now file) x b ≡ previousDoc (now file) x b) ⌝ }
+    requires { ⌜ Against (now file) x limit reader weight (now cache) top × PackedIn (now file) x b at × (lastBefore (now file) x b ≡ previousDoc (now file) x b) ⌝ }
     ensures { λ r. ⌜ r ≡ blockRefusal (now (file .entry)) x b ⌝ }
 {
     let e = read_skip_entry(file, x, b);
@@ -46,8 +47,9 @@ fn check_block(
     if !packed_freqs(file, x, b, at, e, &mut freqs) {
         return 8;
     }
-    let bound = w.block_max_score(Scoring::Unstepped, e.norm, e.freq);
-    if !both_cover(file, reader, x, w, 128, top, bound, &docs, &freqs) {
+    let most = bm25::decode_block_wand_max_tf(e.freq);
+    let own = bm25::score_by(cache, weight, Scoring::Unstepped, e.norm, most);
+    if !both_cover(file, reader, x, cache, weight, 128, top, own, &docs, &freqs) {
         return 9;
     }
     0
@@ -59,12 +61,13 @@ fn check_tail(
     limit: u32,
     reader: FieldNormReader,
     x: Part,
-    w: Bm25Weight,
+    cache: &[f32; 256],
+    weight: f32,
     top: f32,
     docs: &mut [u32; 128],
     freqs: &mut [u32; 128],
 ) -> u32
-    requires { ⌜ Against (now file) x limit reader w top × Skipped (now file) x × TailValues (now file) x (now docs) (now freqs)
+    requires { ⌜ Against (now file) x limit reader weight (now cache) top × Skipped (now file) x × TailValues (now file) x (now docs) (now freqs)
         × (lastBefore (now file) x (fullBlocks x) ≡ previousDoc (now file) x (fullBlocks x)) ⌝ }
     ensures { λ r. ⌜ r ≡ blockRefusal (now (file .entry)) x (fullBlocks x) ⌝ }
 {
@@ -77,7 +80,7 @@ fn check_tail(
     if !frequencies(freqs, n, false) {
         return 8;
     }
-    if !both_cover(file, reader, x, w, n, top, top, docs, freqs) {
+    if !both_cover(file, reader, x, cache, weight, n, top, top, docs, freqs) {
         return 9;
     }
     0
@@ -105,10 +108,11 @@ fn check_blocks(
     limit: u32,
     reader: FieldNormReader,
     x: Part,
-    w: Bm25Weight,
+    cache: &[f32; 256],
+    weight: f32,
     top: f32,
 ) -> u32
-    requires { ⌜ Against (now file) x limit reader w top × BlocksIn (now file) x ⌝ }
+    requires { ⌜ Against (now file) x limit reader weight (now cache) top × BlocksIn (now file) x ⌝ }
     ensures { λ r. ⌜ r ≡ blocksRefusal (now (file .entry)) x (fullBlocks x) ⌝ }
 {
     let blocks = x.count / 128;
@@ -116,7 +120,7 @@ fn check_blocks(
     let mut at = x.postings;
     let mut b: usize = 0;
     while b < blocks {
-        let r = check_block(file, limit, reader, x, w, top, b, at);
+        let r = check_block(file, limit, reader, x, cache, weight, top, b, at);
         if r == 7 {
             return 7;
         }
@@ -144,12 +148,22 @@ pub fn check_list(file: &[u8], limit: u32, reader: FieldNormReader, x: Part) -> 
     }
     let w = Bm25Weight::new(f32::from_bits(x.weight), f32::from_bits(x.average));
     let top = w.max_score(Scoring::Unstepped);
-    let full = check_blocks(file, limit, reader, x, w, top);
+    let full = check_blocks(file, limit, reader, x, &w.cache, w.weight, top);
     if full == 7 {
         return 7;
     }
     lower_of(
         full,
-        check_tail(file, limit, reader, x, w, top, &mut docs, &mut freqs),
+        check_tail(
+            file,
+            limit,
+            reader,
+            x,
+            &w.cache,
+            w.weight,
+            top,
+            &mut docs,
+            &mut freqs,
+        ),
     )
 }

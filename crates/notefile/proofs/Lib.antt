@@ -1,6 +1,7 @@
 -- Laws of the note file that belong to no one function.
 pub mod Worked
 pub mod Headers
+pub mod Scores
 pub mod Entries
 pub mod SkipEntries
 pub mod Padding

@@ -69,12 +69,19 @@ pub record BlocksIn (file : List ℕ) (x : Part) : Type 0 where
 abbrev pub WeightIn : Part → Bm25Weight → Type 0
 WeightIn x w = WeightOf (ofBits binary32 (x .weight)) (ofBits binary32 (x .average)) w
 
--- what a list's blocks are tested against: the header's number of documents, the norm codes, the weight and the list's bound
-pub record Against (file : List ℕ) (x : Part) (limit : ℕ) (reader : FieldNormReader) (w : Bm25Weight) (top : Float) : Type 0 where
+-- a list's weight and norms, where they stand apart
+abbrev pub weightOf : Part → Float → List Float → Bm25Weight
+weightOf x weight cache = record { weight = weight; average = ofBits binary32 (x .average); cache = cache }
+
+abbrev pub WeighedIn : Part → Float → List Float → Type 0
+WeighedIn x weight cache = WeightIn x (weightOf x weight cache)
+
+-- what a list's blocks are tested against: the header's number of documents, the norm codes, the weight and norms, and the list's bound
+pub record Against (file : List ℕ) (x : Part) (limit : ℕ) (reader : FieldNormReader) (weight : Float) (cache : List Float) (top : Float) : Type 0 where
   pub limit-is : limit ≡ documents file
   pub few : limit ≤ 1048576
   pub reader-is : reader ≡ normReader file
-  pub weight : WeightIn x w
+  pub weighed : WeighedIn x weight cache
   pub top-is : top ≡ listBound x
 
 -- a block whose documents and frequencies are right, with the document before it

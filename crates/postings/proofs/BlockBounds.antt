@@ -12,21 +12,20 @@ use lib.ListN.{getD}
 use lib.Ieee.{Float, nan, binary32, ofBits}
 use borrow.Author.Tests.{lt-ltb, le-ltb, eq-eqb, ne-eqb}
 use Rattle.floats.specs.Maximum.{larger}
-use Rattle.fieldnorm.specs.Reader.{FieldnormIds}
 use Rattle.fieldnorm.specs.declared.FieldNormReader.{FieldNormReader}
 use Rattle.bm25.specs.Scoring.{scored}
 use Rattle.bm25.specs.Bound.{maxScore, blockMaxScore}
 use Rattle.bm25.specs.declared.Bm25Weight.{Bm25Weight}
 use Rattle.bm25.specs.declared.Scoring.{Scoring}
-use Rattle.bm25.proofs.WeightLaws.{score-in, max-score-is, block-max-score-is}
+use Rattle.bm25.proofs.WeightLaws.{max-score-is, block-max-score-is}
 use Rattle.bm25_block.specs.Block.{Scored}
-use Rattle.notefile.specs.Header.{normReader, normCodeOf}
+use Rattle.notefile.specs.Header.{normReader}
 use Rattle.notefile.specs.Skips.{maxNormCode, maxFreqCode}
 use Rattle.notefile.specs.Lists.{fullBlocks, scoreFor, blockScore, blockBound, listBound, listScore}
 use Rattle.notefile.specs.Given.{WeightIn}
 use Rattle.notefile.specs.Reads.{scoreAmong}
 use Rattle.notefile.specs.declared.part.Part.{Part}
-use Rattle.notefile.proofs.Headers.{norm-code-small}
+use Rattle.notefile.proofs.Scores.{apart, score-of-doc}
 use Rattle.route.specs.F32.{f32}
 use Rattle.route.specs.Postings.{Postings, start}
 use Rattle.route.specs.Cursor.{maxFrom, tailMax, blockMax}
@@ -111,14 +110,9 @@ module _ (scoring : Scoring) {file : List ℕ} {x : Part} {b : ℕ} {docs freqs 
 
 -- what the code's scores and bounds are
 module _ (file : List ℕ) (x : Part) (w : Bm25Weight) (W : WeightIn x w) (bytes : (k : ℕ) → getD file k 0 < 256) (scoring : Scoring) where
-  module _ {norms : FieldNormReader} (en : norms ≡ normReader file) (docs freqs : List ℕ) {ids : List ℕ} {scores : List Float} (I : FieldnormIds norms file docs ids) (S : Scored w scoring ids freqs scores) where
-    code-is : (i : ℕ) → i < 128 → getD ids i 0 ≡ normCodeOf file (getD docs i 0)
-    unfolding normCodeOf
-    code-is i h = I .at i h ∙ rw en
-
+  module _ {norms : FieldNormReader} (en : norms ≡ normReader file) (docs freqs : List ℕ) {scores : List Float} (S : Scored norms file (w .cache) (w .weight) scoring docs freqs scores) where
     pub score-is : (i : ℕ) → i < 128 → getD scores i nan ≡ scored scoring (scoreAmong file x docs freqs i)
-    unfolding scoreFor
-    score-is i h = S .at i h ∙ ap (scored scoring) (rw (code-is i h) (score-in (ofBits binary32 (x .weight)) (ofBits binary32 (x .average)) w W (normCodeOf file (getD docs i 0)) (getD freqs i 0) (norm-code-small file bytes (getD docs i 0))))
+    score-is i h = S .at i h ∙ ap (scored scoring) (score-of-doc x (w .weight) (w .cache) (apart x W) file bytes en (getD docs i 0) (getD freqs i 0))
 
     pub scores-most : (n : ℕ) → n ≤ 128 → mostOf (λ i. getD scores i nan) n ≡ mostOf (λ i. scored scoring (scoreAmong file x docs freqs i)) n
     scores-most n h = all-same _ _ n (λ k l. score-is k (omega arith))

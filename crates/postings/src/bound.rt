@@ -51,10 +51,17 @@ fn tail_max_score(
     requires { ⌜ (norms ≡ normReader (now file)) × WeightIn x w × (n ≤ 128) ⌝ }
     ensures { λ r. ⌜ r ≡ mostOf (λ i. scored scoring (scoreAmong (now (file .entry)) x (now (docs .entry)) (now (freqs .entry)) i)) n ⌝ }
 {
-    let mut ids = [0u8; 128];
     let mut scores = [0.0f32; 128];
-    norms.fieldnorm_ids(file, docs, &mut ids);
-    bm25_block::score_block(w, scoring, &ids, freqs, &mut scores);
+    bm25_block::score_block(
+        file,
+        norms,
+        &w.cache,
+        w.weight,
+        scoring,
+        docs,
+        freqs,
+        &mut scores,
+    );
     max_score(&scores, n)
 }
 

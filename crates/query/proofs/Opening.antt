@@ -20,16 +20,17 @@ use Rattle.bm25.proofs.WeightLaws.{max-score-is}
 use Rattle.notefile.specs.Header.{headerOf, listCount}
 use Rattle.notefile.specs.Parts.{partOf}
 use Rattle.notefile.specs.Lists.{listBound, scoreFor}
-use Rattle.notefile.specs.Given.{WeightIn}
+use Rattle.notefile.specs.Given.{WeightIn, WeighedIn}
 use Rattle.notefile.specs.declared.header.Header.{Header}
 use Rattle.notefile.specs.declared.part.Part.{Part}
+use Rattle.notefile.proofs.Scores.{apart}
 use Rattle.route.specs.Cursor.{Cursor, fresh}
 use Rattle.route.specs.Scorer.{Scorer, scorersFrom}
 use Rattle.decoded.specs.Lists.{listOf, postingsOf, queried}
 use Rattle.postings.specs.Decoded.{docIn, ListIn}
 use Rattle.term_scorer.specs.Rows.{partIn, partRow, PartRow}
 use Rattle.term_scorer.specs.Slots.{Held, Sixteen, Opened, partAt, listAt, cursorAt}
-use Rattle.term_scorer.specs.Weights.{weightOf, Weighed}
+use Rattle.term_scorer.specs.Weights.{Weighed}
 use Rattle.term_scorer.proofs.Rows.{part-back}
 use Rattle.query.specs.Fresh.{Arrays, Room, FreshSlot, OnlySlot, OneOpened, QueryOpened}
 
@@ -59,13 +60,10 @@ module _ (scoring : Scoring) (file : List ℕ) (l q : ℕ) (h : q < 16) {x : Par
   part-there : partAt lists′ q ≡ x
   part-there = ap partIn row-is ∙ part-back x
 
-  same-weight : WeightIn x (weightOf x (w .weight) (w .cache))
-  same-weight = record { weight-is = W .weight-is; average-is = refl; norms = W .norms }
-
   weight-there : Weighed lists′ (b .weights) (b .caches) q
   weight-there =
       rw (there (a .weights) q (w .weight) nan h (R .weights), there (a .caches) q (w .cache) [] h (R .caches))
-      (subst (λ (z : Part). WeightIn z (weightOf z (w .weight) (w .cache))) (sym part-there) same-weight)
+      (subst (λ (z : Part). WeighedIn z (w .weight) (w .cache)) (sym part-there) (apart x W))
 
   top-there : getD (b .max-scores) q nan ≡ listAt scoring file lists′ q .top
   unfolding listOf listBound scoreFor

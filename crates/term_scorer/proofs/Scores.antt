@@ -7,7 +7,7 @@ use Prim.Native.Nat.{ℕ, zero, suc, _+_, _<_}
 use native.Mathlib.Omega.{arith}
 use lib.ListN.{getD, set}
 use lib.Seq.{set-getD}
-use lib.Ieee.{Float, nan, binary32, ofBits}
+use lib.Ieee.{Float, nan}
 use borrow.Author.Tests.{lt-ltb, le-ltb}
 use Rattle.arrays.proofs.Order.{lt-or-ge}
 use Rattle.fieldnorm.specs.Reader.{fieldnormId}
@@ -17,12 +17,13 @@ use Rattle.bm25.specs.Weight.{scoreIn}
 use Rattle.bm25.specs.Bound.{maxTf, maxScore, blockMaxScore}
 use Rattle.bm25.specs.declared.Bm25Weight.{Bm25Weight}
 use Rattle.bm25.specs.declared.Scoring.{Scoring}
-use Rattle.bm25.proofs.WeightLaws.{score-in}
 use Rattle.notefile.specs.Header.{normCodeOf, normReader}
-use Rattle.notefile.specs.Lists.{blockScore, scoreFor}
+use Rattle.notefile.specs.Lists.{blockScore}
+use Rattle.notefile.specs.Given.{weightOf, WeighedIn}
 use Rattle.notefile.specs.declared.part.Part.{Part}
 use Rattle.fieldnorm.specs.declared.FieldNormReader.{FieldNormReader}
 use Rattle.notefile.proofs.Headers.{norm-code-small}
+use Rattle.notefile.proofs.Scores.{score-by-is}
 use Rattle.route.specs.Cursor.{blockMax}
 use Rattle.route.specs.F32.{f32}
 use Rattle.route.specs.Postings.{start}
@@ -37,14 +38,9 @@ use Rattle.postings.proofs.BlockBounds.{full-bound, unloaded-bound}
 use Rattle.term_scorer.specs.Rows.{cursorIn, partIn, postingsIn, PlaceIn}
 use Rattle.term_scorer.specs.Slots.{listAt, cursorAt}
 use Rattle.term_scorer.proofs.Rows.{cursor-is}
-use Rattle.term_scorer.specs.Weights.{weightOf, WeighedIn, Bounded, BoundKept}
+use Rattle.term_scorer.specs.Weights.{Bounded, BoundKept}
 
 module _ (file : List ℕ) (x : Part) (weight : Float) (cache : List Float) (W : WeighedIn x weight cache) (scoring : Scoring) where
-  -- a score from lent norms is the list's
-  score-by-is : (code freq : ℕ) → code < 256 → scored scoring (scoreAt weight (getD cache code nan) freq) ≡ scored scoring (scoreFor x code freq)
-  unfolding scoreFor scoreIn
-  score-by-is code freq h = ap (scored scoring) (score-in (ofBits binary32 (x .weight)) (ofBits binary32 (x .average)) (weightOf x weight cache) W code freq h)
-
   module _ (bytes : (k : ℕ) → getD file k 0 < 256) {norms : FieldNormReader} (en : norms ≡ normReader file)
       {row docs freqs : List ℕ} (P : PlaceIn file x row docs freqs) where
     module _ (i : ℕ) (hi : i < 128) where
@@ -69,7 +65,7 @@ module _ (file : List ℕ) (x : Part) (weight : Float) (cache : List Float) (W :
           let l = inside (omega (arith, ed, hd)) in
           let d : doc ≡ Rattle.notefile.specs.Lists.listDoc file x at = ed ∙ rw (lt-ltb at (x .count) l) in
           let n : id ≡ normCodeOf file doc = ei ∙ rw en in
-          er ∙ score-by-is id freq (subst (λ (z : ℕ). z < 256) (sym n) (norm-code-small file bytes doc)) ∙ ap (scored scoring) (rw (n, d, ef, freq-is l))
+          er ∙ ap (scored scoring) (score-by-is x weight cache W id freq (subst (λ (z : ℕ). z < 256) (sym n) (norm-code-small file bytes doc)) ∙ rw (n, d, ef, freq-is l))
 
     -- of the posting that the scorer stands on
     pub score-here : {doc id freq : ℕ} → doc ≡ docIn file x (cursorIn row .at) → doc < 2147483647 → id ≡ fieldnormId norms file doc → freq ≡ getD freqs (getD row 6 0) 0

@@ -3,23 +3,14 @@ use mathlib.Core.Path.{_≡_}
 use mathlib.Core.List.{List, []}
 use Prim.Native.Nat.{ℕ}
 use lib.ListN.{getD, set}
-use lib.Ieee.{Float, nan, binary32, ofBits}
-use Rattle.bm25.specs.declared.Bm25Weight.{Bm25Weight}
+use lib.Ieee.{Float, nan}
 use Rattle.bm25.specs.declared.Scoring.{Scoring}
-use Rattle.notefile.specs.Given.{WeightIn}
-use Rattle.notefile.specs.declared.part.Part.{Part}
+use Rattle.notefile.specs.Given.{WeighedIn}
 use Rattle.route.specs.Cursor.{blockMax}
 use Rattle.route.specs.F32.{f32}
 use Rattle.term_scorer.specs.Slots.{partAt, listAt, cursorAt}
 
--- a list's weight and norms, where they stand apart
-abbrev pub weightOf : Part → Float → List Float → Bm25Weight
-weightOf x weight cache = record { weight = weight; average = ofBits binary32 (x .average); cache = cache }
-
-abbrev pub WeighedIn : Part → Float → List Float → Type 0
-WeighedIn x weight cache = WeightIn x (weightOf x weight cache)
-
--- slot q has its list's
+-- slot q has its list's weight and norms
 abbrev pub Weighed : List (List ℕ) → List Float → List (List Float) → ℕ → Type 0
 Weighed lists weights caches q = WeighedIn (partAt lists q) (getD weights q nan) (getD caches q [])
 

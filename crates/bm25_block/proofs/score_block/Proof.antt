@@ -4,8 +4,8 @@ use Rattle.bm25_block.proofs.BlockScores.{block-stepped, block-unsteppe
 use Rattle.bm25_block.proofs.score_block.Statement.{statement}
 use Rattle.bm25_block.proofs.score_block.Tie as tie
 
-gather-norms-requires : tie.Need-gather-norms-requires
-gather-norms-requires c κs = search needs
+read-norms-requires : tie.Need-read-norms-requires
+read-norms-requires c κs = search needs
 
 to-tfs-requires : tie.Need-to-tfs-requires
 to-tfs-requires c κs = search needs
@@ -25,22 +25,24 @@ enum-told-2 c = search needs
 returns : tie.Need-returns
 returns c =
     let m = c .before .before .before .before in
-    let s = m .before .before .before .before .before .before .before .before .before in
+    let r = m .before .before .before .before .before in
+    let a = r .before .before .before .args in
     rw (c .before .before .enum-told .given .1)
-    (block-stepped _ (s .args .ids .now) (s .args .term-freqs .now) _ _ _ (m .before .before .before .before .before .gather-norms .ensures) (m .before .before .before .to-tfs .ensures) (m .weigh .ensures) _ (c .step-all .ensures))
+    (block-stepped (a .reader) (a .file .now) (a .cache .now) (a .weight) (a .docs .now) (a .term-freqs .now) _ _ _ (r .read-norms .ensures) (m .before .before .before .to-tfs .ensures) (m .weigh .ensures) _ (c .step-all .ensures))
 
 returns-2 : tie.Need-returns-2
 returns-2 c =
     let m = c .before .before in
-    let s = m .before .before .before .before .before .before .before .before .before in
+    let r = m .before .before .before .before .before in
+    let a = r .before .before .before .args in
     rw (c .enum-told2 .given .1)
-    (block-unstepped _ (s .args .ids .now) (s .args .term-freqs .now) _ _ _ (m .before .before .before .before .before .gather-norms .ensures) (m .before .before .before .to-tfs .ensures) (m .weigh .ensures))
+    (block-unstepped (a .reader) (a .file .now) (a .cache .now) (a .weight) (a .docs .now) (a .term-freqs .now) _ _ _ (r .read-norms .ensures) (m .before .before .before .to-tfs .ensures) (m .weigh .ensures))
 
 pub score-block-spec : {M : Type 1} → statement M
 score-block-spec =
     tie.close
     (tie.spec
-    gather-norms-requires
+    read-norms-requires
     to-tfs-requires
     weigh-requires
     enum-told

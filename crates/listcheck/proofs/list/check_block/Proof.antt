@@ -31,39 +31,44 @@ returns-2 c =
     let a = d .before .before .before .before .before in
     freqs-wrong (a .args .file .now) (a .args .x) (a .args .b) (d .packed-docs .ensures) (not-false _ (c .before .before .before .if1 .left)) (c .before .packed-freqs .ensures) (not-true _ (c .if2 .taken))
 
-block-max-score-requires : tie.Need-block-max-score-requires
-block-max-score-requires c κs = search needs
+decode-block-wand-max-tf-requires : tie.Need-decode-block-wand-max-tf-requires
+decode-block-wand-max-tf-requires c κs = search needs
+
+score-by-requires : tie.Need-score-by-requires
+score-by-requires c κs = search needs
 
 both-cover-requires : tie.Need-both-cover-requires
 both-cover-requires c κs = search needs
 
 returns-3 : tie.Need-returns-3
 returns-3 c =
-    let d = c .before .before .before .before .before .before .before .before .before in
+    let d = c .before .before .before .before .before .before .before .before .before .before in
     let k = d .before .before .before .before in
     let a = k .before in
-    let f = c .before .before .before .before .before .before in
+    let f = c .before .before .before .before .before .before .before in
     let s = a .args .file .now in
-    let d-right = not-false _ (c .before .before .before .before .before .before .before .before .if1 .left) in
-    let f-right = not-false _ (c .before .before .before .before .before .if2 .left) in
+    let d-right = not-false _ (c .before .before .before .before .before .before .before .before .before .if1 .left) in
+    let f-right = not-false _ (c .before .before .before .before .before .before .if2 .left) in
     bounds-wrong s (a .args .x) (a .args .b) (d .packed-docs .ensures) d-right (f .packed-freqs .ensures) f-right
     (full-bounds s (a .args .x) (a .args .b) (d .packed-docs .ensures) d-right (f .packed-freqs .ensures) f-right (a .pre .0 .top-is) (full-size (a .args .x) (a .args .b) (a .pre .1 .full)) (a .pre .1 .full)
-    (bound-is s (a .args .x) (a .args .b) (λ i. k .shared-slice-known .given i .fits) (a .args .w) (a .pre .0 .weight) (d .before .before .before .read-skip-entry .result) (d .before .before .before .read-skip-entry .ensures) (c .before .before .before .before .block-max-score .ensures))
+    (bound-is s (a .args .x) (a .args .b) (λ i. k .shared-slice-known .given i .fits) (a .args .weight) (a .args .cache .now) (a .pre .0 .weighed) (d .before .before .before .read-skip-entry .result) (d .before .before .before .read-skip-entry .ensures)
+    (c .before .before .before .before .before .decode-block-wand-max-tf .ensures) (c .before .before .before .before .score-by .ensures))
     (c .before .both-cover .ensures))
     (not-true _ (c .if3 .taken))
 
 returns-4 : tie.Need-returns-4
 returns-4 c =
-    let d = c .before .before .before .before .before .before .before .before .before in
+    let d = c .before .before .before .before .before .before .before .before .before .before in
     let k = d .before .before .before .before in
     let a = k .before in
-    let f = c .before .before .before .before .before .before in
+    let f = c .before .before .before .before .before .before .before in
     let s = a .args .file .now in
-    let d-right = not-false _ (c .before .before .before .before .before .before .before .before .if1 .left) in
-    let f-right = not-false _ (c .before .before .before .before .before .if2 .left) in
+    let d-right = not-false _ (c .before .before .before .before .before .before .before .before .before .if1 .left) in
+    let f-right = not-false _ (c .before .before .before .before .before .before .if2 .left) in
     all-right s (a .args .x) (a .args .b) (d .packed-docs .ensures) d-right (f .packed-freqs .ensures) f-right
     (full-bounds s (a .args .x) (a .args .b) (d .packed-docs .ensures) d-right (f .packed-freqs .ensures) f-right (a .pre .0 .top-is) (full-size (a .args .x) (a .args .b) (a .pre .1 .full)) (a .pre .1 .full)
-    (bound-is s (a .args .x) (a .args .b) (λ i. k .shared-slice-known .given i .fits) (a .args .w) (a .pre .0 .weight) (d .before .before .before .read-skip-entry .result) (d .before .before .before .read-skip-entry .ensures) (c .before .before .before .before .block-max-score .ensures))
+    (bound-is s (a .args .x) (a .args .b) (λ i. k .shared-slice-known .given i .fits) (a .args .weight) (a .args .cache .now) (a .pre .0 .weighed) (d .before .before .before .read-skip-entry .result) (d .before .before .before .read-skip-entry .ensures)
+    (c .before .before .before .before .before .decode-block-wand-max-tf .ensures) (c .before .before .before .before .score-by .ensures))
     (c .before .both-cover .ensures))
     (not-false _ (c .if3 .left))
 
@@ -77,7 +82,8 @@ check-block-spec =
     returns
     packed-freqs-requires
     returns-2
-    block-max-score-requires
+    decode-block-wand-max-tf-requires
+    score-by-requires
     both-cover-requires
     returns-3
     returns-4)

@@ -4,6 +4,7 @@ use borrow.Author.Needs.{needs}
 use borrow.Author.Tests.{not-true, not-false}
 use Rattle.notefile.specs.Lists.{fullBlocks}
 use Rattle.notefile.proofs.FullBlocks.{previous-same}
+use Rattle.notefile.proofs.Scores.{apart}
 use Rattle.bm25.proofs.Numbers.{weight-number, average-number}
 use Rattle.listcheck.proofs.ListOrder.{skips-wrong, tail-is, skipped, postings-wrong, blocks-in, full-seven, docs-before, with-tail, top-is}
 use Rattle.listcheck.proofs.list.check_list.Statement.{statement}
@@ -66,19 +67,6 @@ max-score-requires c κs = search needs
 
 check-blocks-requires : tie.Need-check-blocks-requires
 check-blocks-requires c κs =
-    let t = c .before .before .before .before .before in
-    let k = t .before .before .before in
-    let p = k .before .before .before in
-    let a = p .before .before in
-    let s = a .args .file .now in
-    let x = a .args .x in
-    let m = c in
-    let w = m .before .new in
-    let right = not-false _ (m .before .before .before .before .if1 .left) in
-    (record { limit-is = a .pre .2; few = a .pre .3; reader-is = a .pre .4; weight = w .ensures; top-is = top-is x (w .result) (w .ensures) (m .max-score .ensures) }, blocks-in s x (p .tail-place .ensures) (k .before .place .given .1) (t .read-tail .ensures) right (a .pre .0))
-
-returns-3 : tie.Need-returns-3
-returns-3 c =
     let t = c .before .before .before .before .before .before .before in
     let k = t .before .before .before in
     let p = k .before .before .before in
@@ -88,10 +76,10 @@ returns-3 c =
     let m = c .before .before in
     let w = m .before .new in
     let right = not-false _ (m .before .before .before .before .if1 .left) in
-    full-seven s x (p .tail-place .ensures) (k .before .place .given .1) (t .read-tail .ensures) right (c .before .check-blocks .ensures) (c .if2 .taken)
+    (record { limit-is = a .pre .2; few = a .pre .3; reader-is = a .pre .4; weighed = apart x (w .ensures); top-is = top-is x (w .result) (w .ensures) (m .max-score .ensures) }, blocks-in s x (p .tail-place .ensures) (k .before .place .given .1) (t .read-tail .ensures) right (a .pre .0))
 
-check-tail-requires : tie.Need-check-tail-requires
-check-tail-requires c κs =
+returns-3 : tie.Need-returns-3
+returns-3 c =
     let t = c .before .before .before .before .before .before .before .before .before in
     let k = t .before .before .before in
     let p = k .before .before .before in
@@ -101,24 +89,37 @@ check-tail-requires c κs =
     let m = c .before .before .before .before in
     let w = m .before .new in
     let right = not-false _ (m .before .before .before .before .if1 .left) in
+    full-seven s x (p .tail-place .ensures) (k .before .place .given .1) (t .read-tail .ensures) right (c .before .check-blocks .ensures) (c .if2 .taken)
+
+check-tail-requires : tie.Need-check-tail-requires
+check-tail-requires c κs =
+    let t = c .before .before .before .before .before .before .before .before .before .before .before .before .before in
+    let k = t .before .before .before in
+    let p = k .before .before .before in
+    let a = p .before .before in
+    let s = a .args .file .now in
+    let x = a .args .x in
+    let m = c .before .before .before .before .before .before .before .before in
+    let w = m .before .new in
+    let right = not-false _ (m .before .before .before .before .if1 .left) in
     let q = skipped s x (p .tail-place .ensures) (k .before .place .given .1) (a .pre .0) in
-    (record { limit-is = a .pre .2; few = a .pre .3; reader-is = a .pre .4; weight = w .ensures; top-is = top-is x (w .result) (w .ensures) (m .max-score .ensures) }, q, t .read-tail .ensures .values right, previous-same s x (fullBlocks x) (omega arith) (docs-before s x (p .tail-place .ensures) (k .before .place .given .1) (t .read-tail .ensures) right (c .before .before .before .check-blocks .ensures) (c .before .before .if2 .left)))
+    (record { limit-is = a .pre .2; few = a .pre .3; reader-is = a .pre .4; weighed = apart x (w .ensures); top-is = top-is x (w .result) (w .ensures) (m .max-score .ensures) }, q, t .read-tail .ensures .values right, previous-same s x (fullBlocks x) (omega arith) (docs-before s x (p .tail-place .ensures) (k .before .place .given .1) (t .read-tail .ensures) right (c .before .before .before .before .before .check-blocks .ensures) (c .before .before .before .before .if2 .left)))
 
 lower-of-requires : tie.Need-lower-of-requires
 lower-of-requires c κs = search needs
 
 returns-4 : tie.Need-returns-4
 returns-4 c =
-    let t = c .before .before .before .before .before .before .before .before .before .before .before in
+    let t = c .before .before .before .before .before .before .before .before .before .before .before .before .before .before .before in
     let k = t .before .before .before in
     let p = k .before .before .before in
     let a = p .before .before in
     let s = a .args .file .now in
     let x = a .args .x in
-    let m = c .before .before .before .before .before .before in
+    let m = c .before .before .before .before .before .before .before .before .before .before in
     let w = m .before .new in
     let right = not-false _ (m .before .before .before .before .if1 .left) in
-    with-tail s x (p .tail-place .ensures) (k .before .place .given .1) (t .read-tail .ensures) right (c .before .before .before .before .before .check-blocks .ensures) (c .before .check-tail .ensures) (c .lower-of .ensures)
+    with-tail s x (p .tail-place .ensures) (k .before .place .given .1) (t .read-tail .ensures) right (c .before .before .before .before .before .before .before .check-blocks .ensures) (c .before .check-tail .ensures) (c .lower-of .ensures)
 
 pub check-list-spec : {M : Type 1} → statement M
 check-list-spec =

@@ -5,9 +5,6 @@ use Rattle.postings.proofs.BlockBounds.{scores-most}
 use Rattle.postings.proofs.bound.tail_max_score.Statement.{statement}
 use Rattle.postings.proofs.bound.tail_max_score.Tie as tie
 
-fieldnorm-ids-requires : tie.Need-fieldnorm-ids-requires
-fieldnorm-ids-requires c κs = search needs
-
 score-block-requires : tie.Need-score-block-requires
 score-block-requires c κs = search needs
 
@@ -17,12 +14,11 @@ max-score-requires c κs = search needs
 returns : tie.Need-returns
 returns c =
     let k = c .before .before in
-    let i = k .before .before .before in
-    let b = i .before .before in
+    let b = k .before .before .before .before in
     let a = b .before in
     c .max-score .ensures
-    ∙ scores-most (a .args .file .now) (a .args .x) (a .args .w) (a .pre .1) (λ k. b .shared-slice-known .given k .fits) (a .args .scoring) (a .pre .0) (a .args .docs .now) (a .args .freqs .now) (i .fieldnorm-ids .ensures) (k .score-block .ensures) (a .args .n) (a .pre .2)
+    ∙ scores-most (a .args .file .now) (a .args .x) (a .args .t4) (a .pre .1) (λ k. b .shared-slice-known .given k .fits) (a .args .scoring) (a .pre .0) (a .args .docs .now) (a .args .freqs .now) (k .score-block .ensures) (a .args .n) (a .pre .2)
 
 pub tail-max-score-spec : {M : Type 1} → statement M
 tail-max-score-spec =
-    tie.close (tie.spec fieldnorm-ids-requires score-block-requires max-score-requires returns)
+    tie.close (tie.spec score-block-requires max-score-requires returns)
