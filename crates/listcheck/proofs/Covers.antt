@@ -1,11 +1,16 @@
 -- Bounds and scores: what the loops over a block's scores find of a list's scores.
-use mathlib.Core.Path.{_≡_, sym, ap, _∙_}
+use mathlib.Core.Path.{_≡_, refl, sym, ap, _∙_}
 use mathlib.Core.Bool.{Bool, true, false, _&&_, not}
 use mathlib.Core.List.{List}
+use mathlib.Core.Logic.{_⊎_, inl, inr}
 use Prim.Native.Nat.{ℕ, _≤_, _<_}
 use native.Mathlib.Omega.{arith}
+use lib.Dec.{T}
 use lib.ListN.{getD}
-use lib.Ieee.{Float, nan, lt}
+use lib.Ieee.{Float, nan, lt, le}
+use Rattle.arrays.proofs.Every.{each, all}
+use Rattle.floats.specs.Step.{within}
+use Rattle.floats.proofs.Order.{not-above, below-le, lower-below}
 use Rattle.fieldnorm.specs.declared.FieldNormReader.{FieldNormReader}
 use Rattle.bm25_block.specs.Block.{Scored}
 use Rattle.bm25.specs.declared.Scoring.the-variants.{Unstepped}
@@ -16,6 +21,31 @@ use Rattle.notefile.specs.declared.part.Part.{Part}
 use Rattle.notefile.proofs.Scores.{score-of-doc}
 use Rattle.notefile.proofs.Decoded.{every-same}
 
+first-both : (a b : Bool) → (a ≡ true → b ≡ true) → a ≡ a && b
+first-both true b f = sym (f refl)
+first-both false b f = refl
+
+second-both : (a b : Bool) → (b ≡ true → a ≡ true) → b ≡ a && b
+second-both true b f = refl
+second-both false true f = sym (f refl)
+second-both false false f = refl
+
+-- what the lower of two bounds covers, the higher covers
+lower-covers : (low high : Float) → T (within 1000 low) → T (within 1000 high) → T (le low high) → (n : ℕ) (score : ℕ → Float) → allCovered low n score ≡ true → allCovered high n score ≡ true
+lower-covers low high p q h n score e = all _ n (λ i k. passes (lt high (score i)) (lt low (score i)) (lower-below 1000 low high (score i) p q h) (each _ n i e k))
+  where
+    passes : (a b : Bool) → (a ≡ true → b ≡ true) → not b ≡ true → not a ≡ true
+    passes true b f g = sym (ap not (f refl)) ∙ g
+    passes false b f g = refl
+
+-- so the test with the lower is the test with both
+module _ (top bound : Float) (t : T (within 1000 top)) (b : T (within 1000 bound)) (n : ℕ) (score : ℕ → Float) where
+  bound-lower : lt bound top ≡ true → allCovered bound n score ≡ allCovered top n score && allCovered bound n score
+  bound-lower e = second-both (allCovered top n score) (allCovered bound n score) (lower-covers bound top b t (below-le bound top e) n score)
+
+  top-lower : lt bound top ≡ false → allCovered top n score ≡ allCovered top n score && allCovered bound n score
+  top-lower e = first-both (allCovered top n score) (allCovered bound n score) (lower-covers top bound t b (not-above 1000 top bound t b e) n score)
+
 module _ (file : List ℕ) (x : Part) (weight : Float) (cache : List Float) (W : WeighedIn x weight cache) (bytes : (k : ℕ) → getD file k 0 < 256) (reader : FieldNormReader) (er : reader ≡ normReader file)
     (docs freqs : List ℕ) (scores : List Float) (S : Scored reader file cache weight Unstepped docs freqs scores) where
   score-is : (i : ℕ) → i < 128 → getD scores i nan ≡ scoreAmong file x docs freqs i
@@ -24,10 +54,9 @@ module _ (file : List ℕ) (x : Part) (weight : Float) (cache : List Float) (W :
   covered-is : (n : ℕ) → n ≤ 128 → (bound : Float) → allCovered bound n (λ i. getD scores i nan) ≡ allCovered bound n (scoreAmong file x docs freqs)
   covered-is n h bound = every-same _ _ n (λ i l. ap (λ (z : Float). not (lt bound z)) (score-is i (omega arith)))
 
-  -- the two tests one after the other
-  module _ (n : ℕ) (h : n ≤ 128) (top bound : Float) (t : Bool) (e : t ≡ allCovered top n (λ i. getD scores i nan)) where
-    pub top-below : t ≡ false → false ≡ allCovered top n (scoreAmong file x docs freqs) && allCovered bound n (scoreAmong file x docs freqs)
-    top-below f = sym (ap (λ (z : Bool). z && allCovered bound n (scoreAmong file x docs freqs)) (sym (e ∙ covered-is n h top) ∙ f))
-
-    pub top-covers : t ≡ true → (r : Bool) → r ≡ allCovered bound n (λ i. getD scores i nan) → r ≡ allCovered top n (scoreAmong file x docs freqs) && allCovered bound n (scoreAmong file x docs freqs)
-    top-covers f r g = g ∙ covered-is n h bound ∙ sym (ap (λ (z : Bool). z && allCovered bound n (scoreAmong file x docs freqs)) (sym (e ∙ covered-is n h top) ∙ f))
+  -- the test with the lower bound
+  module _ (n : ℕ) (h : n ≤ 128) (top bound : Float) (t : T (within 1000 top)) (b : T (within 1000 bound)) where
+    pub low-covers : {low : Float} → ((lt bound top ≡ true) × (low ≡ bound)) ⊎ ((lt bound top ≡ false) × (low ≡ top))
+        → {r : Bool} → r ≡ allCovered low n (λ i. getD scores i nan) → r ≡ allCovered top n (scoreAmong file x docs freqs) && allCovered bound n (scoreAmong file x docs freqs)
+    low-covers {low} (inl (e, f)) er = er ∙ covered-is n h low ∙ rw f (bound-lower top bound t b n (scoreAmong file x docs freqs) e)
+    low-covers {low} (inr (e, f)) er = er ∙ covered-is n h low ∙ rw f (top-lower top bound t b n (scoreAmong file x docs freqs) e)

@@ -5,23 +5,25 @@ use mathlib.Core.List.{List}
 use Prim.Native.Nat.{ℕ, suc, _+_, _*_, _≤_, _<_}
 use native.Mathlib.Numerals.{add-one}
 use native.Mathlib.Omega.{arith}
+use lib.Dec.{T}
 use lib.ListN.{getD}
 use lib.Ieee.{Float, nan}
 use borrow.Author.Tests.{lt-ltb, le-ltb}
 use Rattle.arrays.specs.Every.{every}
 use Rattle.arrays.proofs.Every.{fails, one-more}
+use Rattle.floats.specs.Step.{within}
 use Rattle.bm25.specs.Score.{scoreAt}
 use Rattle.bm25.specs.Bound.{maxTf}
 use Rattle.notefile.specs.Skips.{maxNormCode, skipEntryOf}
 use Rattle.notefile.specs.Lists.{fullBlocks, blockSize, blockAt, blockScore, blockBound, listBound}
 use Rattle.notefile.specs.Conditions.{blockDocsRight, blockFreqsRight, covers, boundsRight}
 use Rattle.notefile.specs.Refusal.{firstOf, blocksRefusal}
-use Rattle.notefile.specs.Given.{WeighedIn}
+use Rattle.notefile.specs.Given.{Limits, WeighedIn}
 use Rattle.notefile.specs.Reads.{DocsRead, FreqsRead, allCovered, scoreAmong, blockRefusal, lower}
 use Rattle.notefile.specs.declared.part.Part.{Part}
 use Rattle.notefile.specs.declared.skip.SkipEntry.{SkipEntry}
 use Rattle.notefile.proofs.Decoded.{every-same}
-use Rattle.notefile.proofs.Scores.{score-by-is}
+use Rattle.notefile.proofs.Scores.{score-by-is, list-bound-in, block-bound-in}
 
 -- one block
 module _ (file : List ℕ) (x : Part) (b : ℕ) {docs : List ℕ} {d : Bool} (D : DocsRead file x b d docs) where
@@ -64,6 +66,13 @@ pub bound-is : (file : List ℕ) (x : Part) (b : ℕ) → ((k : ℕ) → getD fi
     → {most : ℕ} → most ≡ maxTf (e .freq) → {bound : Float} → bound ≡ scoreAt weight (getD cache (e .norm) nan) most → bound ≡ blockBound file x b
 unfolding blockBound skipEntryOf
 bound-is file x b bytes weight cache W e ee em be = be ∙ rw (em, ee) (score-by-is x weight cache W (maxNormCode file x b) _ (bytes _))
+
+-- the bounds are scores, so they are numbers
+pub top-in : (x : Part) → Limits x → {top : Float} → top ≡ listBound x → T (within 1000 top)
+top-in x L e = rw e (list-bound-in x L)
+
+pub bound-in : (file : List ℕ) (x : Part) (b : ℕ) → ((k : ℕ) → getD file k 0 < 256) → Limits x → {bound : Float} → bound ≡ blockBound file x b → T (within 1000 bound)
+bound-in file x b bytes L e = rw e (block-bound-in x L file bytes b)
 
 -- the lower of two is the first condition over both
 joins : (d f c d2 f2 c2 : Bool) → lower (firstOf d f c) (firstOf d2 f2 c2) ≡ firstOf (d && d2) (f && f2) (c && c2)

@@ -2,8 +2,10 @@
 ghost use mathlib.Core.Path.{_≡_};
 ghost use mathlib.Core.Bool.{_&&_};
 ghost use Prim.Native.Nat.{_≤_};
+ghost use lib.Dec.{T};
 ghost use lib.ListN.{getD};
 ghost use lib.Ieee.{nan};
+ghost use Rattle.floats.specs.Step.{within};
 ghost use Rattle.notefile.specs.Header.{normReader};
 ghost use Rattle.notefile.specs.Given.{WeighedIn};
 ghost use Rattle.notefile.specs.Reads.{allCovered, scoreAmong};
@@ -27,7 +29,7 @@ fn covered(scores: &[f32; 128], n: usize, bound: f32) -> bool
     right
 }
 
-// Whether neither bound lies below a score of the first n postings. Scores are made for the whole block at once.
+// Whether neither bound lies below a score of the first n postings. Scores are made for the whole block at once, and the lower bound is compared for both.
 pub fn both_cover(
     file: &[u8],
     reader: FieldNormReader,
@@ -40,7 +42,7 @@ pub fn both_cover(
     docs: &[u32; 128],
     freqs: &[u32; 128],
 ) -> bool
-    requires { ⌜ (reader ≡ normReader (now file)) × WeighedIn x weight (now cache) × (n ≤ 128) ⌝ }
+    requires { ⌜ (reader ≡ normReader (now file)) × WeighedIn x weight (now cache) × (n ≤ 128) × T (within 1000 top) × T (within 1000 bound) ⌝ }
     ensures { λ r. ⌜ r ≡ allCovered top n (scoreAmong (now (file .entry)) x (now (docs .entry)) (now (freqs .entry)))
         && allCovered bound n (scoreAmong (now (file .entry)) x (now (docs .entry)) (now (freqs .entry))) ⌝ }
 {
@@ -55,8 +57,6 @@ pub fn both_cover(
         freqs,
         &mut scores,
     );
-    if covered(&scores, n, top) {
-        return covered(&scores, n, bound);
-    }
-    false
+    let low = if bound < top { bound } else { top };
+    covered(&scores, n, low)
 }

@@ -1,18 +1,24 @@
--- A list's scores, made of its weight and norms where these stand apart.
-use mathlib.Core.Path.{_≡_, refl}
+-- A list's scores, made of its weight and norms where these stand apart; and how high they and the bounds are.
+use mathlib.Core.Path.{_≡_, refl, sym, subst}
+use mathlib.Core.Bool.{Bool, true, false, cond}
 use mathlib.Core.List.{List}
-use Prim.Native.Nat.{ℕ, _<_}
+use Prim.Native.Nat.{ℕ, _^_, _<_}
+use native.Mathlib.Omega.{arith}
+use lib.Dec.{T, eqb, lit<}
 use lib.ListN.{getD}
 use lib.Ieee.{Float, nan, binary32, ofBits}
+use Rattle.floats.specs.Step.{within}
 use Rattle.fieldnorm.specs.Reader.{fieldnormId}
 use Rattle.fieldnorm.specs.declared.FieldNormReader.{FieldNormReader}
 use Rattle.bm25.specs.Score.{scoreAt}
 use Rattle.bm25.specs.Weight.{scoreIn}
+use Rattle.bm25.specs.Bound.{maxTf}
 use Rattle.bm25.specs.declared.Bm25Weight.{Bm25Weight}
+use Rattle.bm25.proofs.Bounds.{score-within}
 use Rattle.bm25.proofs.WeightLaws.{score-in}
 use Rattle.notefile.specs.Header.{normReader, normCodeOf}
-use Rattle.notefile.specs.Lists.{scoreFor}
-use Rattle.notefile.specs.Given.{WeightIn, weightOf, WeighedIn}
+use Rattle.notefile.specs.Lists.{scoreFor, blockBound, listBound}
+use Rattle.notefile.specs.Given.{Limits, WeightIn, weightOf, WeighedIn}
 use Rattle.notefile.specs.declared.part.Part.{Part}
 use Rattle.notefile.proofs.Headers.{norm-code-small}
 
@@ -30,3 +36,24 @@ module _ (x : Part) (weight : Float) (cache : List Float) (W : WeighedIn x weigh
       → scoreAt weight (getD cache (fieldnormId reader file doc) nan) freq ≡ scoreFor x (normCodeOf file doc) freq
   unfolding normCodeOf
   score-of-doc file bytes er doc freq = rw er (score-by-is (normCodeOf file doc) freq (norm-code-small file bytes doc))
+
+max-tf-small : (code : ℕ) → code < 256 → maxTf code < 2 ^ 32
+max-tf-small code h = go (eqb code 255)
+  where
+    go : (b : Bool) → cond b 4294967295 code < 2 ^ 32
+    go true = lit< tt
+    go false = omega arith
+
+-- a list within its limits has scores and bounds that are finite, of clear sign and at most 1,000
+module _ (x : Part) (L : Limits x) where
+  pub score-for-in : (code freq : ℕ) → code < 256 → freq < 2 ^ 32 → T (within 1000 (scoreFor x code freq))
+  unfolding scoreFor
+  score-for-in code freq c f = score-within _ _ code freq (subst T (sym (L .weight)) tt) (subst T (sym (L .average)) tt) c f
+
+  pub list-bound-in : T (within 1000 (listBound x))
+  unfolding listBound
+  list-bound-in = score-for-in 255 2013265944 (lit< tt) (lit< tt)
+
+  pub block-bound-in : (file : List ℕ) → ((k : ℕ) → getD file k 0 < 256) → (b : ℕ) → T (within 1000 (blockBound file x b))
+  unfolding blockBound
+  block-bound-in file bytes b = score-for-in _ _ (bytes _) (max-tf-small _ (bytes _))

@@ -76,11 +76,12 @@ weightOf x weight cache = record { weight = weight; average = ofBits binary32 (x
 abbrev pub WeighedIn : Part → Float → List Float → Type 0
 WeighedIn x weight cache = WeightIn x (weightOf x weight cache)
 
--- what a list's blocks are tested against: the header's number of documents, the norm codes, the weight and norms, and the list's bound
+-- what a list's blocks are tested against: the header's number of documents, the norm codes, the weight and norms, within their limits, and the list's bound
 pub record Against (file : List ℕ) (x : Part) (limit : ℕ) (reader : FieldNormReader) (weight : Float) (cache : List Float) (top : Float) : Type 0 where
   pub limit-is : limit ≡ documents file
   pub few : limit ≤ 1048576
   pub reader-is : reader ≡ normReader file
+  pub limits : Limits x
   pub weighed : WeighedIn x weight cache
   pub top-is : top ≡ listBound x
 

@@ -3,7 +3,7 @@ use mathlib.Core.Path.{_∙_}
 use borrow.Author.Needs.{needs}
 use borrow.Author.Tests.{not-true, not-false}
 use Rattle.notefile.proofs.FullBlocks.{full-size}
-use Rattle.listcheck.proofs.Judged.{docs-wrong, freqs-wrong, full-bounds, bounds-wrong, all-right, bound-is}
+use Rattle.listcheck.proofs.Judged.{docs-wrong, freqs-wrong, full-bounds, bounds-wrong, all-right, bound-is, top-in, bound-in}
 use Rattle.listcheck.proofs.list.check_block.Statement.{statement}
 use Rattle.listcheck.proofs.list.check_block.Tie as tie
 
@@ -38,7 +38,15 @@ score-by-requires : tie.Need-score-by-requires
 score-by-requires c κs = search needs
 
 both-cover-requires : tie.Need-both-cover-requires
-both-cover-requires c κs = search needs
+both-cover-requires c κs =
+    let k = c .before .before .before .before .before .before .before .before .before .before .before .before in
+    let a = k .before in
+    let s = a .args .file .now in
+    let e = c .before .before .before .before .before .before .before .before .before .before .before .read-skip-entry in
+    let own = bound-is s (a .args .x) (a .args .b) (λ i. k .shared-slice-known .given i .fits) (a .args .weight) (a .args .cache .now) (a .pre .0 .weighed) (e .result) (e .ensures) (c .before .before .before .decode-block-wand-max-tf .ensures) (c .before .before .score-by .ensures) in
+    let t = top-in (a .args .x) (a .pre .0 .limits) (a .pre .0 .top-is) in
+    let o = bound-in s (a .args .x) (a .args .b) (λ i. k .shared-slice-known .given i .fits) (a .pre .0 .limits) own in
+    (a .pre .0 .reader-is, a .pre .0 .weighed, search needs, search needs, search needs)
 
 returns-3 : tie.Need-returns-3
 returns-3 c =

@@ -4,7 +4,7 @@ use native.Mathlib.Omega.{arith}
 use borrow.Author.Needs.{needs}
 use borrow.Author.Tests.{not-true, not-false}
 use Rattle.notefile.proofs.TailBlocks.{size-tail, docs-small, freqs-small, docs-tail, freqs-tail}
-use Rattle.listcheck.proofs.Judged.{docs-wrong, freqs-wrong, tail-bounds, bounds-wrong, all-right}
+use Rattle.listcheck.proofs.Judged.{docs-wrong, freqs-wrong, tail-bounds, bounds-wrong, all-right, top-in}
 use Rattle.listcheck.proofs.list.check_tail.Statement.{statement}
 use Rattle.listcheck.proofs.list.check_tail.Tie as tie
 
@@ -36,7 +36,10 @@ returns-2 c =
     freqs-wrong s (a .args .x) _ D (not-false _ (c .before .before .before .if1 .left)) (freqs-tail (a .pre .2) (c .before .frequencies .ensures)) (not-true _ (c .if2 .taken))
 
 both-cover-requires : tie.Need-both-cover-requires
-both-cover-requires c κs = search needs
+both-cover-requires c κs =
+    let a = c .before .before .before .before .before .before .before .before .before .before .before .before in
+    let top = top-in (a .args .x) (a .pre .0 .limits) (a .pre .0 .top-is) in
+    (a .pre .0 .reader-is, a .pre .0 .weighed, search needs, top, top)
 
 returns-3 : tie.Need-returns-3
 returns-3 c =
