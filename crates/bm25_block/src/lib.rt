@@ -6,6 +6,7 @@ ghost use Prim.Native.Nat.{ℕ, _<_, _≤_};
 ghost use mathlib.Core.Bool.{true};
 ghost use lib.ListN.{getD, length};
 ghost use lib.Ieee.{nan};
+ghost use Rattle.floats.specs.Whole.{wholeF32};
 ghost use Rattle.bm25_block.specs.Block.{Gathered, Whole, Weighed, Stepped, Scored, allExact};
 
 // A code as a place in the cache.
@@ -49,6 +50,14 @@ fn all_exact(term_freqs: &[u32; 128]) -> bool
     ok
 }
 
+// A whole number that f32 holds. By the remainder the compiler sees that it is small, and converts it as a signed one, four at a time.
+fn exact(n: u32) -> f32
+    requires { ⌜ n ≤ 16777216 ⌝ }
+    ensures { λ r. ⌜ r ≡ wholeF32 n ⌝ }
+{
+    (n % 33554432) as f32
+}
+
 fn exact_tfs(term_freqs: &[u32; 128], tfs: &mut [f32; 128])
     requires { ⌜ allExact (now «term_freqs») ≡ true ⌝ }
     ensures { λ _. ⌜ Whole (now («term_freqs» .entry)) (now (tfs .exit)) ⌝ }
@@ -56,7 +65,7 @@ fn exact_tfs(term_freqs: &[u32; 128], tfs: &mut [f32; 128])
     let n = (&tfs[..]).len();
     let mut i = 0usize;
     while i < n {
-        tfs[i] = term_freqs[i] as f32;
+        tfs[i] = exact(term_freqs[i]);
         i += 1;
     }
 }

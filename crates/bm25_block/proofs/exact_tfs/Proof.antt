@@ -1,11 +1,11 @@
 -- `bm25_block::exact_tfs` meets its contract: a whole number up to 2 ^ 24 is cast without loss.
-use mathlib.Core.Path.{_≡_, refl, sym, subst}
+use mathlib.Core.Path.{_≡_}
 use Prim.Native.Nat.{_-_, _≤_}
 use native.Mathlib.Omega.{arith}
 use lib.ListN.{getD}
-use lib.Dec.{T}
-use lib.Ieee.{inFloat, nan}
+use lib.Ieee.{nan}
 use borrow.Author.Needs.{needs}
+use borrow.Author.Tests.{leb-true}
 use Rattle.arrays.proofs.Every.{each}
 use Rattle.arrays.proofs.Filling.{Filling, begun, goes-on, ended}
 use Rattle.floats.specs.Whole.{wholeF32}
@@ -22,21 +22,21 @@ abbrev μ-loop : tie.MeasureT-loop
 loop-holds : tie.Need-loop-holds Inv-loop μ-loop
 loop-holds c = (search needs, (search needs, begun nan 128 _ _ (search needs)))
 
+mul-exact : tie.Need-mul-exact Inv-loop μ-loop
+mul-exact c = search needs
+
+element-copy-out-exact : tie.Need-element-copy-out-exact Inv-loop μ-loop
+element-copy-out-exact c = search needs
+
+exact-requires : tie.Need-exact-requires Inv-loop μ-loop
+unfolding allExact
+exact-requires c κs =
+    let a = c .before .before in
+    let s = a .before .before .before in
+    leb-true (getD (s .args .term-freqs .now) (a .loop .i) 0) 16777216 (each (exactAt (s .args .term-freqs .now)) 128 (a .loop .i) (s .pre) (omega arith))
+
 mul-tfs : tie.Need-mul-tfs Inv-loop μ-loop
 mul-tfs c = search needs
-
-element-copy-out-tfs : tie.Need-element-copy-out-tfs Inv-loop μ-loop
-element-copy-out-tfs c = search needs
-
-int-to-float-tfs : tie.Need-int-to-float-tfs Inv-loop μ-loop
-unfolding inFloat allExact
-int-to-float-tfs c =
-    let a = c .before .before .before in
-    let s = a .before .before .before in
-    subst T (sym (each (exactAt (s .args .term-freqs .now)) 128 (a .loop .i) (s .pre) (omega arith))) tt
-
-mul-tfs-2 : tie.Need-mul-tfs-2 Inv-loop μ-loop
-mul-tfs-2 c = search needs
 
 element-write-tfs : tie.Need-element-write-tfs Inv-loop μ-loop
 element-write-tfs c = search needs
@@ -50,7 +50,7 @@ loop-less c = search needs
 loop-again : tie.Need-loop-again Inv-loop μ-loop
 loop-again c =
     let a = c .before .before .before in
-    (a .loop .inv .0, (omega arith, goes-on nan 128 _ _ (a .loop .i) (a .loop .tfs) _ (omega arith) (refl) (a .loop .inv .1 .1)))
+    (a .loop .inv .0, (omega arith, goes-on nan 128 _ _ (a .loop .i) (a .loop .tfs) _ (omega arith) (c .exact .ensures) (a .loop .inv .1 .1)))
 
 returns : tie.Need-returns Inv-loop μ-loop
 returns c = let l = c .before .loop in ended nan 128 _ _ (l .i) _ (omega arith) (l .inv .1 .1)
@@ -62,10 +62,10 @@ exact-tfs-spec =
     Inv-loop
     μ-loop
     loop-holds
+    mul-exact
+    element-copy-out-exact
+    exact-requires
     mul-tfs
-    element-copy-out-tfs
-    int-to-float-tfs
-    mul-tfs-2
     element-write-tfs
     add-i
     loop-less
