@@ -20,7 +20,7 @@ use Rattle.route.specs.Union.{leastLastDoc}
 use Rattle.route.specs.Intersection.{allRemain, hasRemainingDocs, seekBlockAll}
 use Rattle.route.proofs.Cases.{on-test}
 use Rattle.decoded.specs.Lists.{listOf}
-use Rattle.term_scorer.specs.Rows.{cursorIn}
+use Rattle.slot_rows.specs.Rows.{cursorIn}
 use Rattle.term_scorer.specs.Slots.{Held, MovedSlot, cursorAt, held, lastAt, listAt, partAt}
 use Rattle.term_scorer.specs.Weights.{Bounded}
 use Rattle.block_wand_intersection.specs.Scorers.{BoundsKept, InOrder, Query, Ready, Seated, listIn, scorerAt, scorersBetween, secondariesIn, slotAt}

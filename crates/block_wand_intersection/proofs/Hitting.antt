@@ -29,7 +29,7 @@ use Rattle.postings.specs.Decoded.{Decoded, doc-is, docIn}
 use Rattle.postings.proofs.Blocks.{decoded-sorted}
 use Rattle.postings.proofs.Moves.{find-is}
 use Rattle.reports.specs.Runs.{Quietly, goes, stays}
-use Rattle.term_scorer.specs.Rows.{cursorIn, postingsIn}
+use Rattle.slot_rows.specs.Rows.{cursorIn, postingsIn}
 use Rattle.term_scorer.specs.Slots.{Held, partAt}
 use Rattle.block_wand_intersection.specs.Scorers.{InOrder, Query, Seated, StillKept, Unmoved, leaderIn, listIn, placeAt, secondariesIn, slotAt}
 use Rattle.block_wand_intersection.specs.Candidates.{Hits, Suffixes, Tries, candidateOf, candidatesLeft, interEnded, interTurn, leaderBlock, withinAt}

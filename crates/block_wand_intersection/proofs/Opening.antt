@@ -15,7 +15,7 @@ use Rattle.route.specs.Scorer.{Scorer, blockMaxScore, lastDocInBlock, seekBlock
 use Rattle.route.specs.Union.{leastLastDoc}
 use Rattle.route.specs.Intersection.{InterPlace, Stage, allRemain, candidatesIn, hasRemainingDocs, loadLeader, over, seekBlockAll, window, windowTurn, within}
 use Rattle.route.proofs.Cases.{on-test}
-use Rattle.term_scorer.specs.Rows.{cursorIn, firstOf}
+use Rattle.slot_rows.specs.Rows.{cursorIn, firstOf}
 use Rattle.term_scorer.specs.Slots.{Held, MovedSlot, cursorAt, held, lastAt, listAt}
 use Rattle.term_scorer.specs.Weights.{Bounded}
 use Rattle.block_wand_intersection.specs.Scorers.{BoundsKept, InOrder, Query, Ready, Seated, leaderIn, listIn, scorerAt, secondariesIn, slotAt}

@@ -23,7 +23,7 @@ use Rattle.ordering.proofs.Carried.{sort-map}
 use Rattle.ordering.proofs.Places.{all-at, all-first}
 use Rattle.rule.specs.declared.Rule.{Rule}
 use Rattle.reports.specs.Runs.{Rests}
-use Rattle.term_scorer.specs.Rows.{partIn}
+use Rattle.slot_rows.specs.Rows.{partIn}
 use Rattle.term_scorer.specs.Slots.{Held, cursorAt}
 use Rattle.block_wand_intersection.specs.Scorers.{InOrder, Query, Ready, WeightsIn, leaderIn, listIn, query, scorerAt, scorersBetween, secondariesIn}
 use Rattle.block_wand_intersection.specs.Sizes.{BySize, sizeIn, slotsFrom}

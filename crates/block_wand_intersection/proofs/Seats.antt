@@ -20,10 +20,10 @@ use Rattle.route.proofs.Places.{last-cap}
 use Rattle.decoded.proofs.AcceptedLists.{list-ok}
 use Rattle.postings.specs.Decoded.{docIn}
 use Rattle.postings.proofs.Readers.{end-is}
-use Rattle.term_scorer.specs.Rows.{PlaceIn, cursorIn}
+use Rattle.slot_rows.specs.Rows.{PlaceIn, cursorIn}
 use Rattle.term_scorer.specs.Slots.{Held, MovedSlot, Shallowed, Sixteen, SlotIn, StandingIn, cursorAt, held, lastAt, partAt}
 use Rattle.term_scorer.specs.Weights.{Bounded, BoundKept}
-use Rattle.term_scorer.proofs.Rows.{bound-in, cur-inside, doc-in-array, last-is, last-small}
+use Rattle.slot_rows.proofs.Rows.{bound-in, cur-inside, doc-in-array, last-is, last-small}
 use Rattle.block_wand_intersection.specs.Scorers.{InOrder, Query, Ready, Seated, StillKept, BoundsKept, Unmoved, listIn, scorerAt, scorersBetween, slotAt}
 use Rattle.block_wand_intersection.proofs.Parts.{part-same}
 

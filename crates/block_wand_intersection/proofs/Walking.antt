@@ -27,7 +27,7 @@ use Rattle.reports.specs.Rows.{Reported, rowsOf}
 use Rattle.reports.specs.Runs.{AtRest, Going}
 use Rattle.reports.proofs.RowLaws.{documents-long as same-documents, scores-long as same-scores}
 use Rattle.reports.proofs.RunLaws.{rests-ended, rests-full, run-quiet, run-quietly, run-reports}
-use Rattle.term_scorer.specs.Rows.{cursorIn}
+use Rattle.slot_rows.specs.Rows.{cursorIn}
 use Rattle.term_scorer.specs.Slots.{Held, cursorAt}
 use Rattle.block_wand_intersection.specs.Scorers.{InOrder, Query, Seated, StillKept, Unmoved, leaderIn, listIn, placeAt, scorerAt, secondariesIn, slotAt}
 use Rattle.block_wand_intersection.specs.Candidates.{HitBy, HitIn, Hits, Suffixes, candidatesLeft, interTurn, leaderBlock, withinAt}

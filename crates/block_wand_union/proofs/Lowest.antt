@@ -18,9 +18,9 @@ use Rattle.route.proofs.Places.{last-cap}
 use Rattle.route.proofs.Pivot.{leastLast-le}
 use Rattle.decoded.proofs.AcceptedLists.{list-ok}
 use Rattle.postings.proofs.Readers.{end-is}
-use Rattle.term_scorer.specs.Rows.{cursorIn}
+use Rattle.slot_rows.specs.Rows.{cursorIn}
 use Rattle.term_scorer.specs.Slots.{cursorAt, Held, lastAt, listAt, partAt, MovedSlot}
-use Rattle.term_scorer.proofs.Rows.{last-is, last-small}
+use Rattle.slot_rows.proofs.Rows.{last-is, last-small}
 use Rattle.ordering.specs.declared.TermScorer.{TermScorer}
 use Rattle.ordering.specs.Scorers.{Apart, leastDocOf, moved, noScorer}
 use Rattle.ordering.specs.Pivots.{placeToSeek}

@@ -16,7 +16,7 @@ use Rattle.route.specs.Scorer.{onCur}
 use Rattle.route.proofs.Lists.{perm-eq}
 use Rattle.postings.specs.Decoded.{docIn, doc-is}
 use Rattle.postings.specs.Reader.{readerAt}
-use Rattle.term_scorer.specs.Rows.{cursorIn, placeRow, PlaceIn, postingsIn}
+use Rattle.slot_rows.specs.Rows.{cursorIn, placeRow, PlaceIn, postingsIn}
 use Rattle.term_scorer.specs.Slots.{cursorAt, held, Held, listAt, partAt, MovedSlot, Shallowed, Sixteen, StandingIn}
 use Rattle.term_scorer.specs.Weights.{Bounded, Weighed}
 use Rattle.ordering.specs.declared.TermScorer.{TermScorer}

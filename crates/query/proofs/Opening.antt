@@ -28,10 +28,10 @@ use Rattle.route.specs.Cursor.{Cursor, fresh}
 use Rattle.route.specs.Scorer.{Scorer, scorersFrom}
 use Rattle.decoded.specs.Lists.{listOf, postingsOf, queried}
 use Rattle.postings.specs.Decoded.{docIn, ListIn}
-use Rattle.term_scorer.specs.Rows.{partIn, partRow, PartRow}
+use Rattle.slot_rows.specs.Rows.{partIn, partRow, PartRow}
 use Rattle.term_scorer.specs.Slots.{Held, Sixteen, Opened, partAt, listAt, cursorAt}
 use Rattle.term_scorer.specs.Weights.{Weighed}
-use Rattle.term_scorer.proofs.Rows.{part-back}
+use Rattle.slot_rows.proofs.Rows.{part-back}
 use Rattle.query.specs.Fresh.{Arrays, Room, FreshSlot, OnlySlot, OneOpened, QueryOpened}
 
 -- a list's number is below the header's

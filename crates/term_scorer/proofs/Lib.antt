@@ -1,4 +1,3 @@
--- Laws of slots: rows and places, and a scorer's moves over them.
-pub mod Rows
+-- Laws of slots: a scorer's moves, scores and bounds, seen from all of them.
 pub mod Slots
 pub mod Scores

@@ -35,9 +35,9 @@ use Rattle.postings.specs.declared.skip.BlockInfo.the-variants.{BitPacked, VInt
 use Rattle.postings.specs.declared.cursor.SegmentPostings.{SegmentPostings}
 use Rattle.postings.proofs.Readers.{packed-info, tail-info}
 use Rattle.postings.proofs.BlockBounds.{full-bound, unloaded-bound}
-use Rattle.term_scorer.specs.Rows.{cursorIn, partIn, postingsIn, PlaceIn}
+use Rattle.slot_rows.specs.Rows.{cursorIn, partIn, postingsIn, PlaceIn}
 use Rattle.term_scorer.specs.Slots.{listAt, cursorAt}
-use Rattle.term_scorer.proofs.Rows.{cursor-is}
+use Rattle.slot_rows.proofs.Rows.{cursor-is}
 use Rattle.term_scorer.specs.Weights.{Bounded, BoundKept}
 
 module _ (file : List ℕ) (x : Part) (weight : Float) (cache : List Float) (W : WeighedIn x weight cache) (scoring : Scoring) where

@@ -8,9 +8,9 @@ use lib.Seq.{getD-set-same, set-getD}
 use Rattle.bm25.specs.declared.Scoring.{Scoring}
 use Rattle.notefile.specs.declared.part.Part.{Part}
 use Rattle.route.specs.Cursor.{Cursor, fresh, seekBlockIn}
-use Rattle.term_scorer.specs.Rows.{cursorIn, partIn, partRow, PartRow, MovedRow, ShallowRow}
+use Rattle.slot_rows.specs.Rows.{cursorIn, partIn, partRow, PartRow, MovedRow, ShallowRow}
 use Rattle.term_scorer.specs.Slots.{Sixteen, StandingIn, cursorAt, held, listAt, partAt, MovedSlot, Shallowed, Opened}
-use Rattle.term_scorer.proofs.Rows.{part-back, stays-shallow}
+use Rattle.slot_rows.proofs.Rows.{part-back, stays-shallow}
 
 -- the row that was put into a slot
 same-row : {A : Type 0} (xss : List (List A)) (q : ℕ) (xs : List A) → q < 16 → Sixteen xss → getD (set xss q xs) q [] ≡ xs

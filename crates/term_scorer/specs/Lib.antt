@@ -1,4 +1,3 @@
 -- What the contracts of `term_scorer` cite.
-pub mod Rows
 pub mod Slots
 pub mod Weights

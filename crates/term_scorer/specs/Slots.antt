@@ -10,7 +10,7 @@ use Rattle.route.specs.Postings.{Postings}
 use Rattle.route.specs.Cursor.{Cursor, fresh}
 use Rattle.decoded.specs.Lists.{listOf}
 use Rattle.postings.specs.Decoded.{docIn, ListIn}
-use Rattle.term_scorer.specs.Rows.{partIn, partRow, PartRow, cursorIn, Standing, PlaceIn, MovedRow, ShallowRow}
+use Rattle.slot_rows.specs.Rows.{partIn, partRow, PartRow, cursorIn, Standing, PlaceIn, MovedRow, ShallowRow}
 
 -- an array of 16 slots
 abbrev pub Sixteen : {A : Type 0} → List A → Type 0

@@ -9,14 +9,14 @@ ghost use Rattle.notefile.specs.declared.part.Part.{Part};
 ghost use Rattle.route.specs.Cursor.{advanceIn, seekBlockIn, seekIn};
 ghost use Rattle.route.specs.Postings.{start};
 ghost use Rattle.postings.specs.Decoded.{docIn, ListIn};
-ghost use Rattle.term_scorer.specs.Rows.{firstOf};
+ghost use Rattle.slot_rows.specs.Rows.{firstOf};
 ghost use Rattle.term_scorer.specs.Slots.{cursorAt, held, lastAt, listAt, partAt, MovedSlot, Opened, Shallowed, SlotIn, StandingIn, Sixteen};
-use crate::place::BLOCK;
-use crate::place::COUNT;
-use crate::place::CUR;
-use crate::place::LAST;
-use crate::place::keep_part;
-use crate::row;
+use slot_rows::place::BLOCK;
+use slot_rows::place::COUNT;
+use slot_rows::place::CUR;
+use slot_rows::place::LAST;
+use slot_rows::place::keep_part;
+use slot_rows::row;
 use notefile::part::Part;
 
 // A list's scorer in slot q, on the list's first posting.

@@ -1,7 +1,7 @@
 -- `score::bound_of` meets its contract: the pair of a full block, the scores of a loaded tail, the list bound of one that is not loaded.
 use borrow.Author.Needs.{needs}
 use Rattle.bm25.proofs.Numbers.{average-number}
-use Rattle.term_scorer.proofs.Rows.{list-for, standing-for, stands-for, placed-for}
+use Rattle.slot_rows.proofs.Rows.{list-for, standing-for, stands-for, placed-for}
 use Rattle.term_scorer.proofs.Scores.{bound-for, full-by, unloaded-by, weight-for}
 use Rattle.term_scorer.proofs.score.bound_of.Statement.{statement}
 use Rattle.term_scorer.proofs.score.bound_of.Tie as tie

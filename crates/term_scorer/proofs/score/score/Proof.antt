@@ -1,7 +1,7 @@
 -- `score::score` meets its contract: the document's norm and the frequency at the scorer's place, by its list's weight and norms.
 use mathlib.Core.List.{[]}
 use borrow.Author.Needs.{needs}
-use Rattle.term_scorer.proofs.Rows.{cur-inside}
+use Rattle.slot_rows.proofs.Rows.{cur-inside}
 use Rattle.term_scorer.proofs.Scores.{score-here}
 use Rattle.term_scorer.specs.Slots.{partAt}
 use lib.ListN.{getD}

@@ -2,7 +2,7 @@
 use borrow.Author.Needs.{needs}
 use mathlib.Core.Path.{refl}
 use Rattle.route.specs.Postings.{start}
-use Rattle.term_scorer.specs.Rows.{cursorIn, partIn}
+use Rattle.slot_rows.specs.Rows.{cursorIn, partIn}
 use Rattle.term_scorer.proofs.slot.has_remaining_docs.Statement.{statement}
 use Rattle.term_scorer.proofs.slot.has_remaining_docs.Tie as tie
 

@@ -4,9 +4,9 @@ use mathlib.Core.List.{List}
 use Prim.Native.Nat.{ℕ}
 use lib.ListN.{getD}
 use borrow.Author.Needs.{needs}
-use Rattle.term_scorer.proofs.Rows.{moved-row}
-use Rattle.term_scorer.proofs.row.open.Statement.{statement}
-use Rattle.term_scorer.proofs.row.open.Tie as tie
+use Rattle.slot_rows.proofs.Rows.{moved-row}
+use Rattle.slot_rows.proofs.row.open.Statement.{statement}
+use Rattle.slot_rows.proofs.row.open.Tie as tie
 
 open-requires : tie.Need-open-requires
 open-requires c κs = search needs

@@ -1,7 +1,7 @@
 // A slot's two rows of numbers: those of its list's part, and those of its place. Structs are made of them at a block change only.
 ghost use mathlib.Core.Path.{_≡_};
 ghost use Rattle.notefile.specs.Given.{BlocksIn};
-ghost use Rattle.term_scorer.specs.Rows.{partIn, partRow, PartRow, postingsIn, placeRow, Narrow, Standing};
+ghost use Rattle.slot_rows.specs.Rows.{partIn, partRow, PartRow, postingsIn, placeRow, Narrow, Standing};
 use notefile::part::Part;
 use postings::cursor::SegmentPostings;
 use postings::skip::SkipReader;

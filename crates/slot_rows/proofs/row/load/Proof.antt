@@ -1,8 +1,8 @@
 -- `row::load` meets its contract: a loaded block's place is put on its first posting, another block is loaded and kept so.
 use borrow.Author.Needs.{needs}
-use Rattle.term_scorer.proofs.Rows.{list-for, standing-for, stands-for, first-in, first-loaded}
-use Rattle.term_scorer.proofs.row.load.Statement.{statement}
-use Rattle.term_scorer.proofs.row.load.Tie as tie
+use Rattle.slot_rows.proofs.Rows.{list-for, standing-for, stands-for, first-in, first-loaded}
+use Rattle.slot_rows.proofs.row.load.Statement.{statement}
+use Rattle.slot_rows.proofs.row.load.Tie as tie
 
 element-copy-out-if1 : tie.Need-element-copy-out-if1
 element-copy-out-if1 c = search needs

@@ -5,10 +5,10 @@ use native.Mathlib.Omega.{arith}
 use lib.Dec.{eqb}
 use lib.ListN.{getD}
 use Rattle.postings.specs.declared.skip.SkipReader.{SkipReader}
-use Rattle.term_scorer.specs.Rows.{postingsIn}
-use Rattle.term_scorer.proofs.Rows.{previous-small, offset-is, previous-is}
-use Rattle.term_scorer.proofs.place.postings_of.Statement.{statement}
-use Rattle.term_scorer.proofs.place.postings_of.Tie as tie
+use Rattle.slot_rows.specs.Rows.{postingsIn}
+use Rattle.slot_rows.proofs.Rows.{previous-small, offset-is, previous-is}
+use Rattle.slot_rows.proofs.place.postings_of.Statement.{statement}
+use Rattle.slot_rows.proofs.place.postings_of.Tie as tie
 
 element-copy-out-previous : tie.Need-element-copy-out-previous
 element-copy-out-previous c = search needs

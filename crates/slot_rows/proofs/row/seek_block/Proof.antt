@@ -3,10 +3,10 @@ use borrow.Author.Needs.{needs}
 use native.Mathlib.Omega.{arith}
 use Rattle.route.specs.Cursor.{seekBlockIn}
 use Rattle.decoded.specs.Lists.{listOf}
-use Rattle.term_scorer.specs.Rows.{cursorIn, partIn}
-use Rattle.term_scorer.proofs.Rows.{keeps-at, stays-shallow, moves-shallow, list-for, standing-for, stands-for, block-for}
-use Rattle.term_scorer.proofs.row.seek_block.Statement.{statement}
-use Rattle.term_scorer.proofs.row.seek_block.Tie as tie
+use Rattle.slot_rows.specs.Rows.{cursorIn, partIn}
+use Rattle.slot_rows.proofs.Rows.{keeps-at, stays-shallow, moves-shallow, list-for, standing-for, stands-for, block-for}
+use Rattle.slot_rows.proofs.row.seek_block.Statement.{statement}
+use Rattle.slot_rows.proofs.row.seek_block.Tie as tie
 
 element-copy-out-if1 : tie.Need-element-copy-out-if1
 element-copy-out-if1 c = search needs

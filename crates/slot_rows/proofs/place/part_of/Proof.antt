@@ -1,8 +1,8 @@
 -- `place::part_of` meets its contract: each field is read off the row.
 use borrow.Author.Needs.{needs}
-use Rattle.term_scorer.specs.Rows.{partIn}
-use Rattle.term_scorer.proofs.place.part_of.Statement.{statement}
-use Rattle.term_scorer.proofs.place.part_of.Tie as tie
+use Rattle.slot_rows.specs.Rows.{partIn}
+use Rattle.slot_rows.proofs.place.part_of.Statement.{statement}
+use Rattle.slot_rows.proofs.place.part_of.Tie as tie
 
 element-copy-out-t4 : tie.Need-element-copy-out-t4
 element-copy-out-t4 c = search needs

@@ -26,7 +26,7 @@ use Rattle.postings.specs.declared.skip.SkipReader.{SkipReader}
 use Rattle.postings.specs.declared.cursor.SegmentPostings.{SegmentPostings}
 use Rattle.postings.proofs.Readers.{block-is, stands-on}
 use Rattle.postings.proofs.Moves.{advanced-in, doc-here, sought-here, sought-next, sought-within, stays}
-use Rattle.term_scorer.specs.Rows.{partIn, partRow, flag, firstOf, placeRow, Narrow, cursorIn, postingsIn, Standing, PlaceIn, MovedRow, ShallowRow}
+use Rattle.slot_rows.specs.Rows.{partIn, partRow, flag, firstOf, placeRow, Narrow, cursorIn, postingsIn, Standing, PlaceIn, MovedRow, ShallowRow}
 
 flag-back : (b : Bool) → eqb (flag b) 1 ≡ b
 flag-back true = refl

@@ -1,9 +1,10 @@
--- `row::seek_far` meets its contract: the seek of the place that the row stands for, kept.
+-- `row::advance_far` meets its contract: the advance of the place that the row stands for, kept.
+use native.Mathlib.Omega.{arith}
 use borrow.Author.Needs.{needs}
-use Rattle.route.specs.Cursor.{seekIn}
-use Rattle.term_scorer.proofs.Rows.{list-for, standing-for, placed-for, moves}
-use Rattle.term_scorer.proofs.row.seek_far.Statement.{statement}
-use Rattle.term_scorer.proofs.row.seek_far.Tie as tie
+use Rattle.route.specs.Cursor.{advanceIn}
+use Rattle.slot_rows.proofs.Rows.{list-for, standing-for, placed-for, block-for, moves}
+use Rattle.slot_rows.proofs.row.advance_far.Statement.{statement}
+use Rattle.slot_rows.proofs.row.advance_far.Tie as tie
 
 part-of-requires : tie.Need-part-of-requires
 part-of-requires c κs = c .before .pre .0
@@ -14,22 +15,22 @@ postings-of-requires c κs =
     let a = e .before .before in
     (list-for (a .args .file .now) (a .args .list .now) (e .part-of .ensures) (a .pre .1) .blocks, standing-for (a .args .file .now) (a .args .list .now) (e .part-of .ensures) (a .args .place .now) (a .pre .2 .standing))
 
-seek-requires : tie.Need-seek-requires
-seek-requires c κs =
+advance-requires : tie.Need-advance-requires
+advance-requires c κs =
     let q = c .before .before in
     let e = q .before .before in
     let a = e .before .before in
     let file = a .args .file .now in (
       list-for file (a .args .list .now) (e .part-of .ensures) (a .pre .1),
       placed-for file (a .args .list .now) (a .args .place .now) (λ l k. k) (e .part-of .ensures) (q .postings-of .ensures) (a .pre .2),
-      a .pre .3,
+      omega (arith, block-for file (a .args .list .now) (a .args .place .now) (λ l k. k) (e .part-of .ensures) (q .postings-of .ensures), a .pre .3),
     )
 
 keep-requires : tie.Need-keep-requires
 keep-requires c κs = search needs
 
 doc-requires : tie.Need-doc-requires
-doc-requires c κs = c .before .before .before .seek .ensures .placed .inside
+doc-requires c κs = c .before .before .before .advance .ensures .placed .inside
 
 returns : tie.Need-returns
 returns c =
@@ -38,7 +39,7 @@ returns c =
     let q = m .before .before .before in
     let e = q .before .before in
     let a = e .before .before in
-    moves (a .args .file .now) (a .args .list .now) (a .args .place .now) (λ l k. seekIn l 128 (a .args .target) k) (e .part-of .ensures) (q .postings-of .ensures) (m .seek .result) (m .seek .ensures) (k .keep .ensures) (c .doc .ensures)
+    moves (a .args .file .now) (a .args .list .now) (a .args .place .now) (λ l k. advanceIn l 128 k) (e .part-of .ensures) (q .postings-of .ensures) (m .advance .result) (m .advance .ensures) (k .keep .ensures) (c .doc .ensures)
 
-pub seek-far-spec : {M : Type 1} → statement M
-seek-far-spec = tie.close (tie.spec part-of-requires postings-of-requires seek-requires keep-requires doc-requires returns)
+pub advance-far-spec : {M : Type 1} → statement M
+advance-far-spec = tie.close (tie.spec part-of-requires postings-of-requires advance-requires keep-requires doc-requires returns)

@@ -6,7 +6,7 @@ ghost use Rattle.notefile.specs.Lists.{fullBlocks};
 ghost use Rattle.route.specs.Cursor.{advanceIn, fresh, seekBlockIn, seekIn};
 ghost use Rattle.decoded.specs.Lists.{listOf};
 ghost use Rattle.postings.specs.Decoded.{docIn, ListIn};
-ghost use Rattle.term_scorer.specs.Rows.{cursorIn, firstOf, partIn, MovedRow, PartRow, PlaceIn, ShallowRow, Standing};
+ghost use Rattle.slot_rows.specs.Rows.{cursorIn, firstOf, partIn, MovedRow, PartRow, PlaceIn, ShallowRow, Standing};
 use crate::place::CUR;
 use crate::place::LAST;
 use crate::place::LOADED;

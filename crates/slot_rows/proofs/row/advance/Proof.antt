@@ -5,9 +5,9 @@ use native.Mathlib.Omega.{arith}
 use lib.ListN.{getD}
 use borrow.Author.Needs.{needs}
 use Rattle.arrays.proofs.Order.{lt-or-ge}
-use Rattle.term_scorer.proofs.Rows.{cur-inside, advances-in}
-use Rattle.term_scorer.proofs.row.advance.Statement.{statement}
-use Rattle.term_scorer.proofs.row.advance.Tie as tie
+use Rattle.slot_rows.proofs.Rows.{cur-inside, advances-in}
+use Rattle.slot_rows.proofs.row.advance.Statement.{statement}
+use Rattle.slot_rows.proofs.row.advance.Tie as tie
 
 element-copy-out-cur : tie.Need-element-copy-out-cur
 element-copy-out-cur c = search needs

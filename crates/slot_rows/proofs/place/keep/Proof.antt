@@ -4,9 +4,9 @@ use mathlib.Core.List.{[], _∷_}
 use mathlib.Core.Logic.{⊎-elim}
 use Prim.Native.Nat.{ℕ}
 use native.Mathlib.Omega.{arith}
-use Rattle.term_scorer.specs.Rows.{flag}
-use Rattle.term_scorer.proofs.place.keep.Statement.{statement}
-use Rattle.term_scorer.proofs.place.keep.Tie as tie
+use Rattle.slot_rows.specs.Rows.{flag}
+use Rattle.slot_rows.proofs.place.keep.Statement.{statement}
+use Rattle.slot_rows.proofs.place.keep.Tie as tie
 
 cast-t6 : tie.Need-cast-t6
 cast-t6 c = omega (arith, c .struct-known .given)

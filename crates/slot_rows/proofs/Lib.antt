@@ -1,0 +1,2 @@
+-- A row and the place made of it are one.
+pub mod Rows
