@@ -25,12 +25,12 @@ use Rattle.rule.specs.declared.Rule.{Rule}
 use Rattle.reports.specs.Runs.{Rests}
 use Rattle.slot_rows.specs.Rows.{partIn}
 use Rattle.term_scorer.specs.Slots.{Held, cursorAt}
-use Rattle.block_wand_intersection.specs.Scorers.{InOrder, Query, Ready, WeightsIn, leaderIn, listIn, query, scorerAt, scorersBetween, secondariesIn}
-use Rattle.block_wand_intersection.specs.Sizes.{BySize, sizeIn, slotsFrom}
+use Rattle.intersection_window.specs.Scorers.{InOrder, Query, Ready, WeightsIn, leaderIn, listIn, query, scorerAt, scorersBetween, secondariesIn}
+use Rattle.intersection_window.specs.Sizes.{BySize, sizeIn, slotsFrom}
 use Rattle.block_wand_intersection.specs.Steps.{Runs, TopsIn}
 use Rattle.block_wand_intersection.specs.Queries.{Answers, Fresh, listsOf}
 use Rattle.block_wand_intersection.specs.declared.run.Ended.{Ended}
-use Rattle.block_wand_intersection.proofs.Parts.{part-first}
+use Rattle.intersection_window.proofs.Parts.{part-first}
 
 -- no slot twice
 Distinct : List ℕ → Type 0

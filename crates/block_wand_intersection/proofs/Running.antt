@@ -21,15 +21,15 @@ use Rattle.rule.specs.declared.Threshold.{Threshold}
 use Rattle.reports.specs.Runs.{Going, Rests}
 use Rattle.reports.proofs.RunLaws.{rests-ended, run-begun, run-quiet}
 use Rattle.term_scorer.specs.Slots.{Held, cursorAt, partAt}
-use Rattle.block_wand_intersection.specs.Scorers.{InOrder, Query, Ready, leaderIn, listIn, placeAt, secondariesIn, slotAt}
+use Rattle.intersection_window.specs.Scorers.{InOrder, Query, Ready, leaderIn, listIn, placeAt, secondariesIn, slotAt}
 use Rattle.block_wand_intersection.specs.Walks.{Begun, WalkedBy, maxAlong, maxSum}
 use Rattle.block_wand_intersection.specs.Steps.{Ends, Runs, Steps, TopsIn}
 use Rattle.block_wand_intersection.specs.declared.walk.Stop.{Stop}
 use Rattle.block_wand_intersection.specs.declared.walk.Stop.the-variants.{Full, Next, Over}
 use Rattle.block_wand_intersection.specs.declared.run.Ended.{Ended}
 use Rattle.block_wand_intersection.specs.declared.run.Stepped.{Stepped}
-use Rattle.block_wand_intersection.proofs.Parts.{part-same}
-use Rattle.block_wand_intersection.proofs.Seats.{list-right}
+use Rattle.intersection_window.proofs.Parts.{part-same}
+use Rattle.intersection_window.proofs.Seats.{list-right}
 use Rattle.block_wand_intersection.proofs.Walking.{in-slots, max-is}
 
 -- ---- the loop

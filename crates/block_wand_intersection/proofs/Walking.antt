@@ -29,15 +29,15 @@ use Rattle.reports.proofs.RowLaws.{documents-long as same-documents, scores-lon
 use Rattle.reports.proofs.RunLaws.{rests-ended, rests-full, run-quiet, run-quietly, run-reports}
 use Rattle.slot_rows.specs.Rows.{cursorIn}
 use Rattle.term_scorer.specs.Slots.{Held, cursorAt}
-use Rattle.block_wand_intersection.specs.Scorers.{InOrder, Query, Seated, StillKept, Unmoved, leaderIn, listIn, placeAt, scorerAt, secondariesIn, slotAt}
-use Rattle.block_wand_intersection.specs.Candidates.{HitBy, HitIn, Hits, Suffixes, candidatesLeft, interTurn, leaderBlock, withinAt}
+use Rattle.intersection_window.specs.Scorers.{InOrder, Query, Seated, StillKept, Unmoved, leaderIn, listIn, placeAt, scorerAt, secondariesIn, slotAt}
+use Rattle.intersection_window.specs.Candidates.{HitBy, HitIn, Hits, Suffixes, candidatesLeft, interTurn, leaderBlock, withinAt}
 use Rattle.block_wand_intersection.specs.Walks.{Begun, Walks, maxSum}
-use Rattle.block_wand_intersection.specs.declared.hit.Hit.{Hit}
-use Rattle.block_wand_intersection.specs.declared.hit.Hit.the-variants.{At, Nowhere}
+use Rattle.intersection_window.specs.declared.hit.Hit.{Hit}
+use Rattle.intersection_window.specs.declared.hit.Hit.the-variants.{At, Nowhere}
 use Rattle.block_wand_intersection.specs.declared.walk.Stop.the-variants.{Full, Next, Over}
-use Rattle.block_wand_intersection.proofs.Seats.{unmoved, unmoved-trans}
-use Rattle.block_wand_intersection.proofs.Gathering.{map-map}
-use Rattle.block_wand_intersection.proofs.Hitting.{decoded}
+use Rattle.intersection_window.proofs.Seats.{unmoved, unmoved-trans}
+use Rattle.intersection_window.proofs.Gathering.{map-map}
+use Rattle.intersection_window.proofs.Hitting.{decoded}
 
 -- the list bounds do not move
 pub max-is : (x : Query) (places : List (List ℕ)) → maxScoreSum f32 (leaderIn x places) (secondariesIn x places) ≡ maxSum x

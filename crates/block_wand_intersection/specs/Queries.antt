@@ -16,7 +16,7 @@ use Rattle.rule.specs.declared.Rule.{Rule}
 use Rattle.reports.specs.Runs.{Rests}
 use Rattle.term_scorer.specs.Slots.{Held, Sixteen, SlotIn, cursorAt, listAt}
 use Rattle.term_scorer.specs.Weights.{Weighed, BoundKept}
-use Rattle.block_wand_intersection.specs.Sizes.{slotsFrom}
+use Rattle.intersection_window.specs.Sizes.{slotsFrom}
 use Rattle.block_wand_intersection.specs.declared.run.Ended.{Ended}
 
 -- the lists of the query, in its order

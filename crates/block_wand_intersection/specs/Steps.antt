@@ -11,7 +11,7 @@ use Rattle.rule.specs.declared.Rule.{Rule}
 use Rattle.rule.specs.declared.Threshold.{Threshold}
 use Rattle.reports.specs.Runs.{Going}
 use Rattle.term_scorer.specs.Slots.{Held}
-use Rattle.block_wand_intersection.specs.Scorers.{Query, Ready, leaderIn, listIn, placeAt, secondariesIn}
+use Rattle.intersection_window.specs.Scorers.{Query, Ready, leaderIn, listIn, placeAt, secondariesIn}
 use Rattle.block_wand_intersection.specs.Walks.{Begun, Returned, WalkedBy}
 use Rattle.block_wand_intersection.specs.declared.run.Ended.{Ended}
 use Rattle.block_wand_intersection.specs.declared.run.Stepped.{Stepped}

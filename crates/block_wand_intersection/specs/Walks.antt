@@ -15,8 +15,8 @@ use Rattle.rule.specs.declared.Threshold.{Threshold}
 use Rattle.reports.specs.Rows.{rowsOf}
 use Rattle.reports.specs.Runs.{Going, Rests}
 use Rattle.term_scorer.specs.Slots.{Held, cursorAt}
-use Rattle.block_wand_intersection.specs.Scorers.{Query, Seated, StillKept, listIn, placeAt, slotAt}
-use Rattle.block_wand_intersection.specs.Candidates.{Suffixes, leaderBlock}
+use Rattle.intersection_window.specs.Scorers.{Query, Seated, StillKept, listIn, placeAt, slotAt}
+use Rattle.intersection_window.specs.Candidates.{Suffixes, leaderBlock}
 use Rattle.block_wand_intersection.specs.declared.walk.Stop.{Stop}
 use Rattle.block_wand_intersection.specs.declared.walk.Stop.the-variants.{Full, Next, Over}
 use Rattle.block_wand_intersection.specs.declared.walk.Walked.{Walked}

@@ -1,17 +1,13 @@
 // The intersection's skipping run: windows in which all block bounds hold, and in each the leader's candidates against the secondaries.
-mod candidate;
-mod hit;
-mod order;
 mod run;
 mod walk;
-mod window;
 
 ghost use Rattle.rule.specs.Follows.{Keeps};
 ghost use Rattle.term_scorer.specs.Slots.{held};
 ghost use Rattle.block_wand_intersection.specs.Queries.{Answers, Fresh};
 use bm25::Scoring;
 use fieldnorm::FieldNormReader;
-use order::by_size;
+use intersection_window::order::by_size;
 use rule::Rule;
 use run::Ended;
 use run::run_in_order;

@@ -2,13 +2,13 @@
 ghost use mathlib.Core.Path.{_≡_};
 ghost use Rattle.rule.specs.Follows.{Keeps};
 ghost use Rattle.term_scorer.specs.Slots.{held};
-ghost use Rattle.block_wand_intersection.specs.Scorers.{query, InOrder, Seated, WeightsIn};
+ghost use Rattle.intersection_window.specs.Scorers.{query, InOrder, Seated, WeightsIn};
 ghost use Rattle.block_wand_intersection.specs.Walks.{maxSum, Begun, Walks};
-use crate::hit::Hit;
-use crate::hit::next_hit;
 use block_search::search_block;
 use bm25::Scoring;
 use fieldnorm::FieldNormReader;
+use intersection_window::hit::Hit;
+use intersection_window::hit::next_hit;
 use reports::report;
 use reports::rows;
 use rule::Rule;

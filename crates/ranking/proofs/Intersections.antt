@@ -22,7 +22,7 @@ use Rattle.reports.specs.Runs.{Rests}
 use Rattle.term_scorer.specs.Slots.{Sixteen, listAt, partAt}
 use Rattle.ordering.specs.declared.TermScorer.{TermScorer}
 use Rattle.query.specs.Fresh.{Arrays, QueryOpened}
-use Rattle.block_wand_intersection.specs.Sizes.{slotsFrom}
+use Rattle.intersection_window.specs.Sizes.{slotsFrom}
 use Rattle.block_wand_intersection.specs.Queries.{Fresh, listsOf}
 use Rattle.block_wand_intersection.specs.declared.run.Ended.{Ended}
 use Rattle.ranking.specs.Answers.{finished, Finished}

@@ -13,11 +13,6 @@ ghost use Rattle.postings.specs.Decoded.{docIn, ListIn};
 ghost use Rattle.slot_rows.specs.Rows.{cursorIn, partIn, PartRow, PlaceIn};
 ghost use Rattle.term_scorer.specs.Slots.{cursorAt, held, listAt, partAt, Sixteen, SlotIn};
 ghost use Rattle.term_scorer.specs.Weights.{Bounded, BoundKept, Weighed};
-use slot_rows::place::BOUND;
-use slot_rows::place::CUR;
-use slot_rows::place::KNOWN;
-use slot_rows::place::part_of;
-use slot_rows::place::postings_of;
 use bm25::Bm25Weight;
 use bm25::MAX_FIELDNORM_ID;
 use bm25::MAX_TERM_FREQ;
@@ -25,6 +20,11 @@ use bm25::Scoring;
 use fieldnorm::FieldNormReader;
 use postings::bound::block_max_score;
 use postings::skip::BlockInfo;
+use slot_rows::place::BOUND;
+use slot_rows::place::CUR;
+use slot_rows::place::KNOWN;
+use slot_rows::place::part_of;
+use slot_rows::place::postings_of;
 
 // The frequency of the posting on which slot q's scorer stands.
 pub fn term_freq(q: usize, places: &[[usize; 8]; 16], freqs: &[[u32; 128]; 16]) -> u32

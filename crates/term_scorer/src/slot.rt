@@ -11,13 +11,13 @@ ghost use Rattle.route.specs.Postings.{start};
 ghost use Rattle.postings.specs.Decoded.{docIn, ListIn};
 ghost use Rattle.slot_rows.specs.Rows.{firstOf};
 ghost use Rattle.term_scorer.specs.Slots.{cursorAt, held, lastAt, listAt, partAt, MovedSlot, Opened, Shallowed, SlotIn, StandingIn, Sixteen};
+use notefile::part::Part;
 use slot_rows::place::BLOCK;
 use slot_rows::place::COUNT;
 use slot_rows::place::CUR;
 use slot_rows::place::LAST;
 use slot_rows::place::keep_part;
 use slot_rows::row;
-use notefile::part::Part;
 
 // A list's scorer in slot q, on the list's first posting.
 pub fn open(

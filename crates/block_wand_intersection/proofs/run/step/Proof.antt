@@ -2,7 +2,7 @@
 use native.Mathlib.Omega.{arith}
 use borrow.Author.Needs.{needs}
 use mathlib.Core.Path.{refl}
-use Rattle.block_wand_intersection.proofs.Seats.{slot-small}
+use Rattle.intersection_window.proofs.Seats.{slot-small}
 use Rattle.block_wand_intersection.proofs.Stepping.{low-of, open-of, step-low, step-open, step-over}
 use Rattle.block_wand_intersection.proofs.run.step.Statement.{statement}
 use Rattle.block_wand_intersection.proofs.run.step.Tie as tie

@@ -3,7 +3,7 @@ use native.Mathlib.Omega.{arith}
 use borrow.Author.Needs.{needs}
 use Prim.Native.Nat.{_-_}
 use Rattle.term_scorer.specs.Slots.{held}
-use Rattle.block_wand_intersection.specs.Scorers.{query}
+use Rattle.intersection_window.specs.Scorers.{query}
 use Rattle.block_wand_intersection.proofs.Running.{Running, at-end, running, runs-full, runs-on, runs-over}
 use Rattle.block_wand_intersection.proofs.run.windows.Statement.{statement}
 use Rattle.block_wand_intersection.proofs.run.windows.Tie as tie

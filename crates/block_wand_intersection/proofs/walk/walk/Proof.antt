@@ -5,9 +5,9 @@ use mathlib.Core.Path.{refl, sym, _∙_}
 use Prim.Native.Nat.{_-_}
 use Rattle.postings.proofs.Blocks.{decoded-sorted}
 use Rattle.term_scorer.specs.Slots.{held}
-use Rattle.block_wand_intersection.specs.Scorers.{query}
-use Rattle.block_wand_intersection.proofs.Seats.{slot-small}
-use Rattle.block_wand_intersection.proofs.Hitting.{decoded}
+use Rattle.intersection_window.specs.Scorers.{query}
+use Rattle.intersection_window.proofs.Seats.{slot-small}
+use Rattle.intersection_window.proofs.Hitting.{decoded}
 use Rattle.block_wand_intersection.proofs.Walking.{Walking, exits, full, further, goes-on, has-row, none-left, walking}
 use Rattle.block_wand_intersection.proofs.walk.walk.Statement.{statement}
 use Rattle.block_wand_intersection.proofs.walk.walk.Tie as tie

@@ -1,0 +1,9 @@
+-- Laws of a window, its candidates and the order of the scorers.
+pub mod Parts
+pub mod Seats
+pub mod Trying
+pub mod Gathering
+pub mod Opening
+pub mod Summing
+pub mod Hitting
+pub mod Sorting

@@ -1,0 +1,177 @@
+-- One scorer moves in its slot: the others stay, and all are seated as before.
+use mathlib.Core.List.{List, []}
+use mathlib.Core.Path.{ap, refl, subst, sym, _∙_, _≡_}
+use Prim.Native.Nat.{ℕ, _<_, _≤_}
+use native.Mathlib.Omega.{arith}
+use lib.Dec.{eqb}
+use lib.ListN.{getD, length, length-set, set}
+use lib.Seq.{getD-set-other, getD-set-same, set-getD}
+use lib.Ieee.{Float, nan}
+use borrow.Author.Tests.{eqb-false, eqb-true}
+use Rattle.bm25.specs.declared.Scoring.{Scoring}
+use Rattle.notefile.specs.Header.{documents}
+use Rattle.route.specs.F32.{f32}
+use Rattle.route.specs.Postings.{Postings}
+use Rattle.route.specs.Cursor.{Cursor, blockMax}
+use Rattle.route.specs.Scorer.{lastDocInBlock}
+use Rattle.route.proofs.Cases.{on-test}
+use Rattle.route.proofs.ListLaws.{ListOk}
+use Rattle.route.proofs.Places.{last-cap}
+use Rattle.decoded.proofs.AcceptedLists.{list-ok}
+use Rattle.postings.specs.Decoded.{docIn}
+use Rattle.postings.proofs.Readers.{end-is}
+use Rattle.slot_rows.specs.Rows.{PlaceIn, cursorIn}
+use Rattle.term_scorer.specs.Slots.{Held, MovedSlot, Shallowed, Sixteen, SlotIn, StandingIn, cursorAt, held, lastAt, partAt}
+use Rattle.term_scorer.specs.Weights.{Bounded, BoundKept}
+use Rattle.slot_rows.proofs.Rows.{bound-in, cur-inside, doc-in-array, last-is, last-small}
+use Rattle.intersection_window.specs.Scorers.{InOrder, Query, Ready, Seated, StillKept, BoundsKept, Unmoved, listIn, scorerAt, scorersBetween, slotAt}
+use Rattle.intersection_window.proofs.Parts.{part-same}
+
+-- what holds of slot q, and of every other
+at-slot : (P : ℕ → Type 0) (q : ℕ) → P q → ((r : ℕ) → (r ≡ q → ⊥) → P r) → (r : ℕ) → P r
+at-slot P q p o r = on-test (eqb r q) (λ t. subst P (sym (eqb-true r q t)) p) (λ t. o r (eqb-false r q t))
+
+-- only slot q has changed
+abbrev pub Only : ℕ → Held → Held → Type 0
+Only q h h′ = (r : ℕ) → (r ≡ q → ⊥) → Unmoved r h h′
+
+pub unmoved : (q : ℕ) (h : Held) → Unmoved q h h
+unmoved q h = record { place = refl; docs = refl; freqs = refl }
+
+pub unmoved-trans : {q : ℕ} {h h′ h″ : Held} → Unmoved q h h′ → Unmoved q h′ h″ → Unmoved q h h″
+unmoved-trans u v = record { place = v .place ∙ u .place; docs = v .docs ∙ u .docs; freqs = v .freqs ∙ u .freqs }
+
+other : {A : Type 0} (xss yss : List (List A)) (q r : ℕ) (row : List A) → yss ≡ set xss q row → (r ≡ q → ⊥) → getD yss r [] ≡ getD xss r []
+other xss yss q r row e n = ap (λ (z : List (List _)). getD z r []) e ∙ getD-set-other xss q r row [] n
+
+bound-same : (l : Postings Float) (c c′ : Cursor) → c′ .blk ≡ c .blk → c′ .loaded ≡ c .loaded → blockMax 128 f32 l c′ ≡ blockMax 128 f32 l c
+bound-same l c c′ e f = rw (e, f)
+
+-- a skip reader that moves alone moves its scorer
+pub shallow-moves : {file : List ℕ} {lists : List (List ℕ)} {q : ℕ} {to : Scoring → Cursor} {h : Held} {places′ : List (List ℕ)} → SlotIn file lists h q
+    → Shallowed file lists q to (h .places) places′ → MovedSlot file lists q to h (held places′ (h .docs) (h .freqs)) (docIn file (partAt lists q) (cursorAt (h .places) q .at))
+shallow-moves {q = q} {h = h} S M = record {
+  places-only = M .only;
+  docs-only = sym (set-getD (h .docs) q []);
+  freqs-only = sym (set-getD (h .freqs) q []);
+  moved = M .moved (getD (h .docs) q []) (getD (h .freqs) q []) (S .place);
+}
+
+pub standing-in : {file : List ℕ} {lists : List (List ℕ)} {q : ℕ} {h : Held} → SlotIn file lists h q → StandingIn file lists (h .places) q
+standing-in S = record { sixteen = S .sixteen .0; part-row = S .part-row; list = S .list; standing = S .place .standing }
+
+module _ (x : Query) {h h′ : Held} (S : Seated x h) {q : ℕ} (hq : q < x .len) where
+  seated-by : Sixteen (h′ .places) × Sixteen (h′ .docs) × Sixteen (h′ .freqs) → Only q h h′
+      → PlaceIn (x .file) (partAt (x .lists) q) (getD (h′ .places) q []) (getD (h′ .docs) q []) (getD (h′ .freqs) q []) → Seated x h′
+  seated-by s o p = record {
+    sixteen = s;
+    slot =
+        at-slot (λ r. r < x .len → SlotIn (x .file) (x .lists) h′ r) q
+        (λ _. record { sixteen = s; part-row = S .slot q hq .part-row; list = S .slot q hq .list; place = p })
+        (λ r n hr.
+        let u = o r n in
+        let k = S .slot r hr in
+        let up = u .place in
+        let ud = u .docs in
+        let uf = u .freqs in
+        record { sixteen = s; part-row = k .part-row; list = k .list; place = rw (up, ud, uf) (k .place) });
+  }
+
+  module _ {to : Scoring → Cursor} {doc : ℕ} (M : MovedSlot (x .file) (x .lists) q to h h′ doc) where
+    pub moved-only : Only q h h′
+    moved-only r n = record {
+      place = other (h .places) (h′ .places) q r _ (M .places-only) n;
+      docs = other (h .docs) (h′ .docs) q r _ (M .docs-only) n;
+      freqs = other (h .freqs) (h′ .freqs) q r _ (M .freqs-only) n;
+    }
+
+    pub still-seated : Seated x h′
+    still-seated =
+        let (p, d, f) = S .sixteen in
+        seated-by
+        (ap length (M .places-only) ∙ length-set (h .places) q _ ∙ p, ap length (M .docs-only) ∙ length-set (h .docs) q _ ∙ d, ap length (M .freqs-only) ∙ length-set (h .freqs) q _ ∙ f)
+        moved-only (M .moved .place)
+
+    pub still-kept : StillKept x (h .places) (h′ .places)
+    still-kept bounds B =
+        at-slot (λ r. r < x .len → BoundKept (x .scoring) (x .file) (x .lists) (h′ .places) bounds r) q
+        (λ _ known. let w = M .moved .bound-is known in B q hq (w .0) ∙ sym (bound-same (listIn x q) (cursorAt (h .places) q) (cursorAt (h′ .places) q) (w .1) (w .2)))
+        (λ r n hr. let u = moved-only r n .place in rw u (B r hr))
+
+    -- the moved scorer is the route's
+    pub scorer-is : scorerAt x (h′ .places) q ≡ record { ord = q; list = listIn x q; cur = to (x .scoring) }
+    scorer-is = ap (λ (k : Cursor). record { ord = q; list = listIn x q; cur = k }) (M .moved .cursor-is (x .scoring))
+
+-- the scorers at other places of the order stay
+module _ (x : Query) (O : InOrder x) {i : ℕ} (hi : i < x .len) {h h′ : Held} (o : Only (slotAt x i) h h′) where
+  pub others-stay : (a b : ℕ) → b ≤ x .len → ((k : ℕ) → a ≤ k → k < b → k ≡ i → ⊥) → scorersBetween x (h′ .places) a b ≡ scorersBetween x (h .places) a b
+  others-stay a b hb n =
+      part-same (x .order) (scorerAt x (h .places)) (scorerAt x (h′ .places)) a b (let e = O .long in let f = O .few in omega arith)
+      (λ k u v. let w = o (slotAt x k) (λ e. n k u v (O .apart k i (omega arith) hi e)) .place in rw w)
+
+  pub leader-stays : 1 ≤ i → Unmoved (slotAt x 0) h h′
+  leader-stays l = o (slotAt x 0) (λ e. absurd (let z = O .apart 0 i (O .leader) hi e in omega arith))
+
+-- what functions by slot ask of the scorer at place i
+pub slot-small : {x : Query} → InOrder x → {i : ℕ} → i < x .len → slotAt x i < 16
+slot-small O {i} h = let b = O .below i h in let f = O .few in omega arith
+
+module _ {x : Query} {h : Held} (S : Seated x h) {q : ℕ} (hq : q < x .len) where
+  pub cur-small : getD (getD (h .places) q []) 6 0 < 128
+  cur-small = cur-inside (x .file) (getD (x .lists) q []) (getD (h .places) q []) (S .slot q hq .list) (S .slot q hq .place)
+
+  pub doc-here : {doc : ℕ} → doc ≡ getD (getD (h .docs) q []) (getD (getD (h .places) q []) 6 0) 0 → doc ≡ docIn (x .file) (partAt (x .lists) q) (cursorAt (h .places) q .at)
+  doc-here e = e ∙ sym (doc-in-array (x .file) (getD (x .lists) q []) (getD (h .places) q []) (S .slot q hq .list) (S .slot q hq .place))
+
+  pub list-right : ListOk 128 (documents (x .file)) (listIn x q)
+  list-right = list-ok (x .scoring) (x .file) (partAt (x .lists) q) (S .slot q hq .list .right) (S .slot q hq .list .few)
+
+  pub last-fits : lastAt (h .places) q < 4294967296
+  last-fits = last-small (x .file) (partAt (x .lists) q) (getD (h .places) q []) (S .slot q hq .place .standing)
+
+  -- the last document of the skip reader's block is the route's
+  pub last-here : lastDocInBlock 128 (scorerAt x (h .places) q) ≡ lastAt (h .places) q
+  unfolding cursorIn
+  last-here =
+      end-is (x .file) (partAt (x .lists) q) (S .slot q hq .list) (x .scoring) (getD (getD (h .places) q []) 0 0)
+      ∙ sym (last-is (x .file) (partAt (x .lists) q) (getD (h .places) q []) (S .slot q hq .place .standing))
+
+  pub last-low : lastAt (h .places) q ≤ 2147483647
+  last-low = subst (λ (z : ℕ). z ≤ 2147483647) last-here (last-cap 128 (documents (x .file)) (listIn x q) list-right (cursorAt (h .places) q .blk))
+
+-- a bound that has become known moves nothing
+module _ (x : Query) (few : x .len ≤ 16) {h : Held} (S : Seated x h) {q : ℕ} (hq : q < x .len) {bounds : List Float} {places′ : List (List ℕ)} {bounds′ : List Float} {b : Float}
+    (B : Bounded (x .scoring) (x .file) (x .lists) q (h .places) bounds places′ bounds′ b) where
+  abbrev h′ : Held
+  h′ = held places′ (h .docs) (h .freqs)
+
+  row-there : getD places′ q [] ≡ set (getD (h .places) q []) 7 1
+  row-there = let s = S .sixteen .0 in ap (λ (z : List (List ℕ)). getD z q []) (B .places-are) ∙ getD-set-same (h .places) q (set (getD (h .places) q []) 7 1) [] (omega arith)
+
+  pub known-only : Only q h h′
+  known-only r n = record { place = other (h .places) places′ q r _ (B .places-are) n; docs = refl; freqs = refl }
+
+  pub known-cursor : cursorAt places′ q ≡ cursorAt (h .places) q
+  known-cursor = ap cursorIn row-there ∙ bound-in (x .file) (partAt (x .lists) q) (S .slot q hq .place) .1
+
+  known-seated : Seated x h′
+  known-seated =
+      seated-by x S hq (ap length (B .places-are) ∙ length-set (h .places) q _ ∙ S .sixteen .0, S .sixteen .1, S .sixteen .2) known-only
+      (rw row-there (bound-in (x .file) (partAt (x .lists) q) (S .slot q hq .place) .0))
+
+  module _ (long : Sixteen bounds) where
+    pub known-bound : getD bounds′ q nan ≡ blockMax 128 f32 (listIn x q) (cursorAt (h .places) q)
+    known-bound = ap (λ (z : List Float). getD z q nan) (B .bounds-are) ∙ getD-set-same bounds q b nan (omega arith) ∙ B .bound-is
+
+    pub known-others : (r : ℕ) → (r ≡ q → ⊥) → getD bounds′ r nan ≡ getD bounds r nan
+    known-others r n = ap (λ (z : List Float). getD z r nan) (B .bounds-are) ∙ getD-set-other bounds q r b nan n
+
+    pub known-ready : BoundsKept x (h .places) bounds → Ready x h′ bounds′
+    known-ready K = record {
+      seated = known-seated;
+      kept =
+          at-slot (λ r. r < x .len → BoundKept (x .scoring) (x .file) (x .lists) places′ bounds′ r) q
+          (λ _ _. known-bound ∙ ap (blockMax 128 f32 (listIn x q)) (sym known-cursor))
+          (λ r n hr. let u = known-only r n .place in rw u (λ k. known-others r n ∙ K r hr k));
+      long = ap length (B .bounds-are) ∙ length-set bounds q b ∙ long;
+    }

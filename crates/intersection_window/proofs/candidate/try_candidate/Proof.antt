@@ -1,0 +1,130 @@
+-- `try_candidate` meets its contract: each turn asks one secondary as the route does, and what is left of them decides.
+use native.Mathlib.Omega.{arith}
+use borrow.Author.Needs.{needs}
+use mathlib.Core.Path.{sym, _∙_}
+use Prim.Native.Nat.{_-_, _<_}
+use lib.ListN.{getD}
+use Rattle.term_scorer.specs.Slots.{held}
+use Rattle.intersection_window.specs.Scorers.{query, InOrder}
+use Rattle.intersection_window.proofs.Seats.{cur-small, doc-here, slot-small}
+use Rattle.intersection_window.proofs.Trying.{Trying, begun, due, goes-on, missed, not-above, past, seated-there, too-low}
+use Rattle.intersection_window.proofs.candidate.try_candidate.Statement.{statement}
+use Rattle.intersection_window.proofs.candidate.try_candidate.Tie as tie
+
+abbrev Inv-loop : tie.InvT-loop
+Inv-loop file norms weights caches scoring lists n order suffix candidate-doc leader-score threshold places₀ docs₀ freqs₀ total-score₀ i₀ places docs freqs total-score i =
+    Trying (query scoring file lists n order) candidate-doc leader-score threshold suffix (held places₀ docs₀ freqs₀) i total-score (held places docs freqs)
+
+abbrev μ-loop : tie.MeasureT-loop
+μ-loop file norms weights caches scoring lists n order suffix candidate-doc leader-score threshold places₀ docs₀ freqs₀ total-score₀ i₀ places docs freqs total-score i =
+    n - i
+
+order-in : (l : tie.In-loop Inv-loop μ-loop) → InOrder (query (l .before .before .before .args .scoring) (l .before .before .before .args .file .now) (l .before .before .before .args .lists .now) (l .before .before .before .args .n) (l .before .before .before .args .order .now))
+order-in l = l .before .before .before .pre .0
+
+small : (l : tie.In-loop Inv-loop μ-loop) → getD (l .before .before .before .args .order .now) (l .before .loop .i) 0 < 16
+small l = slot-small (order-in l) (l .loop-test .taken)
+
+within : (l : tie.In-loop Inv-loop μ-loop) → getD (l .before .before .before .args .order .now) (l .before .loop .i) 0 < l .before .before .before .args .n
+within l = order-in l .below (l .before .loop .i) (l .loop-test .taken)
+
+loop-holds : tie.Need-loop-holds Inv-loop μ-loop
+loop-holds c = begun _ _ _ _ _ _ (c .before .pre .0) (c .before .pre .2)
+
+mul-q : tie.Need-mul-q Inv-loop μ-loop
+mul-q c = search needs
+
+element-copy-out-q : tie.Need-element-copy-out-q Inv-loop μ-loop
+element-copy-out-q c = search needs
+
+doc-requires : tie.Need-doc-requires Inv-loop μ-loop
+doc-requires c κs =
+    let l = c .before .before .before in
+    (small l, cur-small (l .before .loop .inv .seated) (within l))
+
+returns : tie.Need-returns Inv-loop μ-loop
+returns c =
+    let l = c .before .before .before .before .before in
+    past _ _ _ _ _ _ (order-in l) (l .before .loop .inv) (l .loop-test .taken) (doc-here (l .before .loop .inv .seated) (within l) (c .before .doc .ensures)) (c .if1 .taken)
+
+seek-requires : tie.Need-seek-requires Inv-loop μ-loop
+seek-requires c κs =
+    let d = c .before .before .before .before in
+    let l = d .before .before .before .before in
+    (small l, l .before .loop .inv .seated .slot _ (within l), doc-here (l .before .loop .inv .seated) (within l) (d .doc .ensures), omega (arith, l .before .before .before .pre .3))
+
+returns-2 : tie.Need-returns-2 Inv-loop μ-loop
+returns-2 c =
+    let m = c .before in
+    let d = m .before .before .before .before .before in
+    let l = d .before .before .before .before in
+    missed _ _ _ _ _ _ (order-in l) (l .before .loop .inv) (l .loop-test .taken) (doc-here (l .before .loop .inv .seated) (within l) (d .doc .ensures)) (m .before .before .before .before .if1 .left) (m .seek .ensures) (c .if2 .taken)
+
+score-requires : tie.Need-score-requires Inv-loop μ-loop
+score-requires c κs =
+    let e = c .before .before .before in
+    let m = e .before in
+    let d = m .before .before .before .before .before in
+    let l = d .before .before .before .before in
+    let a = l .before .before .before in
+    let S = seated-there _ _ _ _ _ _ (order-in l) (l .before .loop .inv) (l .loop-test .taken) (doc-here (l .before .loop .inv .seated) (within l) (d .doc .ensures)) (m .before .before .before .before .if1 .left) (m .seek .ensures) in
+    (small l, a .pre .1 .norms-are, S .slot _ (within l), a .pre .1 .weighed _ (within l), sym (e .if2 .left) ∙ m .seek .ensures .moved .doc-is, a .pre .3)
+
+mul-if3 : tie.Need-mul-if3 Inv-loop μ-loop
+mul-if3 c = search needs
+
+element-copy-out-if3 : tie.Need-element-copy-out-if3 Inv-loop μ-loop
+element-copy-out-if3 c = search needs
+
+add-i : tie.Need-add-i Inv-loop μ-loop
+add-i c = search needs
+
+loop-less : tie.Need-loop-less Inv-loop μ-loop
+loop-less c = search needs
+
+loop-again : tie.Need-loop-again Inv-loop μ-loop
+loop-again c =
+    let v = c .before .before in
+    let e = v .before .before .before .before in
+    let m = e .before in
+    let d = m .before .before .before .before .before in
+    let l = d .before .before .before .before in
+    goes-on _ _ _ _ _ _ (order-in l) (l .before .loop .inv) (l .loop-test .taken) (doc-here (l .before .loop .inv .seated) (within l) (d .doc .ensures)) (m .before .before .before .before .if1 .left) (m .seek .ensures) (e .if2 .left) (v .score .ensures) (c .if3 .taken)
+
+returns-3 : tie.Need-returns-3 Inv-loop μ-loop
+returns-3 c =
+    let v = c .before .before in
+    let e = v .before .before .before .before in
+    let m = e .before in
+    let d = m .before .before .before .before .before in
+    let l = d .before .before .before .before in
+    too-low _ _ _ _ _ _ (order-in l) (l .before .loop .inv) (l .loop-test .taken) (doc-here (l .before .loop .inv .seated) (within l) (d .doc .ensures)) (m .before .before .before .before .if1 .left) (m .seek .ensures) (e .if2 .left) (v .score .ensures) (c .if3 .left)
+
+returns-4 : tie.Need-returns-4 Inv-loop μ-loop
+returns-4 c = let l = c .before .before in due _ _ _ _ _ _ (l .before .before .pre .0) (l .loop .inv) (c .before .loop-test .left) (c .if4 .taken)
+
+returns-5 : tie.Need-returns-5 Inv-loop μ-loop
+returns-5 c = let l = c .before .before in not-above _ _ _ _ _ _ (l .before .before .pre .0) (l .loop .inv) (c .before .loop-test .left) (c .if4 .left)
+
+pub try-candidate-spec : {M : Type 1} → statement M
+try-candidate-spec =
+    tie.close
+    (tie.spec
+    Inv-loop
+    μ-loop
+    loop-holds
+    mul-q
+    element-copy-out-q
+    doc-requires
+    returns
+    seek-requires
+    returns-2
+    score-requires
+    mul-if3
+    element-copy-out-if3
+    add-i
+    loop-less
+    loop-again
+    returns-3
+    returns-4
+    returns-5)

@@ -1,0 +1,118 @@
+-- `next_window` meets its contract: it tests what the route's turn tests, in its order.
+use native.Mathlib.Omega.{arith}
+use borrow.Author.Needs.{needs}
+use Rattle.intersection_window.proofs.Seats.{last-fits, shallow-moves, slot-small, standing-in}
+use Rattle.intersection_window.proofs.Opening.{gathered, leader-kept, leader-seated, ready-there, window-low, window-open, window-over}
+use Rattle.intersection_window.proofs.window.next_window.Statement.{statement}
+use Rattle.intersection_window.proofs.window.next_window.Tie as tie
+
+element-copy-out-leader : tie.Need-element-copy-out-leader
+element-copy-out-leader c = search needs
+
+seek-block-requires : tie.Need-seek-block-requires
+seek-block-requires c κs =
+    let a = c .before .before .before in
+    let O = a .pre .0 in
+    (slot-small O (O .leader), standing-in (a .pre .2 .seated .slot _ (O .below 0 (O .leader))))
+
+block-max-requires : tie.Need-block-max-requires
+block-max-requires c κs =
+    let s = c .before .before .before .before in
+    let a = s .before .before .before .before in
+    let O = a .pre .0 in
+    let R = a .pre .2 in
+    let hq = O .below 0 (O .leader) in
+    let M = shallow-moves (R .seated .slot _ hq) (s .seek-block .ensures) in
+    (slot-small O (O .leader), a .pre .1 .norms-are, leader-seated _ O (a .args .threshold) _ (a .pre .3) R M .slot _ hq, a .pre .1 .weighed _ hq, leader-kept _ O (a .args .threshold) _ (a .pre .3) R M _ hq, R .long)
+
+last-doc-in-block-requires : tie.Need-last-doc-in-block-requires
+last-doc-in-block-requires c κs =
+    let b = c .before in
+    let s = b .before .before .before .before .before in
+    let a = s .before .before .before .before in
+    let O = a .pre .0 in
+    let R = a .pre .2 in
+    let hq = O .below 0 (O .leader) in
+    let M = shallow-moves (R .seated .slot _ hq) (s .seek-block .ensures) in
+    (slot-small O (O .leader), last-fits (ready-there _ O (a .args .threshold) _ (a .pre .3) R M (b .block-max .ensures) .seated) hq)
+
+gather-requires : tie.Need-gather-requires
+gather-requires c κs =
+    let b = c .before .before .before .before .before .before in
+    let s = b .before .before .before .before .before in
+    let a = s .before .before .before .before in
+    let O = a .pre .0 in
+    let R = a .pre .2 in
+    let hq = O .below 0 (O .leader) in
+    let M = shallow-moves (R .seated .slot _ hq) (s .seek-block .ensures) in
+    (O, a .pre .1, ready-there _ O (a .args .threshold) _ (a .pre .3) R M (b .block-max .ensures), omega (arith, a .pre .3))
+
+returns : tie.Need-returns
+returns c =
+    let g = c .before .before in
+    let l = g .before .before .before .before .before in
+    let b = l .before .before in
+    let s = b .before .before .before .before .before in
+    let a = s .before .before .before .before in
+    let O = a .pre .0 in
+    let R = a .pre .2 in
+    let hq = O .below 0 (O .leader) in
+    let M = shallow-moves (R .seated .slot _ hq) (s .seek-block .ensures) in
+    record { turned = window-over _ O (a .args .threshold) _ (a .pre .3) R M (b .block-max .ensures) (l .last-doc-in-block .ensures) (g .gather .ensures) (c .if1 .taken) }
+
+load-requires : tie.Need-load-requires
+load-requires c κs =
+    let e = c .before .before .before .before .before in
+    let g = e .before .before in
+    let l = g .before .before .before .before .before in
+    let b = l .before .before in
+    let s = b .before .before .before .before .before in
+    let a = s .before .before .before .before in
+    let O = a .pre .0 in
+    let R = a .pre .2 in
+    let hq = O .below 0 (O .leader) in
+    let M = shallow-moves (R .seated .slot _ hq) (s .seek-block .ensures) in
+    (slot-small O (O .leader), gathered _ O (a .args .threshold) _ (a .pre .3) R M (b .block-max .ensures) (l .last-doc-in-block .ensures) (g .gather .ensures) (e .if1 .left) .ready .seated .slot _ hq)
+
+returns-2 : tie.Need-returns-2
+returns-2 c =
+    let f = c .before .before .before .before in
+    let e = f .before .before in
+    let g = e .before .before in
+    let l = g .before .before .before .before .before in
+    let b = l .before .before in
+    let s = b .before .before .before .before .before in
+    let a = s .before .before .before .before in
+    let O = a .pre .0 in
+    let R = a .pre .2 in
+    let hq = O .below 0 (O .leader) in
+    let M = shallow-moves (R .seated .slot _ hq) (s .seek-block .ensures) in
+    record { turned = window-open _ O (a .args .threshold) _ (a .pre .3) R M (b .block-max .ensures) (l .last-doc-in-block .ensures) (g .gather .ensures) (e .if1 .left) (f .if2 .taken) (c .load .ensures) }
+
+returns-3 : tie.Need-returns-3
+returns-3 c =
+    let e = c .before .before in
+    let g = e .before .before in
+    let l = g .before .before .before .before .before in
+    let b = l .before .before in
+    let s = b .before .before .before .before .before in
+    let a = s .before .before .before .before in
+    let O = a .pre .0 in
+    let R = a .pre .2 in
+    let hq = O .below 0 (O .leader) in
+    let M = shallow-moves (R .seated .slot _ hq) (s .seek-block .ensures) in
+    record { turned = window-low _ O (a .args .threshold) _ (a .pre .3) R M (b .block-max .ensures) (l .last-doc-in-block .ensures) (g .gather .ensures) (e .if1 .left) (c .if2 .left) }
+
+pub next-window-spec : {M : Type 1} → statement M
+next-window-spec =
+    tie.close
+    (tie.spec
+    element-copy-out-leader
+    seek-block-requires
+    block-max-requires
+    last-doc-in-block-requires
+    gather-requires
+    returns
+    load-requires
+    returns-2
+    returns-3)
