@@ -7,7 +7,7 @@ use native.Mathlib.Omega.{arith}
 use lib.ListN.{length, getD, set, length-set}
 use lib.Seq.{getD-set-same, getD-set-other}
 use borrow.Author.Count.{below-more}
-use Rattle.arrays.specs.Holds.{Holds}
+use Rattle.arrays.specs.Inner.Holds.{Holds}
 
 pub record Filling {A : Type 0} (d : A) (N : ℕ) (f : ℕ → A) (start : List A) (i : ℕ) (xs : List A) : Type 0 where
   pub long : length xs ≡ N

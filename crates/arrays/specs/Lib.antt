@@ -1,3 +1,4 @@
--- What contracts over arrays and tests cite.
-pub mod Holds
+-- What contracts over lent arrays cite.
+pub mod Lent
 pub mod Every
+pub mod Inner

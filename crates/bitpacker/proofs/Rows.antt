@@ -7,7 +7,8 @@ use native.Mathlib.Omega.{arith}
 use lib.ListN.{length, getD, set}
 use lib.Pow.{pow-mono, ones-lt, shl-exact}
 use Rattle.arrays.proofs.Filling.{Filling, begun as filling, goes-on4}
-use Rattle.bitpacker.specs.Packed.{packedAt, InBlock, FourAt, Unpacked}
+use Rattle.bitpacker.specs.Packed.{packedAt}
+use Rattle.bitpacker.specs.Inner.Rows.{InBlock, FourAt, Unpacked}
 use Rattle.bitpacker.specs.declared.Four.{Four}
 use Rattle.bitpacker.proofs.Lanes.{row-in, packed-row}
 

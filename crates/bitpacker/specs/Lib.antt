@@ -1,2 +1,3 @@
 -- What the contracts of `bitpacker` cite.
 pub mod Packed
+pub mod Inner

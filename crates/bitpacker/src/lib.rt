@@ -1,10 +1,11 @@
 // Packed blocks: 128 values of one width from 0 to 32, in four lanes.
+use codec::bits::read_u32;
 ghost use mathlib.Core.Path.{_≡_};
 ghost use Prim.Native.Nat.{_+_, _*_, _%_, _^_, _≤_, _<_};
 ghost use lib.ListN.{length};
+ghost use Rattle.arrays.specs.Lent.{before, after};
 ghost use Rattle.codec.specs.Bits.{wordAt};
-ghost use Rattle.bitpacker.specs.Packed.{InBlock, FourAt, Unpacked};
-use codec::bits::read_u32;
+ghost use Rattle.bitpacker.specs.Inner.Rows.{InBlock, FourAt, Unpacked};
 
 // One value of each lane.
 pub struct Four {
@@ -17,7 +18,7 @@ pub struct Four {
 // The word at p put above a lane's low bits, of which there are `up`.
 fn above(low: u32, s: &[u8], p: usize, up: u32) -> u32
     requires { ⌜ (p + 4 ≤ length (now s)) × (up < 32) × (low < 2 ^ up) ⌝ }
-    ensures { λ r. ⌜ r ≡ (low + 2 ^ up * wordAt (now (s .entry)) p) % 2 ^ 32 ⌝ }
+    ensures { λ r. ⌜ r ≡ (low + 2 ^ up * wordAt (before s) p) % 2 ^ 32 ⌝ }
 {
     low | (read_u32(s, p) << up)
 }
@@ -26,7 +27,7 @@ fn above(low: u32, s: &[u8], p: usize, up: u32) -> u32
 // there: all four do, or none. Of width 0 there are no words.
 fn four_at(s: &[u8], p: usize, shift: u32, width: u32, mask: u32) -> Four
     requires { ⌜ InBlock (length (now s)) p shift width mask ⌝ }
-    ensures { λ r. ⌜ FourAt (now (s .entry)) p shift width r ⌝ }
+    ensures { λ r. ⌜ FourAt (before s) p shift width r ⌝ }
 {
     if width == 0 {
         return Four {
@@ -58,7 +59,7 @@ fn four_at(s: &[u8], p: usize, shift: u32, width: u32, mask: u32) -> Four
 // The 128 values of the packed block at a place, a row of four lanes at a time: `word` words and `shift` bits into the lanes.
 pub fn unpack(s: &[u8], at: usize, width: u32, out: &mut [u32; 128])
     requires { ⌜ (width ≤ 32) × (at + 16 * width ≤ length (now s)) × (length (now out) ≡ 128) ⌝ }
-    ensures { λ r. ⌜ Unpacked (now (s .entry)) at width (now (out .exit)) ⌝ }
+    ensures { λ r. ⌜ Unpacked (before s) at width (after out) ⌝ }
 {
     let unit: u64 = 1 << width;
     let mask = (unit - 1) as u32;

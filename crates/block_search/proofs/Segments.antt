@@ -11,7 +11,8 @@ use lib.Dec.{ltb}
 use lib.ListN.{getD}
 use borrow.Author.Tests.{lt-ltb, le-ltb}
 use Rattle.arrays.proofs.Order.{lt-or-ge, climbs}
-use Rattle.block_search.specs.Search.{oneIf, countBelow, Sorted, Segment}
+use Rattle.block_search.specs.Search.{oneIf, countBelow}
+use Rattle.block_search.specs.Inner.Segments.{Sorted, Segment}
 
 module _ (values : List ℕ) (sorted : Sorted values) (target : ℕ) where
   abbrev value : ℕ → ℕ

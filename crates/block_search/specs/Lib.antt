@@ -1,2 +1,3 @@
 -- What the contracts of `block_search` cite.
 pub mod Search
+pub mod Inner

@@ -2,7 +2,9 @@
 ghost use mathlib.Core.Path.{_≡_};
 ghost use Prim.Native.Nat.{_+_, _*_, _≤_, _<_};
 ghost use lib.Dec.{ltb};
-ghost use Rattle.block_search.specs.Search.{oneIf, countBelow, Sorted, Segment};
+ghost use Rattle.arrays.specs.Lent.{before};
+ghost use Rattle.block_search.specs.Search.{oneIf, countBelow};
+ghost use Rattle.block_search.specs.Inner.Segments.{Sorted, Segment};
 
 // 1 if x is below the target.
 fn below(x: u32, target: u32) -> usize
@@ -15,7 +17,7 @@ fn below(x: u32, target: u32) -> usize
 // count lies.
 fn segment(values: &[u32; 128], base: usize, step: usize, target: u32) -> usize
     requires { ⌜ Sorted (now values) × (0 < step) × (base + 8 * step ≤ 128) × (base ≤ countBelow 128 (now values) target) × (countBelow 128 (now values) target ≤ base + 8 * step) ⌝ }
-    ensures { λ r. ⌜ Segment (countBelow 128 (now (values .entry)) target) base step r ⌝ }
+    ensures { λ r. ⌜ Segment (countBelow 128 (before values) target) base step r ⌝ }
 {
     below(values[base + step - 1], target)
         + below(values[base + 2 * step - 1], target)
@@ -29,7 +31,7 @@ fn segment(values: &[u32; 128], base: usize, step: usize, target: u32) -> usize
 // How many values of a sorted block are below the target, from 0 to 128.
 pub fn search_block(values: &[u32; 128], target: u32) -> usize
     requires { ⌜ Sorted (now values) ⌝ }
-    ensures { λ r. ⌜ r ≡ countBelow 128 (now (values .entry)) target ⌝ }
+    ensures { λ r. ⌜ r ≡ countBelow 128 (before values) target ⌝ }
 {
     let far = 16 * segment(values, 0, 16, target);
     let near = far + 2 * segment(values, far, 2, target);

@@ -7,7 +7,6 @@ use lib.ListN.{getD, length, length-take, take}
 use lib.Seq.{getD-take}
 use lib.Ieee.{Float}
 use Rattle.fieldnorm.specs.declared.FieldNormReader.{FieldNormReader}
-use Rattle.bm25.specs.declared.Scoring.{Scoring}
 use Rattle.route.specs.F32.{f32}
 use Rattle.route.specs.Lists.{All}
 use Rattle.route.specs.Ordering.{sortBy}
@@ -18,19 +17,20 @@ use Rattle.route.specs.Intersection.{leaderRoute}
 use Rattle.route.specs.Skipping.{ofTwo}
 use Rattle.route.proofs.Lists.{Perm, all-perm, p-cons, p-nil, p-swap, p-trans}
 use Rattle.route.proofs.Ordering.{sort-perm}
-use Rattle.decoded.specs.Lists.{listOf}
+use Rattle.bm25.specs.declared.Scoring.{Scoring}
 use Rattle.ordering.proofs.Carried.{sort-map}
 use Rattle.ordering.proofs.Places.{all-at, all-first}
 use Rattle.rule.specs.declared.Rule.{Rule}
-use Rattle.reports.specs.Runs.{Rests}
-use Rattle.slot_rows.specs.Rows.{partIn}
-use Rattle.term_scorer.specs.Slots.{Held, cursorAt}
-use Rattle.intersection_window.specs.Scorers.{InOrder, Query, Ready, WeightsIn, leaderIn, listIn, query, scorerAt, scorersBetween, secondariesIn}
-use Rattle.intersection_window.specs.Sizes.{BySize, sizeIn, slotsFrom}
-use Rattle.block_wand_intersection.specs.Steps.{Runs, TopsIn}
-use Rattle.block_wand_intersection.specs.Queries.{Answers, Fresh, listsOf}
-use Rattle.block_wand_intersection.specs.declared.run.Ended.{Ended}
+use Rattle.reports.specs.Inner.Runs.{Rests}
+use Rattle.decoded.specs.Lists.{listOf}
+use Rattle.slot_rows.specs.Inner.Rows.{partIn}
+use Rattle.term_scorer.specs.Inner.Slots.{Held, cursorAt}
+use Rattle.intersection_window.specs.Inner.Scorers.{InOrder, Query, Ready, WeightsIn, leaderIn, listIn, query, scorerAt, scorersBetween, secondariesIn}
+use Rattle.intersection_window.specs.Inner.Sizes.{BySize, sizeIn, slotsFrom}
 use Rattle.intersection_window.proofs.Parts.{part-first}
+use Rattle.block_wand_intersection.specs.Inner.Steps.{Runs, TopsIn}
+use Rattle.block_wand_intersection.specs.Inner.Queries.{Answers, Fresh, listsOf}
+use Rattle.block_wand_intersection.specs.declared.run.Ended.{Ended}
 
 -- no slot twice
 Distinct : List ℕ → Type 0

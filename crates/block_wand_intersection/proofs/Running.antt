@@ -7,29 +7,29 @@ use native.Mathlib.Omega.{arith}
 use lib.ListN.{drop, getD, length, take}
 use lib.Ieee.{Float, nan}
 use borrow.Author.Tests.{le-ltb}
-use Rattle.notefile.specs.Header.{documents as documentsOf}
 use Rattle.route.specs.F32.{f32}
 use Rattle.route.specs.Score.{sum}
 use Rattle.route.specs.Postings.{TERMINATED}
 use Rattle.route.specs.Scorer.{Scorer, docOf}
 use Rattle.route.specs.Intersection.{InterPlace, early, leaderRoute, maxScoreSum, over, window}
 use Rattle.route.proofs.Places.{docAt-cap}
-use Rattle.postings.specs.Decoded.{doc-is, docIn}
-use Rattle.rule.specs.Follows.{Follows}
+use Rattle.rule.specs.Inner.Follows.{Follows}
 use Rattle.rule.specs.declared.Rule.{Rule}
 use Rattle.rule.specs.declared.Threshold.{Threshold}
-use Rattle.reports.specs.Runs.{Going, Rests}
+use Rattle.notefile.specs.Header.{documents as documentsOf}
+use Rattle.reports.specs.Inner.Runs.{Going, Rests}
 use Rattle.reports.proofs.RunLaws.{rests-ended, run-begun, run-quiet}
-use Rattle.term_scorer.specs.Slots.{Held, cursorAt, partAt}
-use Rattle.intersection_window.specs.Scorers.{InOrder, Query, Ready, leaderIn, listIn, placeAt, secondariesIn, slotAt}
-use Rattle.block_wand_intersection.specs.Walks.{Begun, WalkedBy, maxAlong, maxSum}
-use Rattle.block_wand_intersection.specs.Steps.{Ends, Runs, Steps, TopsIn}
+use Rattle.postings.specs.Inner.Decoded.{doc-is, docIn}
+use Rattle.term_scorer.specs.Inner.Slots.{Held, cursorAt, partAt}
+use Rattle.intersection_window.specs.Inner.Scorers.{InOrder, Query, Ready, leaderIn, listIn, placeAt, secondariesIn, slotAt}
+use Rattle.intersection_window.proofs.Parts.{part-same}
+use Rattle.intersection_window.proofs.Seats.{list-right}
+use Rattle.block_wand_intersection.specs.Inner.Walks.{Begun, WalkedBy, maxAlong, maxSum}
+use Rattle.block_wand_intersection.specs.Inner.Steps.{Ends, Runs, Steps, TopsIn}
 use Rattle.block_wand_intersection.specs.declared.walk.Stop.{Stop}
 use Rattle.block_wand_intersection.specs.declared.walk.Stop.the-variants.{Full, Next, Over}
 use Rattle.block_wand_intersection.specs.declared.run.Ended.{Ended}
 use Rattle.block_wand_intersection.specs.declared.run.Stepped.{Stepped}
-use Rattle.intersection_window.proofs.Parts.{part-same}
-use Rattle.intersection_window.proofs.Seats.{list-right}
 use Rattle.block_wand_intersection.proofs.Walking.{in-slots, max-is}
 
 -- ---- the loop

@@ -14,17 +14,17 @@ use Rattle.route.specs.Intersection.{candidatesIn, leaderRoute, over, window, w
 use Rattle.rule.specs.declared.Rule.{Rule}
 use Rattle.rule.specs.declared.Threshold.{Threshold}
 use Rattle.reports.proofs.RunLaws.{rests-ended, run-quiet}
-use Rattle.term_scorer.specs.Slots.{Held, Sixteen, cursorAt}
-use Rattle.intersection_window.specs.Scorers.{Query, leaderIn, listIn, placeAt, secondariesIn, slotAt}
-use Rattle.intersection_window.specs.Windows.{Opened, Skipped, Turns, Windowed, boundsOf}
-use Rattle.intersection_window.specs.Candidates.{Suffixes, leaderBlock}
-use Rattle.block_wand_intersection.specs.Walks.{Begun, Walks, maxAlong}
-use Rattle.block_wand_intersection.specs.Steps.{Steps}
+use Rattle.term_scorer.specs.Inner.Slots.{Held, Sixteen, cursorAt}
+use Rattle.intersection_window.specs.Inner.Scorers.{Query, leaderIn, listIn, placeAt, secondariesIn, slotAt}
+use Rattle.intersection_window.specs.Inner.Windows.{Opened, Skipped, Turns, Windowed, boundsOf}
+use Rattle.intersection_window.specs.Inner.Candidates.{Suffixes, leaderBlock}
 use Rattle.intersection_window.specs.declared.window.Window.{Window}
 use Rattle.intersection_window.specs.declared.window.Window.the-variants.{Low, Open, Over}
+use Rattle.intersection_window.proofs.Parts.{part-first, part-none}
+use Rattle.block_wand_intersection.specs.Inner.Walks.{Begun, Walks, maxAlong}
+use Rattle.block_wand_intersection.specs.Inner.Steps.{Steps}
 use Rattle.block_wand_intersection.specs.declared.walk.Stop.the-variants.{Next, Over as Stopped}
 use Rattle.block_wand_intersection.specs.declared.walk.Walked.{Walked}
-use Rattle.intersection_window.proofs.Parts.{part-first, part-none}
 use Rattle.block_wand_intersection.proofs.Walking.{in-slots}
 
 -- ---- the list bounds

@@ -19,25 +19,26 @@ use Rattle.route.specs.Route.{quiet}
 use Rattle.route.specs.Intersection.{InterPlace, called, candidatesFrom, candidatesIn, leaderRoute, maxScoreSum, over, within}
 use Rattle.route.proofs.Cases.{lt-of-ne}
 use Rattle.route.proofs.Lists.{all-each}
-use Rattle.postings.proofs.Blocks.{decoded-sorted}
-use Rattle.postings.proofs.Moves.{find-is}
 use Rattle.rule.specs.declared.Rule.{Rule}
 use Rattle.rule.specs.declared.Threshold.{Threshold}
-use Rattle.reports.specs.Rows.{Reported, rowsOf}
-use Rattle.reports.specs.Runs.{AtRest, Going}
+use Rattle.reports.specs.Rows.{rowsOf}
+use Rattle.reports.specs.Inner.Rows.{Reported}
+use Rattle.reports.specs.Inner.Runs.{AtRest, Going}
 use Rattle.reports.proofs.RowLaws.{documents-long as same-documents, scores-long as same-scores}
 use Rattle.reports.proofs.RunLaws.{rests-ended, rests-full, run-quiet, run-quietly, run-reports}
-use Rattle.slot_rows.specs.Rows.{cursorIn}
-use Rattle.term_scorer.specs.Slots.{Held, cursorAt}
-use Rattle.intersection_window.specs.Scorers.{InOrder, Query, Seated, StillKept, Unmoved, leaderIn, listIn, placeAt, scorerAt, secondariesIn, slotAt}
-use Rattle.intersection_window.specs.Candidates.{HitBy, HitIn, Hits, Suffixes, candidatesLeft, interTurn, leaderBlock, withinAt}
-use Rattle.block_wand_intersection.specs.Walks.{Begun, Walks, maxSum}
+use Rattle.postings.proofs.Blocks.{decoded-sorted}
+use Rattle.postings.proofs.Moves.{find-is}
+use Rattle.slot_rows.specs.Inner.Rows.{cursorIn}
+use Rattle.term_scorer.specs.Inner.Slots.{Held, cursorAt}
+use Rattle.intersection_window.specs.Inner.Scorers.{InOrder, Query, Seated, StillKept, Unmoved, leaderIn, listIn, placeAt, scorerAt, secondariesIn, slotAt}
+use Rattle.intersection_window.specs.Inner.Candidates.{HitBy, HitIn, Hits, Suffixes, candidatesLeft, interTurn, leaderBlock, withinAt}
 use Rattle.intersection_window.specs.declared.hit.Hit.{Hit}
 use Rattle.intersection_window.specs.declared.hit.Hit.the-variants.{At, Nowhere}
-use Rattle.block_wand_intersection.specs.declared.walk.Stop.the-variants.{Full, Next, Over}
 use Rattle.intersection_window.proofs.Seats.{unmoved, unmoved-trans}
 use Rattle.intersection_window.proofs.Gathering.{map-map}
 use Rattle.intersection_window.proofs.Hitting.{decoded}
+use Rattle.block_wand_intersection.specs.Inner.Walks.{Begun, Walks, maxSum}
+use Rattle.block_wand_intersection.specs.declared.walk.Stop.the-variants.{Full, Next, Over}
 
 -- the list bounds do not move
 pub max-is : (x : Query) (places : List (List ℕ)) → maxScoreSum f32 (leaderIn x places) (secondariesIn x places) ≡ maxSum x

@@ -2,15 +2,16 @@
 mod run;
 mod walk;
 
-ghost use Rattle.rule.specs.Follows.{Keeps};
-ghost use Rattle.term_scorer.specs.Slots.{held};
-ghost use Rattle.block_wand_intersection.specs.Queries.{Answers, Fresh};
 use bm25::Scoring;
 use fieldnorm::FieldNormReader;
 use intersection_window::order::by_size;
 use rule::Rule;
 use run::Ended;
 use run::run_in_order;
+ghost use Rattle.arrays.specs.Lent.{before, after};
+ghost use Rattle.rule.specs.Inner.Follows.{Keeps};
+ghost use Rattle.term_scorer.specs.Inner.Slots.{held};
+ghost use Rattle.block_wand_intersection.specs.Inner.Queries.{Answers, Fresh};
 
 // `block_wand_intersection`, over n lists that are fresh in their slots: the rarest leads.
 pub fn block_wand_intersection(
@@ -32,7 +33,7 @@ pub fn block_wand_intersection(
     scores: &mut [f32],
 ) -> Ended
     requires { ⌜ Fresh scoring (now file) (now lists) n norms (now weights) (now caches) (now «max_scores») (held (now places) (now docs) (now freqs)) (now bounds) × Keeps rule ⌝ }
-    ensures { λ r. ⌜ Answers scoring (now (file .entry)) (now (lists .entry)) n rule (now (script .entry)) (now (documents .entry)) (now (scores .entry)) r (now (places .exit)) (now (documents .exit)) (now (scores .exit)) ⌝ }
+    ensures { λ r. ⌜ Answers scoring (before file) (before lists) n rule (before script) (before documents) (before scores) r (after places) (after documents) (after scores) ⌝ }
 {
     let order = by_size(n, lists);
     run_in_order(

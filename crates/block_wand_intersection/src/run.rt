@@ -1,12 +1,4 @@
 // The run over windows, from the early exit to the end.
-ghost use mathlib.Core.Path.{_≡_};
-ghost use Prim.Native.Nat.{ℕ, _≤_, _<_};
-ghost use lib.ListN.{getD};
-ghost use Rattle.rule.specs.Follows.{Keeps};
-ghost use Rattle.term_scorer.specs.Slots.{held, Sixteen};
-ghost use Rattle.intersection_window.specs.Scorers.{query, InOrder, Ready, WeightsIn};
-ghost use Rattle.block_wand_intersection.specs.Walks.{maxAlong, maxSum, Begun};
-ghost use Rattle.block_wand_intersection.specs.Steps.{Ends, Runs, Steps, TopsIn};
 use crate::walk::Stop;
 use crate::walk::walk;
 use bm25::Scoring;
@@ -18,6 +10,15 @@ use notefile::block::TERMINATED;
 use rule::Rule;
 use rule::Threshold;
 use term_scorer::slot;
+ghost use mathlib.Core.Path.{_≡_};
+ghost use Prim.Native.Nat.{ℕ, _≤_, _<_};
+ghost use lib.ListN.{getD};
+ghost use Rattle.arrays.specs.Lent.{before, after};
+ghost use Rattle.rule.specs.Inner.Follows.{Keeps};
+ghost use Rattle.term_scorer.specs.Inner.Slots.{held, Sixteen};
+ghost use Rattle.intersection_window.specs.Inner.Scorers.{query, InOrder, Ready, WeightsIn};
+ghost use Rattle.block_wand_intersection.specs.Inner.Walks.{maxAlong, maxSum, Begun};
+ghost use Rattle.block_wand_intersection.specs.Inner.Steps.{Ends, Runs, Steps, TopsIn};
 
 // The threshold behind a window, how it was left, and where the next begins.
 pub struct Stepped {
@@ -35,7 +36,7 @@ pub struct Ended {
 // `leader_max_score + secondaries_global_max_sum`.
 fn max_score_sum(n: usize, order: &[usize; 16], max_scores: &[f32; 16]) -> f32
     requires { ⌜ (0 < n) × (n ≤ 16) × Sixteen (now order) × ((i : ℕ) → i < n → getD (now order) i 0 < 16) ⌝ }
-    ensures { λ r. ⌜ r ≡ maxAlong n (now (order .entry)) (now («max_scores» .entry)) ⌝ }
+    ensures { λ r. ⌜ r ≡ maxAlong n (before order) (before «max_scores») ⌝ }
 {
     let mut sum = 0.0f32;
     let mut i = 1usize;
@@ -71,7 +72,7 @@ fn step(
     scores: &mut [f32],
 ) -> Stepped
     requires { ⌜ InOrder (query scoring (now file) (now lists) n (now order)) × WeightsIn (query scoring (now file) (now lists) n (now order)) norms (now weights) (now caches) × Ready (query scoring (now file) (now lists) n (now order)) (held (now places) (now docs) (now freqs)) (now bounds) × Keeps rule × Begun rule (now script) t (now documents) (now scores) × («max_sum» ≡ maxSum (query scoring (now file) (now lists) n (now order))) × (doc < 2147483647) ⌝ }
-    ensures { λ r. ⌜ Steps (query scoring (now (file .entry)) (now (lists .entry)) n (now (order .entry))) rule (now (script .entry)) t doc (held (now (places .entry)) (now (docs .entry)) (now (freqs .entry))) (now (documents .entry)) (now (scores .entry)) r (held (now (places .exit)) (now (docs .exit)) (now (freqs .exit))) (now (bounds .exit)) (now (documents .exit)) (now (scores .exit)) ⌝ }
+    ensures { λ r. ⌜ Steps (query scoring (before file) (before lists) n (before order)) rule (before script) t doc (held (before places) (before docs) (before freqs)) (before documents) (before scores) r (held (after places) (after docs) (after freqs)) (after bounds) (after documents) (after scores) ⌝ }
 {
     let window = next_window(
         file,
@@ -160,7 +161,7 @@ fn windows(
     scores: &mut [f32],
 ) -> Ended
     requires { ⌜ InOrder (query scoring (now file) (now lists) n (now order)) × WeightsIn (query scoring (now file) (now lists) n (now order)) norms (now weights) (now caches) × Ready (query scoring (now file) (now lists) n (now order)) (held (now places) (now docs) (now freqs)) (now bounds) × Keeps rule × Begun rule (now script) t (now documents) (now scores) × («max_sum» ≡ maxSum (query scoring (now file) (now lists) n (now order))) × («first_doc» ≤ 2147483648) ⌝ }
-    ensures { λ r. ⌜ Ends (query scoring (now (file .entry)) (now (lists .entry)) n (now (order .entry))) rule (now (script .entry)) t «first_doc» (held (now (places .entry)) (now (docs .entry)) (now (freqs .entry))) (now (documents .entry)) (now (scores .entry)) r (now (places .exit)) (now (documents .exit)) (now (scores .exit)) ⌝ }
+    ensures { λ r. ⌜ Ends (query scoring (before file) (before lists) n (before order)) rule (before script) t «first_doc» (held (before places) (before docs) (before freqs)) (before documents) (before scores) r (after places) (after documents) (after scores) ⌝ }
 {
     let mut threshold = t;
     let mut doc = first_doc;
@@ -228,7 +229,7 @@ pub fn run_in_order(
     scores: &mut [f32],
 ) -> Ended
     requires { ⌜ InOrder (query scoring (now file) (now lists) n (now order)) × WeightsIn (query scoring (now file) (now lists) n (now order)) norms (now weights) (now caches) × Ready (query scoring (now file) (now lists) n (now order)) (held (now places) (now docs) (now freqs)) (now bounds) × Keeps rule × TopsIn (query scoring (now file) (now lists) n (now order)) (now «max_scores») ⌝ }
-    ensures { λ r. ⌜ Runs (query scoring (now (file .entry)) (now (lists .entry)) n (now (order .entry))) rule (now (script .entry)) (now (places .entry)) (now (documents .entry)) (now (scores .entry)) r (now (places .exit)) (now (documents .exit)) (now (scores .exit)) ⌝ }
+    ensures { λ r. ⌜ Runs (query scoring (before file) (before lists) n (before order)) rule (before script) (before places) (before documents) (before scores) r (after places) (after documents) (after scores) ⌝ }
 {
     let max_sum = max_score_sum(n, order, max_scores);
     let threshold = Threshold::new(rule);

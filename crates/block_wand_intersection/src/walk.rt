@@ -1,9 +1,4 @@
 // The candidates of an open window: those that are due are reported.
-ghost use mathlib.Core.Path.{_≡_};
-ghost use Rattle.rule.specs.Follows.{Keeps};
-ghost use Rattle.term_scorer.specs.Slots.{held};
-ghost use Rattle.intersection_window.specs.Scorers.{query, InOrder, Seated, WeightsIn};
-ghost use Rattle.block_wand_intersection.specs.Walks.{maxSum, Begun, Walks};
 use block_search::search_block;
 use bm25::Scoring;
 use fieldnorm::FieldNormReader;
@@ -13,6 +8,12 @@ use reports::report;
 use reports::rows;
 use rule::Rule;
 use rule::Threshold;
+ghost use mathlib.Core.Path.{_≡_};
+ghost use Rattle.arrays.specs.Lent.{before, after};
+ghost use Rattle.rule.specs.Inner.Follows.{Keeps};
+ghost use Rattle.term_scorer.specs.Inner.Slots.{held};
+ghost use Rattle.intersection_window.specs.Inner.Scorers.{query, InOrder, Seated, WeightsIn};
+ghost use Rattle.block_wand_intersection.specs.Inner.Walks.{maxSum, Begun, Walks};
 
 // The next window; over, since no document can exceed the threshold; or a report is due and every row is full.
 pub enum Stop {
@@ -51,7 +52,7 @@ pub fn walk(
     scores: &mut [f32],
 ) -> Walked
     requires { ⌜ InOrder (query scoring (now file) (now lists) n (now order)) × WeightsIn (query scoring (now file) (now lists) n (now order)) norms (now weights) (now caches) × Seated (query scoring (now file) (now lists) n (now order)) (held (now places) (now docs) (now freqs)) × Keeps rule × Begun rule (now script) t (now documents) (now scores) × («max_sum» ≡ maxSum (query scoring (now file) (now lists) n (now order))) ⌝ }
-    ensures { λ r. ⌜ Walks (query scoring (now (file .entry)) (now (lists .entry)) n (now (order .entry))) rule (now (script .entry)) t doc «window_end» «block_max_sum» (now (suffix .entry)) (held (now (places .entry)) (now (docs .entry)) (now (freqs .entry))) (now (documents .entry)) (now (scores .entry)) r (held (now (places .exit)) (now (docs .exit)) (now (freqs .exit))) (now (documents .exit)) (now (scores .exit)) ⌝ }
+    ensures { λ r. ⌜ Walks (query scoring (before file) (before lists) n (before order)) rule (before script) t doc «window_end» «block_max_sum» (before suffix) (held (before places) (before docs) (before freqs)) (before documents) (before scores) r (held (after places) (after docs) (after freqs)) (after documents) (after scores) ⌝ }
 {
     let leader = order[0];
     let room = rows(documents, scores);

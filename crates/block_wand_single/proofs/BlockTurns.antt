@@ -17,10 +17,10 @@ use Rattle.route.specs.Postings.{Postings, TERMINATED, start, docAt, lastDoc}
 use Rattle.route.specs.Cursor.{Cursor, advanceIn}
 use Rattle.route.specs.Route.{Route, Turn, after, step}
 use Rattle.route.specs.Single.{Phase, walk, over, SinglePlace, landed, leave, singleTurn}
-use Rattle.route.proofs.ListLaws.{ListOk}
+use Rattle.route.specs.Inner.Lists.{ListOk}
 use Rattle.route.proofs.Ending.{Nears}
 use Rattle.route.proofs.Places.{start-suc, start-le, docAt-in, docAt-out, last-in, last-out, last-place, le-last}
-use Rattle.block_wand_single.specs.Walks.{offered}
+use Rattle.block_wand_single.specs.Inner.Walks.{offered}
 
 -- by what a test shows
 pub on-true : {A : Type 0} {b : Bool} (x y : A) → b ≡ true → cond b x y ≡ x

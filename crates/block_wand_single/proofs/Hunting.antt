@@ -8,28 +8,29 @@ use native.Mathlib.Omega.{arith}
 use lib.Dec.{eqb}
 use lib.Ieee.{Float, lt}
 use borrow.Author.Tests.{eq-eqb, ne-eqb}
-use Rattle.bm25.specs.declared.Scoring.{Scoring}
-use Rattle.notefile.specs.Header.{documents}
-use Rattle.notefile.specs.declared.part.Part.{Part}
 use Rattle.route.specs.F32.{f32}
 use Rattle.route.specs.Postings.{Postings, TERMINATED, lastDoc}
 use Rattle.route.specs.Cursor.{Cursor, seekBlockIn, seekIn, blockMax}
 use Rattle.route.specs.Route.{Turn, quiet}
 use Rattle.route.specs.Single.{Phase, hunt, walk, over, SinglePlace, landed, huntTurn}
-use Rattle.route.proofs.ListLaws.{ListOk}
+use Rattle.route.specs.Inner.Lists.{ListOk}
+use Rattle.route.specs.Inner.Singles.{SingleKept, singleCost}
 use Rattle.route.proofs.Places.{last-cap}
 use Rattle.route.proofs.Ending.{Nears}
-use Rattle.route.proofs.SingleEnds.{SingleKept, singleCost, single-nears}
+use Rattle.route.proofs.Single.Ends.{single-nears}
+use Rattle.bm25.specs.declared.Scoring.{Scoring}
+use Rattle.notefile.specs.Header.{documents}
+use Rattle.notefile.specs.declared.part.Part.{Part}
+use Rattle.reports.specs.Inner.Runs.{goes}
+use Rattle.reports.proofs.RunLaws.{quietly-near}
 use Rattle.decoded.specs.Lists.{listOf}
 use Rattle.decoded.proofs.AcceptedLists.{list-ok}
-use Rattle.postings.specs.Decoded.{ListIn}
-use Rattle.postings.specs.Reader.{Stands}
-use Rattle.postings.specs.Places.{cursorOf, Placed, Moved, Shallow, Here}
+use Rattle.postings.specs.Inner.Decoded.{ListIn}
+use Rattle.postings.specs.Inner.Reader.{Stands}
+use Rattle.postings.specs.Inner.Places.{cursorOf, Placed, Moved, Shallow, Here}
 use Rattle.postings.specs.declared.cursor.SegmentPostings.{SegmentPostings}
 use Rattle.postings.proofs.Moves.{end-here}
-use Rattle.reports.specs.Runs.{goes}
-use Rattle.reports.proofs.RunLaws.{quietly-near}
-use Rattle.block_wand_single.specs.Scans.{placeOf, singleRoute, QuietTurns, Scores, Hunted, Approached}
+use Rattle.block_wand_single.specs.Inner.Scans.{placeOf, singleRoute, QuietTurns, Scores, Hunted, Approached}
 use Rattle.block_wand_single.specs.declared.hunt.Scan.{Scan}
 
 -- a turn of the hunt by what its tests show

@@ -6,26 +6,27 @@ use Prim.Native.Nat.{ℕ, suc, min, _+_, _≤_, _<_}
 use native.Mathlib.Omega.{arith}
 use lib.ListN.{getD}
 use lib.Ieee.{Float, nan}
-use Rattle.bm25.specs.declared.Scoring.{Scoring}
-use Rattle.notefile.specs.declared.part.Part.{Part}
 use Rattle.route.specs.F32.{f32}
 use Rattle.route.specs.Report.{Report, dueAt}
 use Rattle.route.specs.Postings.{Postings}
 use Rattle.route.specs.Route.{Run, Turn}
 use Rattle.route.specs.Single.{hunt, walk, over, SinglePlace, isOver, singleTurn}
-use Rattle.route.proofs.SingleEnds.{SingleKept, singleCost}
-use Rattle.decoded.specs.Lists.{listOf}
-use Rattle.postings.specs.Decoded.{ListIn}
-use Rattle.postings.specs.Places.{Placed, cursorOf}
-use Rattle.postings.specs.declared.cursor.SegmentPostings.{SegmentPostings}
+use Rattle.route.specs.Inner.Singles.{SingleKept, singleCost}
+use Rattle.bm25.specs.declared.Scoring.{Scoring}
 use Rattle.rule.specs.declared.Rule.{Rule}
 use Rattle.rule.specs.declared.Threshold.{Threshold}
-use Rattle.reports.specs.Rows.{rowsOf, Kept}
-use Rattle.reports.specs.Runs.{callbackOf, Going}
+use Rattle.notefile.specs.declared.part.Part.{Part}
+use Rattle.reports.specs.Rows.{rowsOf}
+use Rattle.reports.specs.Inner.Rows.{Kept}
+use Rattle.reports.specs.Inner.Runs.{callbackOf, Going}
 use Rattle.reports.proofs.RunLaws.{quietly-near, run-quietly}
-use Rattle.block_wand_single.specs.Walks.{Walks, WalkStopped}
-use Rattle.block_wand_single.specs.Scans.{singleRoute, placeOf, QuietTurns, Approached}
-use Rattle.block_wand_single.specs.Blocks.{atPlace, Left, AfterBy, AfterWalk, ScansBlock}
+use Rattle.decoded.specs.Lists.{listOf}
+use Rattle.postings.specs.Inner.Decoded.{ListIn}
+use Rattle.postings.specs.Inner.Places.{Placed, cursorOf}
+use Rattle.postings.specs.declared.cursor.SegmentPostings.{SegmentPostings}
+use Rattle.block_wand_single.specs.Inner.Walks.{Walks, WalkStopped}
+use Rattle.block_wand_single.specs.Inner.Scans.{singleRoute, placeOf, QuietTurns, Approached}
+use Rattle.block_wand_single.specs.Inner.Blocks.{atPlace, Left, AfterBy, AfterWalk, ScansBlock}
 use Rattle.block_wand_single.specs.declared.hunt.Scan.{Scan}
 use Rattle.block_wand_single.specs.declared.walk.Walked.{Walked}
 use Rattle.block_wand_single.specs.declared.block.Scanned.{Scanned}

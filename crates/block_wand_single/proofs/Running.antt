@@ -6,28 +6,29 @@ use Prim.Native.Nat.{ℕ}
 use native.Mathlib.Omega.{arith}
 use lib.ListN.{length}
 use lib.Ieee.{Float}
-use Rattle.bm25.specs.declared.Scoring.{Scoring}
-use Rattle.notefile.specs.declared.part.Part.{Part}
 use Rattle.route.specs.F32.{f32}
 use Rattle.route.specs.Rule.{scores as scoresOf}
 use Rattle.route.specs.Cursor.{Cursor, docHere, fresh}
 use Rattle.route.specs.Single.{hunt, over}
-use Rattle.route.proofs.SingleEnds.{SingleKept, single-stays}
-use Rattle.decoded.specs.Lists.{listOf}
-use Rattle.postings.specs.Decoded.{ListIn}
-use Rattle.postings.specs.Places.{Placed, Moved, Here, cursorOf}
-use Rattle.postings.specs.declared.cursor.SegmentPostings.{SegmentPostings}
-use Rattle.rule.specs.Follows.{Follows}
+use Rattle.route.specs.Inner.Singles.{SingleKept}
+use Rattle.route.proofs.Single.Ends.{single-stays}
+use Rattle.bm25.specs.declared.Scoring.{Scoring}
+use Rattle.rule.specs.Inner.Follows.{Follows}
 use Rattle.rule.specs.declared.Rule.{Rule}
 use Rattle.rule.specs.declared.Threshold.{Threshold}
+use Rattle.notefile.specs.declared.part.Part.{Part}
 use Rattle.reports.specs.Rows.{rowsOf}
-use Rattle.reports.specs.Runs.{runAfter, Going, Ran}
+use Rattle.reports.specs.Inner.Runs.{runAfter, Going, Ran}
 use Rattle.reports.proofs.RowLaws.{documents-long, scores-long, count-is}
 use Rattle.reports.proofs.RunLaws.{run-begun, run-kept, run-ends, run-full}
-use Rattle.block_wand_single.specs.Walks.{Begun}
-use Rattle.block_wand_single.specs.Scans.{singleRoute, placeOf}
-use Rattle.block_wand_single.specs.Blocks.{phaseAfter, ScansBlock}
-use Rattle.block_wand_single.specs.Stops.{endPhase, runOf}
+use Rattle.decoded.specs.Lists.{listOf}
+use Rattle.postings.specs.Inner.Decoded.{ListIn}
+use Rattle.postings.specs.Inner.Places.{Placed, Moved, Here, cursorOf}
+use Rattle.postings.specs.declared.cursor.SegmentPostings.{SegmentPostings}
+use Rattle.block_wand_single.specs.Inner.Walks.{Begun}
+use Rattle.block_wand_single.specs.Inner.Scans.{singleRoute, placeOf}
+use Rattle.block_wand_single.specs.Inner.Blocks.{phaseAfter, ScansBlock}
+use Rattle.block_wand_single.specs.Inner.Stops.{endPhase, runOf}
 use Rattle.block_wand_single.specs.declared.scan.SingleRun.{SingleRun}
 use Rattle.block_wand_single.specs.declared.block.Scanned.{Scanned}
 use Rattle.block_wand_single.proofs.Hunting.{near}

@@ -10,26 +10,26 @@ use lib.ListN.{getD}
 use lib.Ieee.{Float, nan}
 use borrow.Author.Tests.{lt-ltb, le-ltb}
 use Rattle.arrays.proofs.Order.{lt-or-ge}
-use Rattle.bm25.specs.declared.Scoring.{Scoring}
-use Rattle.notefile.specs.Header.{documents}
-use Rattle.notefile.specs.declared.part.Part.{Part}
 use Rattle.route.specs.F32.{f32}
 use Rattle.route.specs.Report.{dueAt}
 use Rattle.route.specs.Postings.{Postings, TERMINATED, start, docAt, lastDoc}
 use Rattle.route.specs.Cursor.{Cursor, seekBlockIn}
 use Rattle.route.specs.Single.{hunt, walk, over, SinglePlace, singleTurn}
+use Rattle.route.specs.Inner.Singles.{SingleKept}
 use Rattle.route.proofs.Places.{docAt-lt, last-in, last-out, last-place}
 use Rattle.route.proofs.Cursor.{on-block}
-use Rattle.route.proofs.SingleEnds.{SingleKept}
+use Rattle.bm25.specs.declared.Scoring.{Scoring}
+use Rattle.notefile.specs.Header.{documents}
+use Rattle.notefile.specs.declared.part.Part.{Part}
 use Rattle.decoded.specs.Lists.{listOf}
-use Rattle.postings.specs.Decoded.{ListIn, doc-is}
-use Rattle.postings.specs.Places.{Placed, cursorOf}
+use Rattle.postings.specs.Inner.Decoded.{ListIn, doc-is}
+use Rattle.postings.specs.Inner.Places.{Placed, cursorOf}
 use Rattle.postings.specs.declared.cursor.SegmentPostings.{SegmentPostings}
 use Rattle.postings.proofs.Readers.{left-is}
 use Rattle.postings.proofs.Moves.{end-here}
 use Rattle.postings.proofs.BlockBounds.{score-at}
-use Rattle.block_wand_single.specs.Scans.{placeOf, Scores}
-use Rattle.block_wand_single.specs.Blocks.{atPlace, Left, LeftBy}
+use Rattle.block_wand_single.specs.Inner.Scans.{placeOf, Scores}
+use Rattle.block_wand_single.specs.Inner.Blocks.{atPlace, Left, LeftBy}
 use Rattle.block_wand_single.specs.declared.hunt.Scan.{Scan}
 use Rattle.block_wand_single.proofs.Hunting.{ok}
 use Rattle.block_wand_single.proofs.BlockTurns.{here, behind, doc, placeIn, inside, tail-size, on-true, on-false, block-turn}

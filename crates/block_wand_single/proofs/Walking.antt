@@ -9,14 +9,15 @@ use native.Mathlib.Omega.{arith}
 use lib.ListN.{length, getD, length-set, length-append}
 use lib.Ieee.{Float, nan, lt}
 use Rattle.arrays.proofs.Order.{lt-or-ge}
-use Rattle.route.proofs.Cases.{lt-of-ne}
 use Rattle.route.specs.Report.{Report}
+use Rattle.route.proofs.Cases.{lt-of-ne}
 use Rattle.rule.specs.declared.Rule.{Rule}
 use Rattle.rule.specs.declared.Threshold.{Threshold}
-use Rattle.reports.specs.Rows.{rowsOf, Kept, Reported}
-use Rattle.reports.specs.Runs.{callbackOf}
+use Rattle.reports.specs.Rows.{rowsOf}
+use Rattle.reports.specs.Inner.Rows.{Kept, Reported}
+use Rattle.reports.specs.Inner.Runs.{callbackOf}
 use Rattle.reports.proofs.RowLaws.{threshold-is, one-more, documents-long as same-documents, scores-long as same-scores}
-use Rattle.block_wand_single.specs.Walks.{FirstAbove, Begun, offered, Walks}
+use Rattle.block_wand_single.specs.Inner.Walks.{FirstAbove, Begun, offered, Walks}
 
 -- ---- the first score above
 

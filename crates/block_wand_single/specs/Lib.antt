@@ -1,5 +1,2 @@
 -- What the contracts of `block_wand_single` cite.
-pub mod Walks
-pub mod Scans
-pub mod Blocks
-pub mod Stops
+pub mod Inner

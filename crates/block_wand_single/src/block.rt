@@ -14,17 +14,18 @@ use rule::Threshold;
 ghost use mathlib.Core.Path.{_≡_};
 ghost use mathlib.Core.Bool.{true};
 ghost use Prim.Native.Nat.{min, suc, _≤_, _<_};
-ghost use Rattle.notefile.specs.Lists.{fullBlocks};
-ghost use Rattle.rule.specs.Follows.{Keeps};
+ghost use Rattle.arrays.specs.Lent.{before, after};
 ghost use Rattle.route.specs.Single.{hunt};
-ghost use Rattle.route.proofs.SingleEnds.{SingleKept};
+ghost use Rattle.route.specs.Inner.Singles.{SingleKept};
+ghost use Rattle.rule.specs.Inner.Follows.{Keeps};
+ghost use Rattle.notefile.specs.Lists.{fullBlocks};
 ghost use Rattle.decoded.specs.Lists.{listOf};
-ghost use Rattle.postings.specs.Decoded.{ListIn};
-ghost use Rattle.postings.specs.Reader.{Stands};
-ghost use Rattle.postings.specs.Places.{Placed, cursorOf};
-ghost use Rattle.block_wand_single.specs.Walks.{Begun};
-ghost use Rattle.block_wand_single.specs.Scans.{TermIn};
-ghost use Rattle.block_wand_single.specs.Blocks.{Left, AfterWalk, ScansBlock};
+ghost use Rattle.postings.specs.Inner.Decoded.{ListIn};
+ghost use Rattle.postings.specs.Inner.Reader.{Stands};
+ghost use Rattle.postings.specs.Inner.Places.{Placed, cursorOf};
+ghost use Rattle.block_wand_single.specs.Inner.Walks.{Begun};
+ghost use Rattle.block_wand_single.specs.Inner.Scans.{TermIn};
+ghost use Rattle.block_wand_single.specs.Inner.Blocks.{Left, AfterWalk, ScansBlock};
 
 // Where the scan came to, the threshold, and whether a report is due there with no row left.
 pub struct Scanned {
@@ -47,7 +48,7 @@ fn block_len(p: SegmentPostings) -> usize
 // Behind the n postings of a block: past the block, or the end where it is the tail.
 fn leave(file: &[u8], x: Part, p: SegmentPostings, n: usize) -> Scan
     requires { ⌜ ListIn (now file) x × Stands (now file) x (p .«skip_reader») × (p .«skip_reader» .block ≤ suc (fullBlocks x)) ⌝ }
-    ensures { λ r. ⌜ Left (now (file .entry)) x p n r ⌝ }
+    ensures { λ r. ⌜ Left (before file) x p n r ⌝ }
 {
     let reader = p.skip_reader;
     let last = reader.last_doc_in_block;
@@ -79,7 +80,7 @@ fn after_walk(
     docs: &[u32; 128],
 ) -> Scanned
     requires { ⌜ ListIn (now file) x × Stands (now file) x (p .«skip_reader») × (p .«skip_reader» .block ≤ suc (fullBlocks x)) × (walked .full ≡ true → walked .place < 128) ⌝ }
-    ensures { λ r. ⌜ AfterWalk (now (file .entry)) x p n (now (docs .entry)) walked r ⌝ }
+    ensures { λ r. ⌜ AfterWalk (before file) x p n (before docs) walked r ⌝ }
 {
     let threshold = walked.threshold;
     if walked.full {
@@ -122,7 +123,7 @@ pub fn scan_block(
     scores: &mut [f32],
 ) -> Scanned
     requires { ⌜ TermIn (now file) norms x w × Keeps rule × Begun rule (now script) t (now documents) (now scores) × Placed (now file) x p (now docs) (now freqs) × SingleKept 128 (listOf scoring (now file) x) hunt (cursorOf p) d ⌝ }
-    ensures { λ r. ⌜ ScansBlock (now (file .entry)) x scoring rule (now (script .entry)) t p d (now (documents .entry)) (now (scores .entry)) r (now (docs .exit)) (now (freqs .exit)) (now (documents .exit)) (now (scores .exit)) ⌝ }
+    ensures { λ r. ⌜ ScansBlock (before file) x scoring rule (before script) t p d (before documents) (before scores) r (after docs) (after freqs) (after documents) (after scores) ⌝ }
 {
     let now = t.now;
     let scan = approach(file, norms, x, w, scoring, now, p, d, docs, freqs, values);

@@ -6,11 +6,12 @@ use notefile::block::TERMINATED;
 use notefile::part::Part;
 use postings::bound::block_max_score;
 use postings::cursor::SegmentPostings;
+ghost use Rattle.arrays.specs.Lent.{before, after};
 ghost use Rattle.route.specs.Single.{hunt};
-ghost use Rattle.route.proofs.SingleEnds.{SingleKept};
+ghost use Rattle.route.specs.Inner.Singles.{SingleKept};
 ghost use Rattle.decoded.specs.Lists.{listOf};
-ghost use Rattle.postings.specs.Places.{Placed, cursorOf};
-ghost use Rattle.block_wand_single.specs.Scans.{TermIn, Scores, Hunted, Approached};
+ghost use Rattle.postings.specs.Inner.Places.{Placed, cursorOf};
+ghost use Rattle.block_wand_single.specs.Inner.Scans.{TermIn, Scores, Hunted, Approached};
 
 // A scorer and the scan's `doc`, and whether the scan is over.
 pub struct Scan {
@@ -33,7 +34,7 @@ fn hunt(
     freqs: &[u32; 128],
 ) -> Scan
     requires { ⌜ TermIn (now file) norms x w × Placed (now file) x from (now docs) (now freqs) × SingleKept 128 (listOf scoring (now file) x) hunt (cursorOf from) «from_doc» ⌝ }
-    ensures { λ r. ⌜ Hunted (now (file .entry)) x scoring threshold from «from_doc» (now (docs .entry)) (now (freqs .entry)) r ⌝ }
+    ensures { λ r. ⌜ Hunted (before file) x scoring threshold from «from_doc» (before docs) (before freqs) r ⌝ }
 {
     let mut postings = from;
     let mut doc = from_doc;
@@ -72,7 +73,7 @@ fn score_postings(
     values: &mut [f32; 128],
 )
     requires { ⌜ TermIn (now file) norms x w ⌝ }
-    ensures { λ _. ⌜ Scores (now (file .entry)) x scoring (now (docs .entry)) (now (freqs .entry)) (now (values .exit)) ⌝ }
+    ensures { λ _. ⌜ Scores (before file) x scoring (before docs) (before freqs) (after values) ⌝ }
 {
     bm25_block::score_block(
         file,
@@ -101,7 +102,7 @@ pub fn approach(
     values: &mut [f32; 128],
 ) -> Scan
     requires { ⌜ TermIn (now file) norms x w × Placed (now file) x p (now docs) (now freqs) × SingleKept 128 (listOf scoring (now file) x) hunt (cursorOf p) d ⌝ }
-    ensures { λ r. ⌜ Approached (now (file .entry)) x scoring t p d r (now (docs .exit)) (now (freqs .exit)) (now (values .exit)) ⌝ }
+    ensures { λ r. ⌜ Approached (before file) x scoring t p d r (after docs) (after freqs) (after values) ⌝ }
 {
     let found = hunt(file, norms, x, w, scoring, t, p, d, docs, freqs);
     if found.over {

@@ -10,10 +10,11 @@ use rule::Rule;
 use rule::Threshold;
 ghost use mathlib.Core.Path.{_≡_};
 ghost use Prim.Native.Nat.{ℕ};
-ghost use Rattle.rule.specs.Follows.{Keeps};
-ghost use Rattle.reports.specs.Runs.{Ran};
-ghost use Rattle.block_wand_single.specs.Scans.{TermIn, singleRoute, placeOf};
-ghost use Rattle.block_wand_single.specs.Stops.{endPhase, runOf};
+ghost use Rattle.arrays.specs.Lent.{before, after};
+ghost use Rattle.rule.specs.Inner.Follows.{Keeps};
+ghost use Rattle.reports.specs.Inner.Runs.{Ran};
+ghost use Rattle.block_wand_single.specs.Inner.Scans.{TermIn, singleRoute, placeOf};
+ghost use Rattle.block_wand_single.specs.Inner.Stops.{endPhase, runOf};
 
 // What a run leaves beside its rows: whether they were full when a report was due, how many are written, and where it stopped.
 pub struct SingleRun {
@@ -50,7 +51,7 @@ pub fn block_wand_single_scorer(
     scores: &mut [f32],
 ) -> SingleRun
     requires { ⌜ TermIn (now file) norms x w × Keeps rule ⌝ }
-    ensures { λ r. ⌜ ((ord : ℕ) → Ran (singleRoute scoring (now (file .entry)) x ord) rule (now (script .entry)) (now (documents .entry)) (now (scores .entry)) (r .full) (r .count) (now (documents .exit)) (now (scores .exit)) (placeOf (endPhase (r .full)) (r .postings) (r .doc))) ⌝ }
+    ensures { λ r. ⌜ ((ord : ℕ) → Ran (singleRoute scoring (before file) x ord) rule (before script) (before documents) (before scores) (r .full) (r .count) (after documents) (after scores) (placeOf (endPhase (r .full)) (r .postings) (r .doc))) ⌝ }
 {
     let mut docs = [0u32; 128];
     let mut freqs = [0u32; 128];

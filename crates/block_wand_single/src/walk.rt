@@ -4,8 +4,9 @@ use reports::rows;
 use rule::Rule;
 use rule::Threshold;
 ghost use Prim.Native.Nat.{_≤_};
-ghost use Rattle.rule.specs.Follows.{Keeps};
-ghost use Rattle.block_wand_single.specs.Walks.{Begun, FirstAbove, Walks};
+ghost use Rattle.arrays.specs.Lent.{before, after};
+ghost use Rattle.rule.specs.Inner.Follows.{Keeps};
+ghost use Rattle.block_wand_single.specs.Inner.Walks.{Begun, FirstAbove, Walks};
 
 // The threshold after the walk, the place that it came to, and whether a report was due there with no row left.
 pub struct Walked {
@@ -17,7 +18,7 @@ pub struct Walked {
 // The first place whose score is above the threshold, or n where there is none.
 fn first_above(values: &[f32; 128], from: usize, n: usize, threshold: f32) -> usize
     requires { ⌜ (from ≤ n) × (n ≤ 128) ⌝ }
-    ensures { λ r. ⌜ FirstAbove (now (values .entry)) from n threshold r ⌝ }
+    ensures { λ r. ⌜ FirstAbove (before values) from n threshold r ⌝ }
 {
     let mut i = from;
     while i < n {
@@ -41,7 +42,7 @@ pub fn walk(
     scores: &mut [f32],
 ) -> Walked
     requires { ⌜ Keeps rule × (from ≤ n) × (n ≤ 128) × Begun rule (now script) t (now documents) (now scores) ⌝ }
-    ensures { λ r. ⌜ Walks rule (now (script .entry)) t from n (now (docs .entry)) (now (values .entry)) (now (documents .entry)) (now (scores .entry)) r (now (documents .exit)) (now (scores .exit)) ⌝ }
+    ensures { λ r. ⌜ Walks rule (before script) t from n (before docs) (before values) (before documents) (before scores) r (after documents) (after scores) ⌝ }
 {
     let room = rows(documents, scores);
     let mut threshold = t;

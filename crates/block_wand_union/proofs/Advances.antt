@@ -8,9 +8,6 @@ use native.Mathlib.Omega.{arith}
 use lib.ListN.{drop, getD, length, length-set, length-take, set, take}
 use lib.Seq.{drop-cons, getD-drop, getD-take, take-set-lt, take-suc}
 use lib.Ieee.{Float}
-use Rattle.bm25.specs.declared.Scoring.{Scoring}
-use Rattle.bm25.specs.declared.Scoring.the-variants.{Unstepped}
-use Rattle.notefile.specs.Lists.{fullBlocks}
 use Rattle.route.specs.Lists.{All}
 use Rattle.route.specs.Score.{sum}
 use Rattle.route.specs.Cursor.{advanceIn}
@@ -18,17 +15,20 @@ use Rattle.route.specs.F32.{f32}
 use Rattle.route.specs.Ordering.{sortBy, sweep}
 use Rattle.route.specs.Scorer.{Scorer, advance, scoreHere}
 use Rattle.route.proofs.Lists.{all-imp}
-use Rattle.term_scorer.specs.Slots.{cursorAt, Held, listAt, partAt, MovedSlot, Sixteen}
+use Rattle.bm25.specs.declared.Scoring.{Scoring}
+use Rattle.bm25.specs.declared.Scoring.the-variants.{Unstepped}
+use Rattle.ordering.specs.Inner.Scorers.{Apart, Left, byDoc, noScorer, Moving}
 use Rattle.ordering.specs.declared.TermScorer.{TermScorer}
 use Rattle.ordering.specs.declared.Scorers.{Scorers}
-use Rattle.ordering.specs.Scorers.{Apart, Left, byDoc, noScorer}
 use Rattle.ordering.proofs.Places.{all-at, all-first, map-append}
 use Rattle.ordering.proofs.Kept.{kept-trans, sort-kept, sweep-kept}
 use Rattle.ordering.proofs.OnRoute.{SameDoc}
 use Rattle.ordering.proofs.Turns.{advanced-on-route}
-use Rattle.ordering.proofs.Moving.{Moving, moved-all, moves, moving}
-use Rattle.block_wand_union.specs.Seats.{Carried, Inside, Stand, scorerAt}
-use Rattle.block_wand_union.specs.Moves.{AdvancedAll}
+use Rattle.ordering.proofs.Moving.{moved-all, moves, moving}
+use Rattle.notefile.specs.Lists.{fullBlocks}
+use Rattle.term_scorer.specs.Inner.Slots.{cursorAt, Held, listAt, partAt, MovedSlot, Sixteen}
+use Rattle.block_wand_union.specs.Inner.Seats.{Carried, Inside, Stand, scorerAt}
+use Rattle.block_wand_union.specs.Inner.Moves.{AdvancedAll}
 use Rattle.block_wand_union.proofs.Seats.{carried-kept, carried-move, carried-refl, carried-trans, same-doc, same-off, scorer-is}
 use Rattle.block_wand_union.proofs.BlockBounds.{sum-snoc}
 

@@ -6,24 +6,24 @@ use native.Mathlib.Omega.{arith}
 use lib.ListN.{drop, getD, length, length-set, length-take, set, take}
 use lib.Seq.{getD-take, take-set-lt}
 use lib.Ieee.{Float}
-use Rattle.bm25.specs.declared.Scoring.{Scoring}
-use Rattle.bm25.specs.declared.Scoring.the-variants.{Unstepped}
 use Rattle.route.specs.Lists.{All}
 use Rattle.route.specs.Cursor.{Cursor, seekIn}
 use Rattle.route.specs.Scorer.{Scorer, docOf}
 use Rattle.route.specs.Union.{Around, missedOn}
 use Rattle.route.proofs.Lists.{all-imp}
-use Rattle.term_scorer.specs.Slots.{cursorAt, Held, listAt, MovedSlot, Sixteen}
+use Rattle.bm25.specs.declared.Scoring.{Scoring}
+use Rattle.bm25.specs.declared.Scoring.the-variants.{Unstepped}
+use Rattle.ordering.specs.Inner.Scorers.{Apart, Left, noScorer, returned}
 use Rattle.ordering.specs.declared.TermScorer.{TermScorer}
 use Rattle.ordering.specs.declared.Scorers.{Scorers}
-use Rattle.ordering.specs.Scorers.{Apart, Left, noScorer, returned}
 use Rattle.ordering.proofs.Places.{all-at}
 use Rattle.ordering.proofs.Kept.{returned-kept}
 use Rattle.ordering.proofs.OnRoute.{SameDoc, missed-on-route}
 use Rattle.ordering.proofs.Moving.{all-same, slots-length}
 use Rattle.ordering.proofs.Aligning.{Aligning, aligning, aligns, all-aligned, misses}
-use Rattle.block_wand_union.specs.Seats.{Carried, Stand, scorerAt}
-use Rattle.block_wand_union.specs.Moves.{OnPivot, PastPivot}
+use Rattle.term_scorer.specs.Inner.Slots.{cursorAt, Held, listAt, MovedSlot, Sixteen}
+use Rattle.block_wand_union.specs.Inner.Seats.{Carried, Stand, scorerAt}
+use Rattle.block_wand_union.specs.Inner.Moves.{OnPivot, PastPivot}
 use Rattle.block_wand_union.proofs.Seats.{carried-kept, carried-move, carried-refl, carried-trans, moved-stand, same-doc, same-off, scorer-is}
 
 module _ (file : List ℕ) (lists : List (List ℕ)) (p : ℕ) (h : Held) (ss : List TermScorer) (n before : ℕ) where

@@ -7,21 +7,21 @@ use native.Mathlib.Omega.{arith}
 use lib.ListN.{getD, length, length-set, length-take, take}
 use lib.Seq.{drop-cons, getD-take, set-getD, take-suc}
 use lib.Ieee.{Float}
-use Rattle.bm25.specs.declared.Scoring.{Scoring}
 use Rattle.route.specs.Lists.{All}
 use Rattle.route.specs.Score.{sumFrom}
 use Rattle.route.specs.Cursor.{Cursor, seekBlockIn}
 use Rattle.route.specs.F32.{f32}
 use Rattle.route.specs.Scorer.{Scorer, blockMaxScore, seekBlock}
-use Rattle.term_scorer.specs.Slots.{cursorAt, held, listAt, Shallowed, Sixteen}
-use Rattle.term_scorer.specs.Weights.{Bounded}
+use Rattle.bm25.specs.declared.Scoring.{Scoring}
+use Rattle.ordering.specs.Inner.Scorers.{Apart, noScorer, Moving}
 use Rattle.ordering.specs.declared.TermScorer.{TermScorer}
-use Rattle.ordering.specs.Scorers.{Apart, noScorer}
 use Rattle.ordering.proofs.Places.{all-at, map-append}
 use Rattle.ordering.proofs.Turns.{replaced-all}
-use Rattle.ordering.proofs.Moving.{Moving, moves-on-doc, moving}
-use Rattle.block_wand_union.specs.Seats.{Seat, Terms, scorerAt, terms}
-use Rattle.block_wand_union.specs.Moves.{BlocksSought}
+use Rattle.ordering.proofs.Moving.{moves-on-doc, moving}
+use Rattle.term_scorer.specs.Inner.Slots.{cursorAt, held, listAt, Shallowed, Sixteen}
+use Rattle.term_scorer.specs.Inner.Weights.{Bounded}
+use Rattle.block_wand_union.specs.Inner.Seats.{Seat, Terms, scorerAt, terms}
+use Rattle.block_wand_union.specs.Inner.Moves.{BlocksSought}
 use Rattle.block_wand_union.proofs.Seats.{bound-here, bounded-seat, other-scorers, other-seat, shallow-scorer}
 
 -- one value more

@@ -7,29 +7,29 @@ use native.Mathlib.Omega.{arith}
 use lib.ListN.{drop, getD, length, length-take, set, take}
 use lib.Seq.{getD-take, take-set-lt, take-take}
 use lib.Ieee.{Float}
-use Rattle.bm25.specs.declared.Scoring.{Scoring}
-use Rattle.notefile.specs.Header.{documents}
 use Rattle.route.specs.Lists.{All}
 use Rattle.route.specs.Postings.{TERMINATED}
 use Rattle.route.specs.Cursor.{seekIn}
 use Rattle.route.specs.Scorer.{Scorer, lastDocInBlock}
 use Rattle.route.specs.Union.{behind, leastLastDoc}
 use Rattle.route.proofs.Places.{last-cap}
-use Rattle.route.proofs.Pivot.{leastLast-le}
-use Rattle.decoded.proofs.AcceptedLists.{list-ok}
-use Rattle.postings.proofs.Readers.{end-is}
-use Rattle.slot_rows.specs.Rows.{cursorIn}
-use Rattle.term_scorer.specs.Slots.{cursorAt, Held, lastAt, listAt, partAt, MovedSlot}
-use Rattle.slot_rows.proofs.Rows.{last-is, last-small}
+use Rattle.route.proofs.Union.Pivot.{leastLast-le}
+use Rattle.bm25.specs.declared.Scoring.{Scoring}
+use Rattle.ordering.specs.Inner.Scorers.{Apart, leastDocOf, moved, noScorer}
+use Rattle.ordering.specs.Inner.Pivots.{placeToSeek}
 use Rattle.ordering.specs.declared.TermScorer.{TermScorer}
-use Rattle.ordering.specs.Scorers.{Apart, leastDocOf, moved, noScorer}
-use Rattle.ordering.specs.Pivots.{placeToSeek}
 use Rattle.ordering.proofs.Places.{all-at, all-take, drop-take-cons, drop-take-nil}
 use Rattle.ordering.proofs.Found.{seek-inside}
 use Rattle.ordering.proofs.Kept.{moved-kept}
 use Rattle.ordering.proofs.Turns.{leastLast, too-low-on-route}
-use Rattle.block_wand_union.specs.Seats.{Carried, Stand, scorerAt}
-use Rattle.block_wand_union.specs.Moves.{LastRead, TooLow, leastLastOf}
+use Rattle.notefile.specs.Header.{documents}
+use Rattle.decoded.proofs.AcceptedLists.{list-ok}
+use Rattle.postings.proofs.Readers.{end-is}
+use Rattle.slot_rows.specs.Inner.Rows.{cursorIn}
+use Rattle.slot_rows.proofs.Rows.{last-is, last-small}
+use Rattle.term_scorer.specs.Inner.Slots.{cursorAt, Held, lastAt, listAt, partAt, MovedSlot}
+use Rattle.block_wand_union.specs.Inner.Seats.{Carried, Stand, scorerAt}
+use Rattle.block_wand_union.specs.Inner.Moves.{LastRead, TooLow, leastLastOf}
 use Rattle.block_wand_union.proofs.Seats.{carried-kept, carried-move, carried-trans, fair, moved-stand, same-doc, same-off, scorer-is}
 
 -- ---- `least_last_doc`'s loop

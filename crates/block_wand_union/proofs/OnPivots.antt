@@ -9,10 +9,6 @@ use lib.ListN.{drop, getD, take, take-append-drop}
 use lib.Seq.{take-take}
 use lib.Ieee.{Float}
 use borrow.Author.Tests.{leb-false, leb-true}
-use Rattle.bm25.specs.declared.Scoring.{Scoring}
-use Rattle.bm25.specs.declared.Scoring.the-variants.{Unstepped}
-use Rattle.notefile.specs.Header.{documents}
-use Rattle.notefile.specs.Lists.{fullBlocks}
 use Rattle.route.specs.Lists.{All}
 use Rattle.route.specs.Score.{sum}
 use Rattle.route.specs.F32.{f32}
@@ -21,25 +17,30 @@ use Rattle.route.specs.Report.{dueAt}
 use Rattle.route.specs.Scorer.{Scorer, docOf, scoreHere, seek}
 use Rattle.route.specs.Union.{goOn}
 use Rattle.route.specs.Route.{quiet}
+use Rattle.route.specs.Inner.Unions.{SafeS}
 use Rattle.route.proofs.Cases.{lt-of-ne, on-test}
 use Rattle.route.proofs.Lists.{all-append, all-imp, all-map}
 use Rattle.route.proofs.Places.{docAt-cap, docAt-lt, start-suc}
-use Rattle.route.proofs.Pivot.{AlignIs, align-is}
-use Rattle.route.proofs.UnionSafe.{SafeS, inside, safe-seek}
-use Rattle.decoded.specs.Lists.{listOf}
-use Rattle.decoded.proofs.AcceptedLists.{list-ok}
-use Rattle.term_scorer.specs.Slots.{cursorAt, Held, listAt, partAt, Sixteen}
+use Rattle.route.proofs.Union.Pivot.{AlignIs, align-is}
+use Rattle.route.proofs.Union.Safe.{inside, safe-seek}
+use Rattle.bm25.specs.declared.Scoring.{Scoring}
+use Rattle.bm25.specs.declared.Scoring.the-variants.{Unstepped}
+use Rattle.ordering.specs.Inner.Scorers.{noScorer}
+use Rattle.ordering.specs.Inner.Pivots.{Found}
 use Rattle.ordering.specs.declared.TermScorer.{TermScorer}
 use Rattle.ordering.specs.declared.Scorers.{Scorers}
-use Rattle.ordering.specs.Scorers.{noScorer}
 use Rattle.ordering.proofs.Places.{all-at, all-drop, all-take, drop-take, drop-take-cons, map-append, map-drop, map-take}
-use Rattle.ordering.proofs.Found.{Found}
 use Rattle.ordering.proofs.UnionTurns.{after-hit, after-miss}
+use Rattle.notefile.specs.Header.{documents}
+use Rattle.notefile.specs.Lists.{fullBlocks}
+use Rattle.decoded.specs.Lists.{listOf}
+use Rattle.decoded.proofs.AcceptedLists.{list-ok}
+use Rattle.term_scorer.specs.Inner.Slots.{cursorAt, Held, listAt, partAt, Sixteen}
+use Rattle.block_wand_union.specs.Inner.Seats.{Inside, Scorable, Stand, WeighedAt, scorerAt}
+use Rattle.block_wand_union.specs.Inner.Moves.{AdvancedAll, AlignedBy, Aligns, OnPivot, PastPivot}
+use Rattle.block_wand_union.specs.Inner.Turns.{AtPivot, Hit, Pivoted, quietStep}
 use Rattle.block_wand_union.specs.declared.align.Alignment.{Alignment}
 use Rattle.block_wand_union.specs.declared.turn.Step.{Step}
-use Rattle.block_wand_union.specs.Seats.{Inside, Scorable, Stand, WeighedAt, scorerAt}
-use Rattle.block_wand_union.specs.Moves.{AdvancedAll, AlignedBy, Aligns, OnPivot, PastPivot}
-use Rattle.block_wand_union.specs.Turns.{AtPivot, Hit, Pivoted, quietStep}
 use Rattle.block_wand_union.proofs.Seats.{carried-trans, same-doc}
 
 module _ {A : Type 0} where

@@ -7,8 +7,6 @@ use Prim.Native.Nat.{ℕ, _≤_, _<_}
 use native.Mathlib.Omega.{arith}
 use lib.ListN.{length, take}
 use lib.Ieee.{Float}
-use Rattle.bm25.specs.declared.Scoring.{Scoring}
-use Rattle.notefile.specs.Header.{documents}
 use Rattle.route.specs.Lists.{All}
 use Rattle.route.specs.Cursor.{Cursor, fresh}
 use Rattle.route.specs.F32.{f32}
@@ -16,29 +14,32 @@ use Rattle.route.specs.Ordering.{sortBy}
 use Rattle.route.specs.Scorer.{Scorer, docOf}
 use Rattle.route.specs.Route.{Route}
 use Rattle.route.specs.Union.{UnionPlace, goOn, pivotRoute, unionTurn}
+use Rattle.route.specs.Inner.Unions.{Safe, SafeS, UnionKept}
 use Rattle.route.proofs.Cases.{lt-of-ne}
 use Rattle.route.proofs.Lists.{all-each, all-imp, all-map, all-perm}
 use Rattle.route.proofs.Ordering.{sort-perm, sort-sorted}
 use Rattle.route.proofs.Cursor.{fresh-is}
-use Rattle.route.proofs.UnionSafe.{Safe, SafeS}
-use Rattle.route.proofs.UnionEnds.{UnionKept, union-nears, unionCost}
-use Rattle.decoded.proofs.AcceptedLists.{list-ok}
-use Rattle.rule.specs.Follows.{Follows}
-use Rattle.rule.specs.declared.Rule.{Rule}
-use Rattle.rule.specs.declared.Threshold.{Threshold}
-use Rattle.reports.specs.Rows.{rowsOf, Reported}
-use Rattle.reports.specs.Runs.{AtRest, Going, Rests}
-use Rattle.reports.proofs.RunLaws.{rests-ended, rests-full, run-begun, run-quiet, run-reports}
-use Rattle.reports.proofs.RowLaws.{count-is, documents-long, scores-long}
-use Rattle.term_scorer.specs.Slots.{Held, cursorAt, listAt, partAt, Sixteen}
+use Rattle.route.proofs.Union.Ends.{union-nears, unionCost}
+use Rattle.bm25.specs.declared.Scoring.{Scoring}
+use Rattle.ordering.specs.Inner.Scorers.{byDoc}
 use Rattle.ordering.specs.declared.TermScorer.{TermScorer}
-use Rattle.ordering.specs.Scorers.{byDoc}
 use Rattle.ordering.proofs.Kept.{kept-all, kept-apart, sort-kept}
 use Rattle.ordering.proofs.OnRoute.{SameDoc, sorted-on-route}
+use Rattle.rule.specs.Inner.Follows.{Follows}
+use Rattle.rule.specs.declared.Rule.{Rule}
+use Rattle.rule.specs.declared.Threshold.{Threshold}
+use Rattle.notefile.specs.Header.{documents}
+use Rattle.reports.specs.Rows.{rowsOf}
+use Rattle.reports.specs.Inner.Rows.{Reported}
+use Rattle.reports.specs.Inner.Runs.{AtRest, Going, Rests}
+use Rattle.reports.proofs.RunLaws.{rests-ended, rests-full, run-begun, run-quiet, run-reports}
+use Rattle.reports.proofs.RowLaws.{count-is, documents-long, scores-long}
+use Rattle.decoded.proofs.AcceptedLists.{list-ok}
+use Rattle.term_scorer.specs.Inner.Slots.{Held, cursorAt, listAt, partAt, Sixteen}
+use Rattle.block_wand_union.specs.Inner.Seats.{Seat, Seated, Stand, Terms, Topped, scorerAt, terms}
+use Rattle.block_wand_union.specs.Inner.Fresh.{Fresh}
+use Rattle.block_wand_union.specs.Inner.Turns.{Turned, turnOf}
 use Rattle.block_wand_union.specs.declared.turn.Step.{Step}
-use Rattle.block_wand_union.specs.Seats.{Seat, Seated, Stand, Terms, Topped, scorerAt, terms}
-use Rattle.block_wand_union.specs.Fresh.{Fresh}
-use Rattle.block_wand_union.specs.Turns.{Turned, turnOf}
 use Rattle.block_wand_union.proofs.Seats.{same-doc}
 use Rattle.block_wand_union.proofs.OnPivots.{all-zip}
 

@@ -6,26 +6,26 @@ use native.Mathlib.Omega.{arith}
 use lib.ListN.{drop, getD, length, length-set, set, take, take-append-drop}
 use lib.Seq.{getD-set-other, getD-set-same, set-getD, take-take}
 use lib.Ieee.{Float, nan}
-use Rattle.bm25.specs.declared.Scoring.{Scoring}
-use Rattle.notefile.specs.declared.part.Part.{Part}
 use Rattle.route.specs.Lists.{All}
 use Rattle.route.specs.Postings.{Postings}
 use Rattle.route.specs.Cursor.{Cursor, blockMax}
 use Rattle.route.specs.F32.{f32}
 use Rattle.route.specs.Scorer.{onCur}
 use Rattle.route.proofs.Lists.{perm-eq}
-use Rattle.postings.specs.Decoded.{docIn, doc-is}
-use Rattle.postings.specs.Reader.{readerAt}
-use Rattle.slot_rows.specs.Rows.{cursorIn, placeRow, PlaceIn, postingsIn}
-use Rattle.term_scorer.specs.Slots.{cursorAt, held, Held, listAt, partAt, MovedSlot, Shallowed, Sixteen, StandingIn}
-use Rattle.term_scorer.specs.Weights.{Bounded, Weighed}
+use Rattle.bm25.specs.declared.Scoring.{Scoring}
+use Rattle.ordering.specs.Inner.Scorers.{Apart, noScorer}
 use Rattle.ordering.specs.declared.TermScorer.{TermScorer}
-use Rattle.ordering.specs.Scorers.{Apart, noScorer}
 use Rattle.ordering.proofs.Kept.{Kept, Off, kept-all, kept-apart, slots-all, slots-apart}
 use Rattle.ordering.proofs.OnRoute.{Fair, SameDoc}
 use Rattle.ordering.proofs.Places.{all-at, all-take}
 use Rattle.ordering.proofs.Turns.{SameOff, replaced-all, replaced-slots}
-use Rattle.block_wand_union.specs.Seats.{Carried, Seat, Stand, Terms, Topped, WeighedAt, scorerAt, terms}
+use Rattle.notefile.specs.declared.part.Part.{Part}
+use Rattle.postings.specs.Inner.Decoded.{docIn, doc-is}
+use Rattle.postings.specs.Inner.Reader.{readerAt}
+use Rattle.slot_rows.specs.Inner.Rows.{cursorIn, placeRow, PlaceIn, postingsIn}
+use Rattle.term_scorer.specs.Inner.Slots.{cursorAt, held, Held, listAt, partAt, MovedSlot, Shallowed, Sixteen, StandingIn}
+use Rattle.term_scorer.specs.Inner.Weights.{Bounded, Weighed}
+use Rattle.block_wand_union.specs.Inner.Seats.{Carried, Seat, Stand, Terms, Topped, WeighedAt, scorerAt, terms}
 
 -- ---- rows
 

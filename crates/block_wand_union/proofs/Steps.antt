@@ -6,27 +6,27 @@ use Prim.Native.Nat.{ℕ, _<_}
 use native.Mathlib.Omega.{arith}
 use lib.ListN.{drop, take}
 use lib.Ieee.{Float}
-use Rattle.notefile.specs.Header.{documents}
 use Rattle.route.specs.Lists.{All}
 use Rattle.route.specs.F32.{f32}
 use Rattle.route.specs.Score.{sum}
 use Rattle.route.specs.Scorer.{Scorer, blockMaxScore, seekBlock}
 use Rattle.route.specs.Union.{goOn}
+use Rattle.route.specs.Inner.Unions.{SafeS, UnionKept}
 use Rattle.route.proofs.Lists.{all-append, all-imp, all-map}
-use Rattle.route.proofs.UnionSafe.{SafeS, safe-shallow}
-use Rattle.route.proofs.UnionEnds.{UnionKept}
-use Rattle.term_scorer.specs.Slots.{Held, Sixteen}
+use Rattle.route.proofs.Union.Safe.{safe-shallow}
+use Rattle.ordering.specs.Inner.Pivots.{pivotOf, Found}
 use Rattle.ordering.specs.declared.TermScorer.{TermScorer}
 use Rattle.ordering.specs.declared.Pivot.the-variants.{At, Nowhere}
-use Rattle.ordering.specs.Pivots.{pivotOf}
 use Rattle.ordering.proofs.Places.{all-drop, all-take, map-drop, map-take}
-use Rattle.ordering.proofs.Found.{Found, pivot-found}
+use Rattle.ordering.proofs.Found.{pivot-found}
 use Rattle.ordering.proofs.Moving.{moved-all}
 use Rattle.ordering.proofs.UnionTurns.{high-turn, low-turn, nowhere-turn}
+use Rattle.notefile.specs.Header.{documents}
+use Rattle.term_scorer.specs.Inner.Slots.{Held, Sixteen}
+use Rattle.block_wand_union.specs.Inner.Seats.{Seat, Seated, Stand, Terms, WeighedAt, scorerAt, terms}
+use Rattle.block_wand_union.specs.Inner.Moves.{BlocksSought, TooLow}
+use Rattle.block_wand_union.specs.Inner.Turns.{AtPivot, Pivoted, Turned, quietStep}
 use Rattle.block_wand_union.specs.declared.turn.Step.{Step}
-use Rattle.block_wand_union.specs.Seats.{Seat, Seated, Stand, Terms, WeighedAt, scorerAt, terms}
-use Rattle.block_wand_union.specs.Moves.{BlocksSought, TooLow}
-use Rattle.block_wand_union.specs.Turns.{AtPivot, Pivoted, Turned, quietStep}
 use Rattle.block_wand_union.proofs.Seats.{fair}
 use Rattle.block_wand_union.proofs.OnPivots.{found-low}
 

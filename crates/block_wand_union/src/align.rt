@@ -1,14 +1,15 @@
 // The scorers before the pivot come onto it, or one goes past it.
-ghost use Prim.Native.Nat.{_≤_, _<_};
-ghost use lib.ListN.{take};
-ghost use Rattle.route.specs.Lists.{All};
-ghost use Rattle.term_scorer.specs.Slots.{held};
-ghost use Rattle.ordering.specs.Scorers.{Apart};
-ghost use Rattle.block_wand_union.specs.Seats.{Stand};
-ghost use Rattle.block_wand_union.specs.Moves.{Aligns};
 use ordering::TermScorer;
 use ordering::put_back;
 use term_scorer::slot;
+ghost use Prim.Native.Nat.{_≤_, _<_};
+ghost use lib.ListN.{take};
+ghost use Rattle.arrays.specs.Lent.{before, after};
+ghost use Rattle.route.specs.Lists.{All};
+ghost use Rattle.ordering.specs.Inner.Scorers.{Apart};
+ghost use Rattle.term_scorer.specs.Inner.Slots.{held};
+ghost use Rattle.block_wand_union.specs.Inner.Seats.{Stand};
+ghost use Rattle.block_wand_union.specs.Inner.Moves.{Aligns};
 
 // The scorers left, and whether all came to the pivot.
 pub struct Alignment {
@@ -30,7 +31,7 @@ pub fn align_scorers(
     freqs: &mut [[u32; 128]; 16],
 ) -> Alignment
     requires { ⌜ («before_pivot_len» < n) × (n ≤ 16) × («pivot_doc» ≤ 2147483647) × Apart (take n scorers) × All (Stand (now file) (now lists) (held (now places) (now docs) (now freqs))) (take n scorers) ⌝ }
-    ensures { λ r. ⌜ Aligns (now (file .entry)) (now (lists .entry)) «pivot_doc» (held (now (places .entry)) (now (docs .entry)) (now (freqs .entry))) (take n scorers) n «before_pivot_len» (held (now (places .exit)) (now (docs .exit)) (now (freqs .exit))) r ⌝ }
+    ensures { λ r. ⌜ Aligns (before file) (before lists) «pivot_doc» (held (before places) (before docs) (before freqs)) (take n scorers) n «before_pivot_len» (held (after places) (after docs) (after freqs)) r ⌝ }
 {
     let mut out = scorers;
     let mut i = before_pivot_len;

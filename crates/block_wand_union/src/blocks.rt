@@ -1,20 +1,21 @@
 // The blocks that may hold the pivot, and the sum of their bounds.
-ghost use mathlib.Core.Path.{_≡_};
-ghost use mathlib.Core.List.{List};
-ghost use Prim.Native.Nat.{_≤_};
-ghost use lib.ListN.{take};
-ghost use Rattle.notefile.specs.Header.{normReader};
-ghost use Rattle.route.specs.Lists.{All};
-ghost use Rattle.term_scorer.specs.Slots.{held, Sixteen};
-ghost use Rattle.ordering.specs.declared.TermScorer.{TermScorer};
-ghost use Rattle.ordering.specs.Scorers.{Apart};
-ghost use Rattle.block_wand_union.specs.Seats.{Seat, terms};
-ghost use Rattle.block_wand_union.specs.Moves.{BlocksSought};
 use bm25::Scoring;
 use fieldnorm::FieldNormReader;
 use ordering::TermScorer;
 use term_scorer::score;
 use term_scorer::slot;
+ghost use mathlib.Core.Path.{_≡_};
+ghost use mathlib.Core.List.{List};
+ghost use Prim.Native.Nat.{_≤_};
+ghost use lib.ListN.{take};
+ghost use Rattle.arrays.specs.Lent.{before, after};
+ghost use Rattle.route.specs.Lists.{All};
+ghost use Rattle.ordering.specs.Inner.Scorers.{Apart};
+ghost use Rattle.ordering.specs.declared.TermScorer.{TermScorer};
+ghost use Rattle.notefile.specs.Header.{normReader};
+ghost use Rattle.term_scorer.specs.Inner.Slots.{held, Sixteen};
+ghost use Rattle.block_wand_union.specs.Inner.Seats.{Seat, terms};
+ghost use Rattle.block_wand_union.specs.Inner.Moves.{BlocksSought};
 
 // Each of the first scorers' skip readers seeks the pivot. Their documents stay, and so does every other scorer, whatever it is.
 pub fn seek_blocks(
@@ -33,7 +34,7 @@ pub fn seek_blocks(
     bounds: &mut [f32; 16],
 ) -> f32
     requires { ⌜ («pivot_len» ≤ 16) × (norms ≡ normReader (now file)) × Sixteen (now bounds) × Apart (take «pivot_len» scorers) × All (Seat (now file) (now lists) (terms scoring (now weights) (now caches) (now bounds)) (held (now places) (now docs) (now freqs))) (take «pivot_len» scorers) ⌝ }
-    ensures { λ r. ⌜ ((l : List TermScorer) → take «pivot_len» l ≡ take «pivot_len» scorers → Apart l → All (Seat (now (file .entry)) (now (lists .entry)) (terms scoring (now (weights .entry)) (now (caches .entry)) (now (bounds .entry))) (held (now (places .entry)) (now (docs .entry)) (now (freqs .entry)))) l → BlocksSought (now (file .entry)) (now (lists .entry)) (terms scoring (now (weights .entry)) (now (caches .entry)) (now (bounds .entry))) (held (now (places .entry)) (now (docs .entry)) (now (freqs .entry))) «pivot_doc» «pivot_len» (held (now (places .exit)) (now (docs .entry)) (now (freqs .entry))) (now (bounds .exit)) r l) ⌝ }
+    ensures { λ r. ⌜ ((l : List TermScorer) → take «pivot_len» l ≡ take «pivot_len» scorers → Apart l → All (Seat (before file) (before lists) (terms scoring (before weights) (before caches) (before bounds)) (held (before places) (before docs) (before freqs))) l → BlocksSought (before file) (before lists) (terms scoring (before weights) (before caches) (before bounds)) (held (before places) (before docs) (before freqs)) «pivot_doc» «pivot_len» (held (after places) (before docs) (before freqs)) (after bounds) r l) ⌝ }
 {
     let mut sum = 0.0f32;
     let mut i = 0usize;

@@ -5,19 +5,6 @@ pub mod low;
 pub mod pivot;
 pub mod turn;
 
-ghost use mathlib.Core.List.{map};
-ghost use mathlib.Core.Path.{_≡_};
-ghost use Prim.Native.Nat.{_≤_};
-ghost use lib.ListN.{take};
-ghost use Rattle.notefile.specs.Header.{normReader};
-ghost use Rattle.route.specs.Lists.{All};
-ghost use Rattle.route.specs.F32.{f32};
-ghost use Rattle.route.specs.Union.{pivotRoute};
-ghost use Rattle.rule.specs.Follows.{Keeps};
-ghost use Rattle.reports.specs.Runs.{Rests};
-ghost use Rattle.term_scorer.specs.Slots.{cursorAt, held};
-ghost use Rattle.block_wand_union.specs.Seats.{Seated, scorerAt, terms};
-ghost use Rattle.block_wand_union.specs.Fresh.{Fresh};
 use crate::turn::turn;
 use bm25::Scoring;
 use fieldnorm::FieldNormReader;
@@ -27,6 +14,20 @@ use reports::report;
 use reports::rows;
 use rule::Rule;
 use rule::Threshold;
+ghost use mathlib.Core.List.{map};
+ghost use mathlib.Core.Path.{_≡_};
+ghost use Prim.Native.Nat.{_≤_};
+ghost use lib.ListN.{take};
+ghost use Rattle.arrays.specs.Lent.{before, after};
+ghost use Rattle.route.specs.Lists.{All};
+ghost use Rattle.route.specs.F32.{f32};
+ghost use Rattle.route.specs.Union.{pivotRoute};
+ghost use Rattle.rule.specs.Inner.Follows.{Keeps};
+ghost use Rattle.notefile.specs.Header.{normReader};
+ghost use Rattle.reports.specs.Inner.Runs.{Rests};
+ghost use Rattle.term_scorer.specs.Inner.Slots.{cursorAt, held};
+ghost use Rattle.block_wand_union.specs.Inner.Seats.{Seated, scorerAt, terms};
+ghost use Rattle.block_wand_union.specs.Inner.Fresh.{Fresh};
 
 // Whether a report found every row full, and how many rows are written.
 pub struct Ended {
@@ -55,7 +56,7 @@ pub fn block_wand(
     scores: &mut [f32],
 ) -> Ended
     requires { ⌜ (n ≤ 16) × (norms ≡ normReader (now file)) × Keeps rule × Seated (now file) (now lists) (terms scoring (now weights) (now caches) (now bounds)) (now «max_scores») (held (now places) (now docs) (now freqs)) (take n scorers) × All (Fresh (now places)) (take n scorers) ⌝ }
-    ensures { λ r. ⌜ Rests (pivotRoute 128 f32 (map (scorerAt (now (file .entry)) (now (lists .entry)) scoring (now (places .entry))) (take n scorers))) rule (now (script .entry)) (now (documents .entry)) (now (scores .entry)) (cursorAt (now (places .exit))) (r .full) (r .count) (now (documents .exit)) (now (scores .exit)) ⌝ }
+    ensures { λ r. ⌜ Rests (pivotRoute 128 f32 (map (scorerAt (before file) (before lists) scoring (before places)) (take n scorers))) rule (before script) (before documents) (before scores) (cursorAt (after places)) (r .full) (r .count) (after documents) (after scores) ⌝ }
 {
     let row_count = rows(documents, scores);
     let mut t = Threshold::new(rule);

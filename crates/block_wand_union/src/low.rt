@@ -1,24 +1,25 @@
 // Past blocks that are too low: one scorer goes on.
-ghost use mathlib.Core.Path.{_≡_};
-ghost use Prim.Native.Nat.{_≤_, _<_};
-ghost use lib.ListN.{take};
-ghost use Rattle.route.specs.Lists.{All};
-ghost use Rattle.route.specs.Union.{behind};
-ghost use Rattle.term_scorer.specs.Slots.{held};
-ghost use Rattle.ordering.specs.Scorers.{Apart};
-ghost use Rattle.block_wand_union.specs.Seats.{Stand};
-ghost use Rattle.block_wand_union.specs.Moves.{leastLastOf, LastRead, TooLow};
 use ordering::TERMINATED;
 use ordering::TermScorer;
 use ordering::least_doc;
 use ordering::restore_ordering;
 use ordering::scorer_to_seek;
 use term_scorer::slot;
+ghost use mathlib.Core.Path.{_≡_};
+ghost use Prim.Native.Nat.{_≤_, _<_};
+ghost use lib.ListN.{take};
+ghost use Rattle.arrays.specs.Lent.{before, after};
+ghost use Rattle.route.specs.Lists.{All};
+ghost use Rattle.route.specs.Union.{behind};
+ghost use Rattle.ordering.specs.Inner.Scorers.{Apart};
+ghost use Rattle.term_scorer.specs.Inner.Slots.{held};
+ghost use Rattle.block_wand_union.specs.Inner.Seats.{Stand};
+ghost use Rattle.block_wand_union.specs.Inner.Moves.{leastLastOf, LastRead, TooLow};
 
 // The least last document of the first scorers' present blocks.
 fn least_last_doc(scorers: [TermScorer; 16], pivot_len: usize, places: &[[usize; 8]; 16]) -> u32
     requires { ⌜ («pivot_len» ≤ 16) × All (LastRead (now places)) (take «pivot_len» scorers) ⌝ }
-    ensures { λ r. ⌜ r ≡ leastLastOf (now (places .entry)) 2147483647 (take «pivot_len» scorers) ⌝ }
+    ensures { λ r. ⌜ r ≡ leastLastOf (before places) 2147483647 (take «pivot_len» scorers) ⌝ }
 {
     let mut least = TERMINATED;
     let mut i = 0usize;
@@ -58,7 +59,7 @@ pub fn block_max_was_too_low_advance_one_scorer(
     freqs: &mut [[u32; 128]; 16],
 ) -> [TermScorer; 16]
     requires { ⌜ (0 < «pivot_len») × («pivot_len» ≤ n) × (n ≤ 16) × Apart (take n scorers) × All (Stand (now file) (now lists) (held (now places) (now docs) (now freqs))) (take n scorers) ⌝ }
-    ensures { λ r. ⌜ TooLow (now (file .entry)) (now (lists .entry)) (now («max_scores» .entry)) (held (now (places .entry)) (now (docs .entry)) (now (freqs .entry))) (take n scorers) «pivot_len» (held (now (places .exit)) (now (docs .exit)) (now (freqs .exit))) (take n r) ⌝ }
+    ensures { λ r. ⌜ TooLow (before file) (before lists) (before «max_scores») (held (before places) (before docs) (before freqs)) (take n scorers) «pivot_len» (held (after places) (after docs) (after freqs)) (take n r) ⌝ }
 {
     let doc_to_seek_after = least_last_doc(scorers, pivot_len, places);
     let target = least_doc(scorers, n, pivot_len, behind(doc_to_seek_after));

@@ -1,17 +1,4 @@
 // The scorers on the pivot: their scores' sum, and all of them to their next documents.
-ghost use mathlib.Core.List.{map};
-ghost use mathlib.Core.Path.{_≡_};
-ghost use Prim.Native.Nat.{_≤_};
-ghost use lib.ListN.{take};
-ghost use Rattle.notefile.specs.Header.{normReader};
-ghost use Rattle.route.specs.Lists.{All};
-ghost use Rattle.route.specs.Score.{sum};
-ghost use Rattle.route.specs.F32.{f32};
-ghost use Rattle.route.specs.Scorer.{scoreHere};
-ghost use Rattle.term_scorer.specs.Slots.{held};
-ghost use Rattle.ordering.specs.Scorers.{Apart};
-ghost use Rattle.block_wand_union.specs.Seats.{Inside, Scorable, Stand, scorerAt};
-ghost use Rattle.block_wand_union.specs.Moves.{AdvancedAll};
 use bm25::Scoring;
 use fieldnorm::FieldNormReader;
 use ordering::Scorers;
@@ -20,6 +7,20 @@ use ordering::sort_by_doc;
 use ordering::sweep;
 use term_scorer::score;
 use term_scorer::slot;
+ghost use mathlib.Core.List.{map};
+ghost use mathlib.Core.Path.{_≡_};
+ghost use Prim.Native.Nat.{_≤_};
+ghost use lib.ListN.{take};
+ghost use Rattle.arrays.specs.Lent.{before, after};
+ghost use Rattle.route.specs.Lists.{All};
+ghost use Rattle.route.specs.Score.{sum};
+ghost use Rattle.route.specs.F32.{f32};
+ghost use Rattle.route.specs.Scorer.{scoreHere};
+ghost use Rattle.ordering.specs.Inner.Scorers.{Apart};
+ghost use Rattle.notefile.specs.Header.{normReader};
+ghost use Rattle.term_scorer.specs.Inner.Slots.{held};
+ghost use Rattle.block_wand_union.specs.Inner.Seats.{Inside, Scorable, Stand, scorerAt};
+ghost use Rattle.block_wand_union.specs.Inner.Moves.{AdvancedAll};
 
 // The first scorers' scores, added in the order that the scorers have now.
 pub fn score_on_pivot(
@@ -36,7 +37,7 @@ pub fn score_on_pivot(
     freqs: &[[u32; 128]; 16],
 ) -> f32
     requires { ⌜ («pivot_len» ≤ 16) × (norms ≡ normReader (now file)) × All (Scorable (now file) (now lists) (now weights) (now caches) (held (now places) (now docs) (now freqs))) (take «pivot_len» scorers) ⌝ }
-    ensures { λ r. ⌜ r ≡ sum f32 (map scoreHere (map (scorerAt (now (file .entry)) (now (lists .entry)) scoring (now (places .entry))) (take «pivot_len» scorers))) ⌝ }
+    ensures { λ r. ⌜ r ≡ sum f32 (map scoreHere (map (scorerAt (before file) (before lists) scoring (before places)) (take «pivot_len» scorers))) ⌝ }
 {
     let mut sum = 0.0f32;
     let mut i = 0usize;
@@ -74,7 +75,7 @@ pub fn advance_all_scorers_on_pivot(
     freqs: &mut [[u32; 128]; 16],
 ) -> Scorers
     requires { ⌜ («pivot_len» ≤ n) × (n ≤ 16) × Apart (take n scorers) × All (Stand (now file) (now lists) (held (now places) (now docs) (now freqs))) (take n scorers) × All (Inside (now file) (now lists) (held (now places) (now docs) (now freqs))) (take «pivot_len» scorers) ⌝ }
-    ensures { λ r. ⌜ AdvancedAll (now (file .entry)) (now (lists .entry)) (held (now (places .entry)) (now (docs .entry)) (now (freqs .entry))) (take n scorers) n «pivot_len» (held (now (places .exit)) (now (docs .exit)) (now (freqs .exit))) r ⌝ }
+    ensures { λ r. ⌜ AdvancedAll (before file) (before lists) (held (before places) (before docs) (before freqs)) (take n scorers) n «pivot_len» (held (after places) (after docs) (after freqs)) r ⌝ }
 {
     let mut out = scorers;
     let mut i = 0usize;

@@ -1,17 +1,4 @@
 // One turn of `block_wand`'s loop.
-ghost use mathlib.Core.List.{map};
-ghost use mathlib.Core.Path.{_≡_};
-ghost use Prim.Native.Nat.{_≤_};
-ghost use lib.ListN.{take};
-ghost use Rattle.notefile.specs.Header.{documents, normReader};
-ghost use Rattle.route.specs.F32.{f32};
-ghost use Rattle.route.specs.Lists.{All};
-ghost use Rattle.route.specs.Union.{goOn};
-ghost use Rattle.route.proofs.UnionEnds.{UnionKept};
-ghost use Rattle.term_scorer.specs.Slots.{held};
-ghost use Rattle.ordering.specs.Scorers.{Apart};
-ghost use Rattle.block_wand_union.specs.Seats.{Inside, Scorable, Seated, Stand, scorerAt, terms};
-ghost use Rattle.block_wand_union.specs.Turns.{AtPivot, Hit, Pivoted, ToPivot, Turned, quietStep};
 use crate::align::align_scorers;
 use crate::blocks::seek_blocks;
 use crate::low::block_max_was_too_low_advance_one_scorer;
@@ -22,6 +9,20 @@ use fieldnorm::FieldNormReader;
 use ordering::Pivot;
 use ordering::TermScorer;
 use ordering::find_pivot_doc;
+ghost use mathlib.Core.List.{map};
+ghost use mathlib.Core.Path.{_≡_};
+ghost use Prim.Native.Nat.{_≤_};
+ghost use lib.ListN.{take};
+ghost use Rattle.arrays.specs.Lent.{before, after};
+ghost use Rattle.route.specs.F32.{f32};
+ghost use Rattle.route.specs.Lists.{All};
+ghost use Rattle.route.specs.Union.{goOn};
+ghost use Rattle.route.specs.Inner.Unions.{UnionKept};
+ghost use Rattle.ordering.specs.Inner.Scorers.{Apart};
+ghost use Rattle.notefile.specs.Header.{documents, normReader};
+ghost use Rattle.term_scorer.specs.Inner.Slots.{held};
+ghost use Rattle.block_wand_union.specs.Inner.Seats.{Inside, Scorable, Seated, Stand, scorerAt, terms};
+ghost use Rattle.block_wand_union.specs.Inner.Turns.{AtPivot, Hit, Pivoted, ToPivot, Turned, quietStep};
 
 // The scorers left and whether the loop goes on, and whether document doc is due with its score.
 pub struct Step {
@@ -65,7 +66,7 @@ fn hit(
     freqs: &mut [[u32; 128]; 16],
 ) -> Step
     requires { ⌜ («pivot_len» ≤ n) × (n ≤ 16) × (norms ≡ normReader (now file)) × Apart (take n scorers) × All (Stand (now file) (now lists) (held (now places) (now docs) (now freqs))) (take n scorers) × All (Scorable (now file) (now lists) (now weights) (now caches) (held (now places) (now docs) (now freqs))) (take «pivot_len» scorers) × All (Inside (now file) (now lists) (held (now places) (now docs) (now freqs))) (take «pivot_len» scorers) ⌝ }
-    ensures { λ r. ⌜ Hit (now (file .entry)) (now (lists .entry)) scoring threshold (held (now (places .entry)) (now (docs .entry)) (now (freqs .entry))) (take n scorers) n «pivot_len» «pivot_doc» (held (now (places .exit)) (now (docs .exit)) (now (freqs .exit))) r ⌝ }
+    ensures { λ r. ⌜ Hit (before file) (before lists) scoring threshold (held (before places) (before docs) (before freqs)) (take n scorers) n «pivot_len» «pivot_doc» (held (after places) (after docs) (after freqs)) r ⌝ }
 {
     let score = score_on_pivot(
         file,
@@ -120,7 +121,7 @@ fn on_pivot(
     freqs: &mut [[u32; 128]; 16],
 ) -> Step
     requires { ⌜ (n ≤ 16) × (norms ≡ normReader (now file)) × Apart (take n scorers) × AtPivot (now file) (now lists) scoring (now weights) (now caches) (held (now places) (now docs) (now freqs)) (take n scorers) «before_pivot_len» «pivot_len» «pivot_doc» ⌝ }
-    ensures { λ r. ⌜ Pivoted (now (file .entry)) (now (lists .entry)) scoring threshold (held (now (places .entry)) (now (docs .entry)) (now (freqs .entry))) (take n scorers) n «before_pivot_len» «pivot_len» «pivot_doc» (held (now (places .exit)) (now (docs .exit)) (now (freqs .exit))) r ⌝ }
+    ensures { λ r. ⌜ Pivoted (before file) (before lists) scoring threshold (held (before places) (before docs) (before freqs)) (take n scorers) n «before_pivot_len» «pivot_len» «pivot_doc» (held (after places) (after docs) (after freqs)) r ⌝ }
 {
     let alignment = align_scorers(
         file,
@@ -176,7 +177,7 @@ fn to_pivot(
     bounds: &mut [f32; 16],
 ) -> Step
     requires { ⌜ (n ≤ 16) × (norms ≡ normReader (now file)) × ToPivot (now file) (now lists) (terms scoring (now weights) (now caches) (now bounds)) (now «max_scores») threshold (held (now places) (now docs) (now freqs)) (take n scorers) «before_pivot_len» «pivot_len» «pivot_doc» ⌝ }
-    ensures { λ r. ⌜ Turned (now (file .entry)) (now (lists .entry)) (terms scoring (now (weights .entry)) (now (caches .entry)) (now (bounds .entry))) (now («max_scores» .entry)) threshold (held (now (places .entry)) (now (docs .entry)) (now (freqs .entry))) (take n scorers) n (held (now (places .exit)) (now (docs .exit)) (now (freqs .exit))) (now (bounds .exit)) r ⌝ }
+    ensures { λ r. ⌜ Turned (before file) (before lists) (terms scoring (before weights) (before caches) (before bounds)) (before «max_scores») threshold (held (before places) (before docs) (before freqs)) (take n scorers) n (held (after places) (after docs) (after freqs)) (after bounds) r ⌝ }
 {
     let upper_bound = seek_blocks(
         file,
@@ -244,7 +245,7 @@ pub fn turn(
     bounds: &mut [f32; 16],
 ) -> Step
     requires { ⌜ (n ≤ 16) × (norms ≡ normReader (now file)) × Seated (now file) (now lists) (terms scoring (now weights) (now caches) (now bounds)) (now «max_scores») (held (now places) (now docs) (now freqs)) (take n scorers) × UnionKept 128 (documents (now file)) f32 (goOn (map (scorerAt (now file) (now lists) scoring (now places)) (take n scorers))) ⌝ }
-    ensures { λ r. ⌜ Turned (now (file .entry)) (now (lists .entry)) (terms scoring (now (weights .entry)) (now (caches .entry)) (now (bounds .entry))) (now («max_scores» .entry)) threshold (held (now (places .entry)) (now (docs .entry)) (now (freqs .entry))) (take n scorers) n (held (now (places .exit)) (now (docs .exit)) (now (freqs .exit))) (now (bounds .exit)) r ⌝ }
+    ensures { λ r. ⌜ Turned (before file) (before lists) (terms scoring (before weights) (before caches) (before bounds)) (before «max_scores») threshold (held (before places) (before docs) (before freqs)) (take n scorers) n (held (after places) (after docs) (after freqs)) (after bounds) r ⌝ }
 {
     let pivot = find_pivot_doc(scorers, n, max_scores, threshold);
     match pivot {

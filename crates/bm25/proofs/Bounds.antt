@@ -10,17 +10,17 @@ use lib.Ieee.{Float, nan, inf, fin, binary32, round, ofInt, add, sub, mul, div, 
 use lib.Ieee.Fits.{and-l}
 use lib.Ieee.Positive.{above-of-le}
 use Rattle.floats.specs.Whole.{wholeF32, f32Of}
-use Rattle.fieldnorm.specs.Code.{fieldnorm}
-use Rattle.fieldnorm.proofs.Rising.{fieldnorm-top}
 use Rattle.floats.specs.Step.{within}
 use Rattle.floats.proofs.Order.{le→cross}
 use Rattle.floats.proofs.Stepped.{step-within}
 use Rattle.floats.proofs.Range.{add-comm-high, High, Low, Exact, high-round, mul-high, mul-low, add-high, add-low, div-high, div-unit, le-add, high-not-inf, high-within, within-high}
+use Rattle.fieldnorm.specs.Code.{fieldnorm}
+use Rattle.fieldnorm.proofs.Rising.{fieldnorm-top}
 use Rattle.bm25.specs.Scoring.{scored}
-use Rattle.bm25.specs.declared.Scoring.{Scoring}
-use Rattle.bm25.specs.declared.Scoring.the-variants.{Unstepped, Stepped}
 use Rattle.bm25.specs.Score.{K1, B, one, normOf, scoreAt, scoreOf}
 use Rattle.bm25.specs.Limits.{averageOk, weightOk}
+use Rattle.bm25.specs.declared.Scoring.{Scoring}
+use Rattle.bm25.specs.declared.Scoring.the-variants.{Unstepped, Stepped}
 
 -- a whole number below 2 ^ 32 as a float
 whole-under : (n N : ℕ) → n ≤ N → Exact N 1 → High (wholeF32 n) N 1

@@ -11,12 +11,12 @@ use lib.Ieee.{Float, nan, inf, fin, binary32, up, down, round, ofBits, le}
 use lib.Ieee.Fits.{and-r, and-i, down-pos}
 use lib.Ieee.Exact.{HasValue}
 use Rattle.floats.specs.Step.{within}
+use Rattle.floats.specs.Whole.{f32Of}
 use Rattle.floats.proofs.Tests.{same-test}
 use Rattle.floats.proofs.Pattern.{below-inf}
 use Rattle.floats.proofs.PatternOrder.{mag, mag-lt, pattern-value, pattern-le, within-bits, within-pattern}
 use Rattle.floats.proofs.Range.{Low}
 use Rattle.floats.proofs.Order.{le→cross}
-use Rattle.floats.specs.Whole.{f32Of}
 use Rattle.bm25.specs.Limits.{averageOk, weightOk}
 use Rattle.bm25.proofs.Bounds.{average-low}
 

@@ -7,8 +7,9 @@ use Rattle.floats.specs.Step.{within}
 use Rattle.bm25.specs.Score.{scoreOf}
 use Rattle.bm25.specs.Scoring.{scored}
 use Rattle.bm25.specs.Limits.{averageOk, weightOk}
-use Rattle.bm25.specs.Weight.{WeightOf, scoreIn}
-use Rattle.bm25.specs.Bound.{maxTf, maxScore, blockMaxScore}
+use Rattle.bm25.specs.Bound.{maxTf}
+use Rattle.bm25.specs.Inner.Weight.{WeightOf, scoreIn}
+use Rattle.bm25.specs.Inner.Bound.{maxScore, blockMaxScore}
 use Rattle.bm25.specs.declared.Bm25Weight.{Bm25Weight}
 use Rattle.bm25.specs.declared.Scoring.{Scoring}
 use Rattle.bm25.proofs.Bounds.{score-within, scored-within}

@@ -2,5 +2,5 @@
 pub mod Score
 pub mod Scoring
 pub mod Limits
-pub mod Weight
 pub mod Bound
+pub mod Inner

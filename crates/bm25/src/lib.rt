@@ -1,15 +1,17 @@
 // BM25 over ready weights: norms, scores and bounds, unstepped or stepped.
 mod limits;
 
+pub use limits::average_ok;
+pub use limits::weight_ok;
 ghost use mathlib.Core.Path.{_≡_};
 ghost use lib.ListN.{getD};
 ghost use lib.Ieee.{nan};
+ghost use Rattle.arrays.specs.Lent.{before};
 ghost use Rattle.bm25.specs.Score.{normOf, scoreAt};
-ghost use Rattle.bm25.specs.Weight.{NormsOf, WeightOf, scoreIn};
 ghost use Rattle.bm25.specs.Scoring.{scored};
-ghost use Rattle.bm25.specs.Bound.{maxTf, maxScore, blockMaxScore};
-pub use limits::average_ok;
-pub use limits::weight_ok;
+ghost use Rattle.bm25.specs.Bound.{maxTf};
+ghost use Rattle.bm25.specs.Inner.Weight.{NormsOf, WeightOf, scoreIn};
+ghost use Rattle.bm25.specs.Inner.Bound.{maxScore, blockMaxScore};
 
 const K1: f32 = 1.2;
 
@@ -90,7 +92,7 @@ pub fn score_by(
     fieldnorm_id: u8,
     term_freq: u32,
 ) -> f32
-    ensures { λ r. ⌜ r ≡ scored scoring (scoreAt weight (getD (now (cache .entry)) «fieldnorm_id» nan) «term_freq») ⌝ }
+    ensures { λ r. ⌜ r ≡ scored scoring (scoreAt weight (getD (before cache) «fieldnorm_id» nan) «term_freq») ⌝ }
 {
     let i = fieldnorm_id as usize;
     in_scoring(scoring, score_at(weight, cache[i], term_freq))

@@ -7,7 +7,7 @@ use Rattle.floats.specs.Step.{stepDown}
 use Rattle.fieldnorm.specs.declared.FieldNormReader.{FieldNormReader}
 use Rattle.bm25.specs.Score.{scoreAt}
 use Rattle.bm25.specs.declared.Scoring.the-variants.{Unstepped as unstepped, Stepped as stepped}
-use Rattle.bm25_block.specs.Block.{Gathered, Whole, Weighed, Stepped, Scored}
+use Rattle.bm25_block.specs.Inner.Block.{Gathered, Whole, Weighed, Stepped, Scored}
 
 module _ (reader : FieldNormReader) (file : List ℕ) (cache : List Float) (weight : Float) (docs freqs : List ℕ) (norms tfs xs : List Float)
     (g : Gathered reader file cache docs norms) (h : Whole freqs tfs) (k : Weighed weight norms tfs xs) where

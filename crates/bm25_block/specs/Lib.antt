@@ -1,2 +1,2 @@
 -- What the contracts of `bm25_block` cite.
-pub mod Block
+pub mod Inner

@@ -2,12 +2,13 @@
 use bm25::Scoring;
 use fieldnorm::FieldNormReader;
 ghost use mathlib.Core.Path.{_≡_};
-ghost use Prim.Native.Nat.{ℕ, _<_, _≤_};
 ghost use mathlib.Core.Bool.{true};
+ghost use Prim.Native.Nat.{ℕ, _<_, _≤_};
 ghost use lib.ListN.{getD, length};
 ghost use lib.Ieee.{nan};
+ghost use Rattle.arrays.specs.Lent.{before, after};
 ghost use Rattle.floats.specs.Whole.{wholeF32};
-ghost use Rattle.bm25_block.specs.Block.{Gathered, Whole, Weighed, Stepped, Scored, allExact};
+ghost use Rattle.bm25_block.specs.Inner.Block.{Gathered, Whole, Weighed, Stepped, Scored, allExact};
 
 // A code as a place in the cache.
 fn place(id: u8) -> usize
@@ -24,7 +25,7 @@ fn read_norms(
     docs: &[u32; 128],
     norms: &mut [f32; 128],
 )
-    ensures { λ _. ⌜ Gathered reader (now (file .entry)) (now (cache .entry)) (now (docs .entry)) (now (norms .exit)) ⌝ }
+    ensures { λ _. ⌜ Gathered reader (before file) (before cache) (before docs) (after norms) ⌝ }
 {
     let n = (&norms[..]).len();
     let mut i = 0usize;
@@ -37,7 +38,7 @@ fn read_norms(
 
 // Whether every frequency is a whole number that f32 holds.
 fn all_exact(term_freqs: &[u32; 128]) -> bool
-    ensures { λ r. ⌜ r ≡ allExact (now («term_freqs» .entry)) ⌝ }
+    ensures { λ r. ⌜ r ≡ allExact (before «term_freqs») ⌝ }
 {
     let mut ok = true;
     let mut i = 0usize;
@@ -60,7 +61,7 @@ fn exact(n: u32) -> f32
 
 fn exact_tfs(term_freqs: &[u32; 128], tfs: &mut [f32; 128])
     requires { ⌜ allExact (now «term_freqs») ≡ true ⌝ }
-    ensures { λ _. ⌜ Whole (now («term_freqs» .entry)) (now (tfs .exit)) ⌝ }
+    ensures { λ _. ⌜ Whole (before «term_freqs») (after tfs) ⌝ }
 {
     let n = (&tfs[..]).len();
     let mut i = 0usize;
@@ -71,7 +72,7 @@ fn exact_tfs(term_freqs: &[u32; 128], tfs: &mut [f32; 128])
 }
 
 fn rounded_tfs(term_freqs: &[u32; 128], tfs: &mut [f32; 128])
-    ensures { λ _. ⌜ Whole (now («term_freqs» .entry)) (now (tfs .exit)) ⌝ }
+    ensures { λ _. ⌜ Whole (before «term_freqs») (after tfs) ⌝ }
 {
     let n = (&tfs[..]).len();
     let mut i = 0usize;
@@ -83,7 +84,7 @@ fn rounded_tfs(term_freqs: &[u32; 128], tfs: &mut [f32; 128])
 
 // Frequencies as f32: nearly every block has none above 2^24, and then the loop has no branch.
 fn to_tfs(term_freqs: &[u32; 128], tfs: &mut [f32; 128])
-    ensures { λ _. ⌜ Whole (now («term_freqs» .entry)) (now (tfs .exit)) ⌝ }
+    ensures { λ _. ⌜ Whole (before «term_freqs») (after tfs) ⌝ }
 {
     if all_exact(term_freqs) {
         exact_tfs(term_freqs, tfs);
@@ -94,7 +95,7 @@ fn to_tfs(term_freqs: &[u32; 128], tfs: &mut [f32; 128])
 
 // Scores in place of frequencies.
 fn weigh(weight: f32, norms: &[f32; 128], scores: &mut [f32; 128])
-    ensures { λ _. ⌜ Weighed weight (now (norms .entry)) (now (scores .entry)) (now (scores .exit)) ⌝ }
+    ensures { λ _. ⌜ Weighed weight (before norms) (before scores) (after scores) ⌝ }
 {
     let n = (&scores[..]).len();
     let mut i = 0usize;
@@ -106,7 +107,7 @@ fn weigh(weight: f32, norms: &[f32; 128], scores: &mut [f32; 128])
 }
 
 fn step_all(scores: &mut [f32; 128])
-    ensures { λ _. ⌜ Stepped (now (scores .entry)) (now (scores .exit)) ⌝ }
+    ensures { λ _. ⌜ Stepped (before scores) (after scores) ⌝ }
 {
     let n = (&scores[..]).len();
     let mut i = 0usize;
@@ -127,7 +128,7 @@ pub fn score_block(
     term_freqs: &[u32; 128],
     scores: &mut [f32; 128],
 )
-    ensures { λ _. ⌜ Scored reader (now (file .entry)) (now (cache .entry)) weight scoring (now (docs .entry)) (now («term_freqs» .entry)) (now (scores .exit)) ⌝ }
+    ensures { λ _. ⌜ Scored reader (before file) (before cache) weight scoring (before docs) (before «term_freqs») (after scores) ⌝ }
 {
     let mut norms = [0.0f32; 128];
     read_norms(file, reader, cache, docs, &mut norms);

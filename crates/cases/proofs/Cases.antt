@@ -1,33 +1,34 @@
 -- Every case of the table holds: each request's answer is worked out by its definition, and the promises carry it to its runs.
 use mathlib.Core.Path.{_≡_, refl, ap, _∙_, subst}
 use mathlib.Core.List.{List, [], _∷_}
+use mathlib.Core.Bool.{Bool, true, _&&_}
 use Prim.Native.Nat.{ℕ, zero, suc, _<_}
 use lib.Dec.{lit<, ltb}
-use mathlib.Core.Bool.{Bool, true, _&&_}
-use borrow.Author.Tests.{ltb-true}
-use Rattle.arrays.proofs.Every.{first-true, second-true}
 use lib.ListN.{set}
 use lib.Ieee.{Float, add, mul, div, sub, round, ofInt, le, lt, ofBits}
+use borrow.Author.Tests.{ltb-true}
+use Rattle.arrays.proofs.Every.{first-true, second-true}
+use Rattle.floats.specs.Step.{gridF, stepDown}
+use Rattle.floats.proofs.Worked.{case-l}
 use Rattle.codec.specs.Bits.{bitsAt}
 use Rattle.codec.specs.VInts.{vintPlace, vintValue, vintWhole}
 use Rattle.codec.specs.VInt.{vintAt}
-use Rattle.compression.specs.Documents.{docAt}
 use Rattle.fieldnorm.specs.Code.{fieldnorm}
-use Rattle.floats.specs.Step.{gridF, stepDown}
-use Rattle.floats.proofs.Worked.{case-l}
+use Rattle.route.specs.Lists.{All}
+use Rattle.route.specs.Rule as rules
+use Rattle.compression.specs.Documents.{docAt}
 use Rattle.bm25.specs.Score.{scoreOf}
 use Rattle.bm25.specs.Limits.{averageOk}
 use Rattle.bm25.specs.declared.Scoring.the-variants.{Stepped}
+use Rattle.rule.specs.declared.Rule.{Rule}
 use Rattle.notefile.specs.Header.{normCodeOf}
 use Rattle.notefile.specs.Parts.{partOf}
 use Rattle.notefile.specs.Lists.{blockScore, listBound}
 use Rattle.notefile.specs.Conditions.{headerRight, averageRight, lengthRight, entryRight, skipsRight, postingsRight, blockDocsRight, blockFreqsRight, boundsRight}
 use Rattle.notefile.specs.Refusal.{fileRefusal}
-use Rattle.notefile.proofs.Worked.{small}
-use Rattle.route.specs.Lists.{All}
-use Rattle.route.specs.Rule as rules
-use Rattle.decoded.specs.Lists.{Bytes, listOf, queried}
-use Rattle.rule.specs.declared.Rule.{Rule}
+use Rattle.notefile.specs.Small.{small}
+use Rattle.decoded.specs.Lists.{listOf, queried}
+use Rattle.decoded.specs.Inner.Bytes.{Bytes}
 use Rattle.request.specs.Request.{refusalOf}
 use Rattle.request.specs.declared.Mode.{Mode}
 use Rattle.ranking.specs.Answers.{answer, plainList, Answered}

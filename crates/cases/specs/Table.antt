@@ -11,13 +11,13 @@ use Rattle.floats.specs.Step.{gridF}
 use Rattle.floats.specs.Whole.{wholeF32}
 use Rattle.codec.specs.VInt.{vintAt}
 use Rattle.codec.specs.declared.vint.VInt.the-variants.{Value}
-use Rattle.bm25.specs.Bound.{maxTf}
-use Rattle.bm25.specs.declared.Scoring.the-variants.{Stepped}
-use Rattle.notefile.proofs.Worked.{small}
 use Rattle.route.specs.Report.{Report}
 use Rattle.route.specs.Rule as rules
+use Rattle.bm25.specs.Bound.{maxTf}
+use Rattle.bm25.specs.declared.Scoring.the-variants.{Stepped}
 use Rattle.rule.specs.declared.Rule.{Rule}
 use Rattle.rule.specs.declared.Rule.the-variants.{Script, BestK}
+use Rattle.notefile.specs.Small.{small}
 use Rattle.reports.specs.Rows.{rowsOf}
 use Rattle.request.specs.declared.Mode.{Mode}
 use Rattle.request.specs.declared.Mode.the-variants.{Union, Intersection}

@@ -2,3 +2,4 @@
 pub mod BitFields
 pub mod OneVInt
 pub mod VIntRow
+pub mod Worked

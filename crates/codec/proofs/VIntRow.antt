@@ -13,11 +13,12 @@ use Rattle.arrays.proofs.Order.{lt-or-ge}
 use Rattle.arrays.proofs.Every.{fails, one-more, stopped}
 use Rattle.arrays.proofs.Filling.{Filling, begun as filling, goes-on}
 use Rattle.codec.specs.VInt.{vintAt, whole, valueOf, nextOf}
-use Rattle.codec.specs.VInts.{vintPlace, vintValue, vintWhole, endOr, VIntsRead}
+use Rattle.codec.specs.VInts.{vintPlace, vintValue, vintWhole}
+use Rattle.codec.specs.Inner.VIntRows.{endOr, VIntsRead}
 use Rattle.codec.specs.declared.vint.VInt.{VInt}
 use Rattle.codec.specs.declared.vint.VInts.the-variants.{End, Broken}
-use Rattle.codec.proofs.OneVInt.{whole-fits}
 use Rattle.codec.specs.declared.vint.VInt.the-variants as vint
+use Rattle.codec.proofs.OneVInt.{whole-fits}
 
 -- each value fits 32 bits
 pub value-fits : (s : List ℕ) (e p k : ℕ) → vintValue s e p k < 4294967296

@@ -1,6 +1,5 @@
 -- Bit fields, most significant bit first, and little-endian words.
-use mathlib.Core.Path.{_≡_, refl}
-use mathlib.Core.List.{List, [], _∷_}
+use mathlib.Core.List.{List}
 use Prim.Native.Nat.{ℕ, zero, suc, _+_, _-_, _*_, _/_, _%_, _^_}
 use lib.ListN.{getD}
 
@@ -16,8 +15,3 @@ bitsAt s p (suc w) = bitsAt s p w * 2 + bitAt s (p + w)
 -- a u32 that stands little-endian at byte p
 unfoldable pub wordAt : List ℕ → ℕ → ℕ
 wordAt s p = getD s p 0 + 256 * getD s (p + 1) 0 + 65536 * getD s (p + 2) 0 + 16777216 * getD s (p + 3) 0
-
--- the first two bytes of the small file: version 1, kind 1, 2 lists
-pub small-header : (bitsAt (0x18 ∷ 0x80 ∷ []) 0 4 ≡ 1) × (bitsAt (0x18 ∷ 0x80 ∷ []) 4 1 ≡ 1) × (bitsAt (0x18 ∷ 0x80 ∷ []) 5 5 ≡ 2)
-unfolding bitsAt
-small-header = (refl, refl, refl)

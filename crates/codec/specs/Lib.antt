@@ -2,3 +2,4 @@
 pub mod Bits
 pub mod VInt
 pub mod VInts
+pub mod Inner

@@ -1,7 +1,6 @@
 -- A VInt, as a tail has it: each byte carries seven bits, lowest first, and the last is marked by its high bit. Refusal 6 of the table allows 5
 -- bytes, and values of 32 bits.
-use mathlib.Core.Path.{_≡_, refl}
-use mathlib.Core.List.{List, [], _∷_}
+use mathlib.Core.List.{List}
 use mathlib.Core.Bool.{Bool, true, false}
 use Prim.Native.Nat.{ℕ, zero, suc, _+_, _-_, _*_}
 use lib.Dec.{ltb}
@@ -35,11 +34,6 @@ capped Broken = Broken
 unfoldable pub vintAt : List ℕ → ℕ → ℕ → VInt
 unfolding vintFrom
 vintAt s e p = capped (vintFrom 5 s e p)
-
--- case (k): 00 81 is 128
-pub case-k : vintAt (0x00 ∷ 0x81 ∷ []) 2 0 ≡ Value 128 2
-unfolding vintAt
-case-k = refl
 
 -- whether it is whole; its value; the place after it, or its own if it is broken
 abbrev pub whole : VInt → Bool

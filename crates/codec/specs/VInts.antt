@@ -1,14 +1,8 @@
 -- VInts one after another, as a tail has them.
-use mathlib.Core.Path.{_≡_}
 use mathlib.Core.List.{List}
-use mathlib.Core.Bool.{Bool, true, false}
-use mathlib.Core.Logic.{_⊎_}
-use Prim.Native.Nat.{ℕ, zero, suc, _≤_, _<_}
-use lib.ListN.{length, getD}
-use Rattle.arrays.specs.Every.{every}
+use mathlib.Core.Bool.{Bool}
+use Prim.Native.Nat.{ℕ, zero, suc}
 use Rattle.codec.specs.VInt.{vintAt, whole, valueOf, nextOf}
-use Rattle.codec.specs.declared.vint.VInts.{VInts}
-use Rattle.codec.specs.declared.vint.VInts.the-variants.{End, Broken}
 
 module _ (s : List ℕ) (e p : ℕ) where
   -- the place of the k-th VInt of those that start at p, below e
@@ -23,15 +17,3 @@ module _ (s : List ℕ) (e p : ℕ) where
   unfoldable pub vintWhole : ℕ → Bool
   unfolding vintPlace
   vintWhole k = whole (vintAt s e (vintPlace k))
-
--- a row of whole VInts ends at a place
-abbrev pub endOr : Bool → ℕ → VInts
-endOr true p = End p
-endOr false p = Broken
-
--- what reading n of them into a block leaves: the values up to the first broken one, and the other places as they were
-pub record VIntsRead (s : List ℕ) (e p n : ℕ) (before : List ℕ) (r : VInts) (out : List ℕ) : Type 0 where
-  pub same : r ≡ endOr (every n (vintWhole s e p)) (vintPlace s e p n)
-  pub long : length out ≡ 128
-  pub values : (i : ℕ) → i < n → every (suc i) (vintWhole s e p) ≡ true → getD out i 0 ≡ vintValue s e p i
-  pub kept : (i : ℕ) → (n ≤ i) ⊎ (every (suc i) (vintWhole s e p) ≡ false) → getD out i 0 ≡ getD before i 0

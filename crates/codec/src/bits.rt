@@ -2,6 +2,7 @@
 ghost use mathlib.Core.Path.{_≡_};
 ghost use Prim.Native.Nat.{_+_, _*_, _≤_, _<_};
 ghost use lib.ListN.{length};
+ghost use Rattle.arrays.specs.Lent.{before};
 ghost use Rattle.codec.specs.Bits.{bitsAt, wordAt};
 
 // A byte as a wider number.
@@ -14,7 +15,7 @@ pub fn wide(b: u8) -> u32
 // The number in n whole bytes, most significant first.
 pub fn read_be(s: &[u8], at: usize, n: usize) -> u64
     requires { ⌜ (n ≤ 8) × (at + n ≤ length (now s)) ⌝ }
-    ensures { λ r. ⌜ r ≡ bitsAt (now (s .entry)) (8 * at) (8 * n) ⌝ }
+    ensures { λ r. ⌜ r ≡ bitsAt (before s) (8 * at) (8 * n) ⌝ }
 {
     let mut v: u64 = 0;
     let mut i: usize = 0;
@@ -28,7 +29,7 @@ pub fn read_be(s: &[u8], at: usize, n: usize) -> u64
 // A little-endian u32.
 pub fn read_u32(s: &[u8], at: usize) -> u32
     requires { ⌜ at + 4 ≤ length (now s) ⌝ }
-    ensures { λ r. ⌜ (r ≡ wordAt (now (s .entry)) at) × (r < 4294967296) ⌝ }
+    ensures { λ r. ⌜ (r ≡ wordAt (before s) at) × (r < 4294967296) ⌝ }
 {
     let a = wide(s[at]);
     let b = wide(s[at + 1]);

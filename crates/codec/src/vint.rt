@@ -1,10 +1,11 @@
 // VInts: seven bits a byte, low first, the high bit on the last byte.
+use crate::bits::wide;
 ghost use mathlib.Core.Path.{_≡_};
 ghost use Prim.Native.Nat.{_≤_};
 ghost use lib.ListN.{length};
+ghost use Rattle.arrays.specs.Lent.{before, after};
 ghost use Rattle.codec.specs.VInt.{vintAt};
-ghost use Rattle.codec.specs.VInts.{VIntsRead};
-use crate::bits::wide;
+ghost use Rattle.codec.specs.Inner.VIntRows.{VIntsRead};
 
 // What stands at a place: a whole VInt, its value and the place after it; or none.
 pub enum VInt {
@@ -21,7 +22,7 @@ pub enum VInts {
 // The VInt at a place of the bytes below end.
 pub fn read_vint(s: &[u8], end: usize, at: usize) -> VInt
     requires { ⌜ end ≤ length (now s) ⌝ }
-    ensures { λ r. ⌜ r ≡ vintAt (now (s .entry)) end at ⌝ }
+    ensures { λ r. ⌜ r ≡ vintAt (before s) end at ⌝ }
 {
     let mut v: u64 = 0;
     let mut shift: u32 = 0;
@@ -48,7 +49,7 @@ pub fn read_vint(s: &[u8], end: usize, at: usize) -> VInt
 // The values of n VInts one after another, into the first n places.
 pub fn read_vints(s: &[u8], end: usize, at: usize, n: usize, out: &mut [u32; 128]) -> VInts
     requires { ⌜ (end ≤ length (now s)) × (n ≤ 128) × (length (now out) ≡ 128) ⌝ }
-    ensures { λ r. ⌜ VIntsRead (now (s .entry)) end at n (now (out .entry)) r (now (out .exit)) ⌝ }
+    ensures { λ r. ⌜ VIntsRead (before s) end at n (before out) r (after out) ⌝ }
 {
     let mut p = at;
     let mut i: usize = 0;

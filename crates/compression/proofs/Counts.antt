@@ -14,7 +14,8 @@ use Rattle.arrays.proofs.Order.{lt-or-ge}
 use Rattle.arrays.proofs.Every.{second-true, stays, lowered, each}
 use Rattle.arrays.proofs.Filling.{Filling, begun as filling, goes-on}
 use Rattle.compression.specs.Documents.{gapOf}
-use Rattle.compression.specs.Frequencies.{freqRight, Counted}
+use Rattle.compression.specs.Frequencies.{freqRight}
+use Rattle.compression.specs.Inner.Counts.{Counted}
 use Rattle.compression.proofs.Differences.{gap-small}
 
 pub zero-wrong : {f : ℕ} → f ≡ 0 → false ≡ freqRight f

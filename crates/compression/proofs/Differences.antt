@@ -11,11 +11,12 @@ use lib.Dec.{ltb}
 use lib.ListN.{length, getD, set}
 use borrow.Author.Tests.{lt-ltb, ltb-true}
 use Rattle.arrays.specs.Every.{every}
-use Rattle.bitpacker.specs.declared.Four.{Four}
 use Rattle.arrays.proofs.Order.{climbs}
 use Rattle.arrays.proofs.Every.{and-true, first-true, second-true, same-test, each, all}
 use Rattle.arrays.proofs.Filling.{Filling, begun as filling, goes-on4}
-use Rattle.compression.specs.Documents.{gapOf, startOf, baseAt, docAt, aboveLast, rises, docsRight, FourSums, Summed}
+use Rattle.bitpacker.specs.declared.Four.{Four}
+use Rattle.compression.specs.Documents.{gapOf, startOf, baseAt, docAt, aboveLast, rises, docsRight}
+use Rattle.compression.specs.Inner.Sums.{FourSums, Summed}
 
 -- a sum in 32 bits of sums in 32 bits
 pub wrapped : {x y r : ℕ} (a b : ℕ) → x ≡ a % 4294967296 → y ≡ b % 4294967296 → r ≡ (x + y) % 4294967296 → r ≡ (a + b) % 4294967296

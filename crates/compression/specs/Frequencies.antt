@@ -1,24 +1,8 @@
 -- Frequencies.
-use mathlib.Core.Path.{_≡_, refl}
-use mathlib.Core.List.{List}
-use mathlib.Core.Bool.{Bool, true, false, _&&_}
-use Prim.Native.Nat.{ℕ, _+_, _%_, _^_, _≤_, _<_}
+use mathlib.Core.Bool.{Bool, _&&_}
+use Prim.Native.Nat.{ℕ}
 use lib.Dec.{ltb, leb}
-use lib.ListN.{length, getD}
-use Rattle.arrays.specs.Every.{every}
-use Rattle.compression.specs.Documents.{gapOf}
 
 -- refusal 8 of the table: whether a frequency does not meet it
 abbrev pub freqRight : ℕ → Bool
 freqRight f = ltb 0 f && leb f 2013265944
-
-pub range-ends : (freqRight 0 ≡ false) × (freqRight 1 ≡ true) × (freqRight 2013265944 ≡ true) × (freqRight 2013265945 ≡ false) × (freqRight (4294967295 + 1) ≡ false)
-range-ends = (refl, refl, refl, refl, refl)
-
--- the sentence on strict frequencies: n values turned into frequencies, a strict block's with 1 added, each in 32 bits, and whether all are
--- right; those fit
-pub record Counted (values : List ℕ) (n : ℕ) (strict : Bool) (r : Bool) (out : List ℕ) : Type 0 where
-  pub same : r ≡ every n (λ i. freqRight (getD values i 0 + gapOf strict))
-  pub long : length out ≡ 128
-  pub freqs : (i : ℕ) → i < n → getD out i 0 ≡ (getD values i 0 + gapOf strict) % 2 ^ 32
-  pub kept : (i : ℕ) → n ≤ i → getD out i 0 ≡ getD values i 0

@@ -1,3 +1,4 @@
 -- What the contracts of `compression` cite.
 pub mod Documents
 pub mod Frequencies
+pub mod Inner

@@ -1,12 +1,14 @@
 // Documents by differences: prefix sums in place, and whether the documents are right.
+use bitpacker::Four;
+use std::num::wrapping_add_u32;
 ghost use mathlib.Core.Path.{_≡_};
 ghost use Prim.Native.Nat.{ℕ, _+_, _-_, _%_, _≤_, _<_};
 ghost use lib.ListN.{length, getD};
 ghost use lib.Dec.{ltb};
+ghost use Rattle.arrays.specs.Lent.{before, after};
 ghost use Rattle.arrays.specs.Every.{every};
-ghost use Rattle.compression.specs.Documents.{gapOf, startOf, FourSums, Summed, Checked};
-use bitpacker::Four;
-use std::num::wrapping_add_u32;
+ghost use Rattle.compression.specs.Documents.{gapOf, startOf};
+ghost use Rattle.compression.specs.Inner.Sums.{FourSums, Summed, Checked};
 
 // What a strict block adds.
 pub fn gap(strict: bool) -> u32
@@ -45,7 +47,7 @@ fn four_sums(p: u32, gap: u32, a: u32, b: u32, c: u32, d: u32) -> Four
 // The values of a block turned into its documents, each in 32 bits.
 pub fn sums(values: &mut [u32; 128], strict: bool, first: bool, previous: u32)
     requires { ⌜ length (now values) ≡ 128 ⌝ }
-    ensures { λ r. ⌜ Summed (now (values .entry)) strict first previous (now (values .exit)) ⌝ }
+    ensures { λ r. ⌜ Summed (before values) strict first previous (after values) ⌝ }
 {
     let add = gap(strict);
     let mut p = before(first, previous, strict);
@@ -71,7 +73,7 @@ pub fn sums(values: &mut [u32; 128], strict: bool, first: bool, previous: u32)
 // Whether each of the first n is above the one before it.
 fn rising(docs: &[u32; 128], n: usize) -> bool
     requires { ⌜ n ≤ 128 ⌝ }
-    ensures { λ r. ⌜ r ≡ every (n - 1) (λ i. ltb (getD (now (docs .entry)) i 0) (getD (now (docs .entry)) (i + 1) 0)) ⌝ }
+    ensures { λ r. ⌜ r ≡ every (n - 1) (λ i. ltb (getD (before docs) i 0) (getD (before docs) (i + 1) 0)) ⌝ }
 {
     let mut right = true;
     let mut i: usize = 0;
@@ -94,7 +96,7 @@ pub fn documents(
     limit: u32,
 ) -> bool
     requires { ⌜ (n ≤ 128) × (length (now values) ≡ 128) × ((k : ℕ) → k < n → getD (now values) k 0 < 4294967296) ⌝ }
-    ensures { λ r. ⌜ Checked (now (values .entry)) n strict first previous limit r (now (values .exit)) ⌝ }
+    ensures { λ r. ⌜ Checked (before values) n strict first previous limit r (after values) ⌝ }
 {
     sums(values, strict, first, previous);
     if n == 0 {

@@ -1,10 +1,12 @@
 // Frequencies, and whether they are right.
+use crate::documents::gap;
+use std::num::wrapping_add_u32;
 ghost use mathlib.Core.Path.{_≡_};
 ghost use Prim.Native.Nat.{ℕ, _≤_, _<_};
 ghost use lib.ListN.{length, getD};
-ghost use Rattle.compression.specs.Frequencies.{freqRight, Counted};
-use crate::documents::gap;
-use std::num::wrapping_add_u32;
+ghost use Rattle.arrays.specs.Lent.{before, after};
+ghost use Rattle.compression.specs.Frequencies.{freqRight};
+ghost use Rattle.compression.specs.Inner.Counts.{Counted};
 
 // Whether f is from 1 to 2,013,265,944.
 fn in_range(f: u32) -> bool
@@ -17,7 +19,7 @@ fn in_range(f: u32) -> bool
 // the test sees it.
 pub fn frequencies(values: &mut [u32; 128], n: usize, strict: bool) -> bool
     requires { ⌜ (n ≤ 128) × (length (now values) ≡ 128) × ((k : ℕ) → k < n → getD (now values) k 0 < 4294967296) ⌝ }
-    ensures { λ r. ⌜ Counted (now (values .entry)) n strict r (now (values .exit)) ⌝ }
+    ensures { λ r. ⌜ Counted (before values) n strict r (after values) ⌝ }
 {
     let add = gap(strict);
     let mut right = true;

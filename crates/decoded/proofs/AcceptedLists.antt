@@ -7,23 +7,25 @@ use native.Mathlib.Omega.{arith}
 use lib.Dec.{T, lit<}
 use lib.Ieee.{lt}
 use Rattle.floats.specs.Step.{within}
+use Rattle.route.specs.F32.{f32}
+use Rattle.route.specs.Postings.{start}
+use Rattle.route.specs.Inner.Lists.{ListOk}
+use Rattle.route.proofs.ListLaws.{ScoresOk}
+use Rattle.route.proofs.Stepped.{stepped-order, PartOf, SteppedList}
 use Rattle.bm25.specs.declared.Scoring.{Scoring}
 use Rattle.bm25.specs.declared.Scoring.the-variants.{Stepped}
 use Rattle.notefile.specs.Header.{listCount, documents}
 use Rattle.notefile.specs.Parts.{partOf}
 use Rattle.notefile.specs.Lists.{fullBlocks, listScore, blockScore, blockBound}
 use Rattle.notefile.specs.Refusal.{fileRefusal}
-use Rattle.notefile.specs.Given.{Limits}
+use Rattle.notefile.specs.Inner.Given.{Limits, ListRight}
 use Rattle.notefile.specs.declared.part.Part.{Part}
-use Rattle.notefile.proofs.Accepted.{ListRight, list-accepted, list-limits, header-right}
+use Rattle.notefile.proofs.Accepted.{list-accepted, list-limits, header-right}
 use Rattle.notefile.proofs.Headers.{few-documents, norm-code-small}
 use Rattle.notefile.proofs.Scores.{score-for-in, list-bound-in, block-bound-in}
 use Rattle.notefile.proofs.ListLaws.{list-docs-rise, list-doc-below, list-freq-right, list-score-covered, block-score-covered}
-use Rattle.route.specs.F32.{f32}
-use Rattle.route.specs.Postings.{start}
-use Rattle.route.proofs.ListLaws.{ListOk, ScoresOk}
-use Rattle.route.proofs.Stepped.{stepped-order, PartOf, SteppedList}
-use Rattle.decoded.specs.Lists.{Bytes, listOf, postingsOf}
+use Rattle.decoded.specs.Lists.{listOf, postingsOf}
+use Rattle.decoded.specs.Inner.Bytes.{Bytes}
 use Rattle.decoded.proofs.Scores.{step-part, covers-stepped}
 
 -- right documents are what a run over the list needs, in either scoring

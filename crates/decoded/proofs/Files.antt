@@ -9,21 +9,23 @@ use lib.Dec.{T}
 use lib.ListN.{length}
 use lib.Ieee.{Float, lt}
 use Rattle.floats.specs.Threshold.{thresholdOk}
+use Rattle.route.specs.Lists.{All}
+use Rattle.route.specs.Score.{larger, smaller}
+use Rattle.route.specs.F32.{f32}
+use Rattle.route.specs.Report.{Report}
+use Rattle.route.specs.Rule.{Rule, limited}
+use Rattle.route.specs.Postings.{Postings, TERMINATED}
+use Rattle.route.specs.Plain.{Mode, plain}
+use Rattle.route.specs.Skipping.{Skips}
+use Rattle.route.specs.Inner.Rules.{RuleOk, Takes}
+use Rattle.route.proofs.Stepped.{SteppedList, stepped-plain, stepped-demand-3}
 use Rattle.bm25.specs.declared.Scoring.the-variants.{Stepped}
 use Rattle.notefile.specs.Header.{listCount, documents}
 use Rattle.notefile.specs.Refusal.{fileRefusal}
 use Rattle.notefile.proofs.Accepted.{header-right}
 use Rattle.notefile.proofs.Headers.{few-documents}
-use Rattle.route.specs.Lists.{All}
-use Rattle.route.specs.Score.{larger, smaller}
-use Rattle.route.specs.F32.{f32}
-use Rattle.route.specs.Report.{Report}
-use Rattle.route.specs.Rule.{Rule, RuleOk, limited}
-use Rattle.route.specs.Postings.{Postings, TERMINATED}
-use Rattle.route.specs.Plain.{Mode, Takes, plain}
-use Rattle.route.specs.Skipping.{Skips}
-use Rattle.route.proofs.Stepped.{SteppedList, stepped-plain, stepped-demand-3}
-use Rattle.decoded.specs.Lists.{Bytes, queried}
+use Rattle.decoded.specs.Lists.{queried}
+use Rattle.decoded.specs.Inner.Bytes.{Bytes}
 use Rattle.decoded.proofs.AcceptedLists.{accepted-list}
 
 module _ (file : List ℕ) (bytes : Bytes file) (accepted : fileRefusal file ≡ 0) where

@@ -6,7 +6,7 @@ use native.Mathlib.Omega.{arith}
 use lib.Dec.{T, lit≤}
 use lib.Ieee.{Float, lt}
 use Rattle.floats.specs.Step.{within, steps, stepDown}
-use Rattle.floats.specs.Threshold.{level}
+use Rattle.floats.specs.Inner.Steps.{level}
 use Rattle.floats.proofs.Order.{not-above}
 use Rattle.floats.proofs.Stepped.{step-grid, steps-within, steps-mono}
 use Rattle.route.proofs.Stepped.{PartOf, part-level}

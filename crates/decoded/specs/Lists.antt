@@ -1,18 +1,13 @@
 -- The decoded lists of a note file as the route and the plain scan take them: blocks of 128, with scores and bounds in a scoring.
 use mathlib.Core.List.{List, [], _∷_}
-use Prim.Native.Nat.{ℕ, _<_}
-use lib.ListN.{getD}
+use Prim.Native.Nat.{ℕ}
 use lib.Ieee.{Float}
+use Rattle.route.specs.Postings.{Postings}
 use Rattle.bm25.specs.Scoring.{scored}
 use Rattle.bm25.specs.declared.Scoring.{Scoring}
 use Rattle.notefile.specs.Parts.{partOf}
 use Rattle.notefile.specs.Lists.{fullBlocks, listDoc, listScore, blockBound, listBound}
 use Rattle.notefile.specs.declared.part.Part.{Part}
-use Rattle.route.specs.Postings.{Postings}
-
--- what a slice of bytes is as a list: each element is below 256
-abbrev pub Bytes : List ℕ → Type 0
-Bytes file = (i : ℕ) → getD file i 0 < 256
 
 -- a list by its part
 unfoldable pub listOf : Scoring → List ℕ → Part → Postings Float

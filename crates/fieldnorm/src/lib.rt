@@ -1,5 +1,6 @@
 // Field lengths as codes of one byte: the 256 lengths, and where a document's code is read.
 ghost use mathlib.Core.Path.{_≡_};
+ghost use Rattle.arrays.specs.Lent.{before};
 ghost use Rattle.fieldnorm.specs.Code.{fieldnorm};
 ghost use Rattle.fieldnorm.specs.Reader.{fieldnormId};
 
@@ -281,7 +282,7 @@ pub enum FieldNormReader {
 impl FieldNormReader {
     // A document's norm code; 0 past the file's end.
     pub fn fieldnorm_id(self, file: &[u8], doc: u32) -> u8
-        ensures { λ r. ⌜ r ≡ fieldnormId self (now (file .entry)) doc ⌝ }
+        ensures { λ r. ⌜ r ≡ fieldnormId self (before file) doc ⌝ }
     {
         match self {
             FieldNormReader::FromData(start) => {

@@ -8,8 +8,9 @@ use native.Mathlib.Omega.{arith}
 use lib.Dec.{T}
 use lib.ListN.{length}
 use lib.Ieee.{Float, binary32, add, sub}
-use Rattle.floats.specs.Step.{gridF, Steps}
-use Rattle.floats.specs.Threshold.{thresholdOk, level}
+use Rattle.floats.specs.Step.{gridF}
+use Rattle.floats.specs.Threshold.{thresholdOk}
+use Rattle.floats.specs.Inner.Steps.{Steps, level}
 use Rattle.floats.proofs.Steps.{steps-sub}
 use Rattle.floats.proofs.Grid.{grid-add, grid-steps}
 use Rattle.floats.proofs.Threshold.{level-steps, level-le}

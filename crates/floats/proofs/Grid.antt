@@ -6,7 +6,8 @@ use native.Mathlib.Nat.{le-trans, sub-zero, add-zero}
 use lib.Dec.{leb, lit<}
 use lib.Ieee.{binary32, round, add, sub, le}
 use lib.Ieee.Exact.{HasValue}
-use Rattle.floats.specs.Step.{gridF, Steps}
+use Rattle.floats.specs.Step.{gridF}
+use Rattle.floats.specs.Inner.Steps.{Steps}
 use Rattle.floats.proofs.Sum.{add-at, sub-at}
 use Rattle.floats.proofs.Steps.{grid-value, pos-steps, steps-le}
 

@@ -9,8 +9,8 @@ use lib.Dec.{T, ltb, eqb, ltb→lt, eqb→eq}
 use lib.Ieee.{Float, nan, inf, fin, up, down, lt, le}
 use lib.Ieee.Fits.{down-pos, and-l}
 use lib.Ieee.Order.{le-of-values}
-use mir.Facts.{or-yes}
 use borrow.Author.Tests.{ltb-true, ltb-false, lt-ltb}
+use mir.Facts.{or-yes}
 use Rattle.floats.specs.Step.{within}
 
 pub le→cross : (m : ℕ) (e : ℤ) (n : ℕ) (d : ℤ) → T (le (fin false m e) (fin false n d)) → m * up e * down d ≤ n * up d * down e

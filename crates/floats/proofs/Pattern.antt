@@ -9,8 +9,8 @@ use lib.Arith.{lt-of-le-ne}
 use lib.Ieee.{Float, nan, inf, fin, binary32, odd, fits, isNan, ofFields, ofBits, toBits}
 use lib.Ieee.Bits.{ofBits-toBits, ofBits-fits, toBits-ofBits, toBits-lt}
 use lib.Ieee.Exact.{HasValue, odd-sign}
-use mir.Facts.{eqb-no}
 use borrow.Author.Tests.{lt-leb, ne-eqb}
+use mir.Facts.{eqb-no}
 use Rattle.floats.specs.Step.{within}
 
 -- fields make a pattern

@@ -10,7 +10,8 @@ use lib.Ieee.Fits.{down-pos}
 use lib.Ieee.Nearest.{div-same, div-mono}
 use lib.Ieee.Exact.{HasValue}
 use lib.Ieee.Order.{le-of-values}
-use Rattle.floats.specs.Step.{within, gridF, steps, stepDown, Steps}
+use Rattle.floats.specs.Step.{within, gridF, steps, stepDown}
+use Rattle.floats.specs.Inner.Steps.{Steps}
 use Rattle.floats.proofs.Grid.{grid-has, grid-le, grid-steps}
 use Rattle.floats.proofs.Order.{le→cross}
 use Rattle.floats.proofs.Range.{value-within}

@@ -11,7 +11,7 @@ use lib.Ieee.Fits.{down-pos, eq→eqb, and-i, and-l, and-r}
 use lib.Ieee.Exact.{HasValue}
 use lib.Ieee.Scale.{round-same}
 use mir.Facts.{or-yes}
-use Rattle.floats.specs.Step.{Steps}
+use Rattle.floats.specs.Inner.Steps.{Steps}
 use Rattle.floats.proofs.Tests.{and-true, same-test, same-ltb, same-eqb, or-left, or-right}
 use Rattle.floats.proofs.Value.{round-exact-le}
 use Rattle.floats.proofs.Sum.{sub-mul}

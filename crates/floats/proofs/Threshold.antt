@@ -11,8 +11,9 @@ use lib.Ieee.{Float, nan, inf, fin, up, down, lt, le, eq, neg}
 use lib.Ieee.Fits.{down-pos, and-l, and-r, and-i, eq→eqb}
 use lib.Ieee.Exact.{HasValue}
 use mir.Facts.{or-yes}
-use Rattle.floats.specs.Step.{within, gridF, stepDown, Steps}
-use Rattle.floats.specs.Threshold.{thresholdOk, level}
+use Rattle.floats.specs.Step.{within, gridF, stepDown}
+use Rattle.floats.specs.Threshold.{thresholdOk}
+use Rattle.floats.specs.Inner.Steps.{Steps, level}
 use Rattle.floats.proofs.Stepped.{steps-within}
 use Rattle.floats.proofs.Order.{le→cross, cross→le}
 use Rattle.floats.proofs.Tests.{and-true, left-true, or-left, or-right, is-true, is-false, same-test, same-eqb}

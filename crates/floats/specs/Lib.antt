@@ -3,3 +3,4 @@ pub mod Whole
 pub mod Step
 pub mod Maximum
 pub mod Threshold
+pub mod Inner

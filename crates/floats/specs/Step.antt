@@ -1,7 +1,6 @@
 -- The step of stepped scoring (01, Scores; the term is the paper's): a value is cut down to a multiple of 1/1024, counted in naturals.
-use mathlib.Core.Path.{_≡_}
 use mathlib.Core.Bool.{Bool, true, false}
-use Prim.Native.Nat.{ℕ, _+_, _*_, _/_}
+use Prim.Native.Nat.{ℕ, _*_, _/_}
 use lib.Dec.{leb}
 use lib.Ieee.{Float, nan, inf, fin, up, down}
 use Rattle.floats.specs.Whole.{f32Of}
@@ -32,10 +31,3 @@ stepDown nan = gridF 0
 stepDown (inf true) = gridF 0
 stepDown (inf false) = inf false
 stepDown (fin s m e) = gridF (steps (fin s m e))
-
--- x is (a - b) / 1024, of either sign: sums and differences of such values are those of whole numbers
-abbrev pub Steps : Float → ℕ → ℕ → Type 0
-Steps nan a b = ⊥
-Steps (inf s) a b = ⊥
-Steps (fin false m e) a b = m * up e * 1024 + b * down e ≡ a * down e
-Steps (fin true m e) a b = m * up e * 1024 + a * down e ≡ b * down e

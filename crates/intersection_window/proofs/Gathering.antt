@@ -20,11 +20,11 @@ use Rattle.route.specs.Union.{leastLastDoc}
 use Rattle.route.specs.Intersection.{allRemain, hasRemainingDocs, seekBlockAll}
 use Rattle.route.proofs.Cases.{on-test}
 use Rattle.decoded.specs.Lists.{listOf}
-use Rattle.slot_rows.specs.Rows.{cursorIn}
-use Rattle.term_scorer.specs.Slots.{Held, MovedSlot, cursorAt, held, lastAt, listAt, partAt}
-use Rattle.term_scorer.specs.Weights.{Bounded}
-use Rattle.intersection_window.specs.Scorers.{BoundsKept, InOrder, Query, Ready, Seated, listIn, scorerAt, scorersBetween, secondariesIn, slotAt}
-use Rattle.intersection_window.specs.Windows.{Gathers, RunOut, boundsOf}
+use Rattle.slot_rows.specs.Inner.Rows.{cursorIn}
+use Rattle.term_scorer.specs.Inner.Slots.{Held, MovedSlot, cursorAt, held, lastAt, listAt, partAt}
+use Rattle.term_scorer.specs.Inner.Weights.{Bounded}
+use Rattle.intersection_window.specs.Inner.Scorers.{BoundsKept, InOrder, Query, Ready, Seated, listIn, scorerAt, scorersBetween, secondariesIn, slotAt}
+use Rattle.intersection_window.specs.Inner.Windows.{Gathers, RunOut, boundsOf}
 use Rattle.intersection_window.proofs.Parts.{part-first, part-none, part-same}
 use Rattle.intersection_window.proofs.Seats.{known-bound, known-cursor, known-only, known-others, known-ready, last-here, moved-only, scorer-is, still-kept, still-seated}
 

@@ -13,8 +13,6 @@ use borrow.Author.Tests.{le-ltb, lt-ltb, ltb-false, ltb-true}
 use Rattle.arrays.proofs.Order.{lt-or-ge}
 use Rattle.block_search.specs.Search.{countBelow}
 use Rattle.block_search.proofs.Segments.{at-most, place-test}
-use Rattle.notefile.specs.Header.{documents}
-use Rattle.notefile.specs.declared.part.Part.{Part}
 use Rattle.route.specs.F32.{f32}
 use Rattle.route.specs.Report.{Report}
 use Rattle.route.specs.Postings.{Postings, docAt, start}
@@ -22,17 +20,19 @@ use Rattle.route.specs.Cursor.{findIn}
 use Rattle.route.specs.Scorer.{Scorer}
 use Rattle.route.specs.Route.{quiet}
 use Rattle.route.specs.Intersection.{InterPlace, called, candidatesFrom, foundTurn, tryCandidate, window, within}
+use Rattle.route.specs.Inner.Lists.{ListOk}
 use Rattle.route.proofs.Cases.{on-test}
-use Rattle.route.proofs.ListLaws.{ListOk}
 use Rattle.route.proofs.Places.{docAt-in, docAt-out}
-use Rattle.postings.specs.Decoded.{Decoded, doc-is, docIn}
+use Rattle.notefile.specs.Header.{documents}
+use Rattle.notefile.specs.declared.part.Part.{Part}
+use Rattle.reports.specs.Inner.Runs.{Quietly, goes, stays}
+use Rattle.postings.specs.Inner.Decoded.{Decoded, doc-is, docIn}
 use Rattle.postings.proofs.Blocks.{decoded-sorted}
 use Rattle.postings.proofs.Moves.{find-is}
-use Rattle.reports.specs.Runs.{Quietly, goes, stays}
-use Rattle.slot_rows.specs.Rows.{cursorIn, postingsIn}
-use Rattle.term_scorer.specs.Slots.{Held, partAt}
-use Rattle.intersection_window.specs.Scorers.{InOrder, Query, Seated, StillKept, Unmoved, leaderIn, listIn, placeAt, secondariesIn, slotAt}
-use Rattle.intersection_window.specs.Candidates.{Hits, Suffixes, Tries, candidateOf, candidatesLeft, interEnded, interTurn, leaderBlock, withinAt}
+use Rattle.slot_rows.specs.Inner.Rows.{cursorIn, postingsIn}
+use Rattle.term_scorer.specs.Inner.Slots.{Held, partAt}
+use Rattle.intersection_window.specs.Inner.Scorers.{InOrder, Query, Seated, StillKept, Unmoved, leaderIn, listIn, placeAt, secondariesIn, slotAt}
+use Rattle.intersection_window.specs.Inner.Candidates.{Hits, Suffixes, Tries, candidateOf, candidatesLeft, interEnded, interTurn, leaderBlock, withinAt}
 use Rattle.intersection_window.specs.declared.candidate.Candidate.{Candidate}
 use Rattle.intersection_window.specs.declared.candidate.Candidate.the-variants.{Due, Passed}
 use Rattle.intersection_window.specs.declared.hit.Hit.the-variants.{At, Nowhere}

@@ -15,11 +15,11 @@ use Rattle.route.specs.Scorer.{Scorer, blockMaxScore, lastDocInBlock, seekBlock
 use Rattle.route.specs.Union.{leastLastDoc}
 use Rattle.route.specs.Intersection.{InterPlace, Stage, allRemain, candidatesIn, hasRemainingDocs, loadLeader, over, seekBlockAll, window, windowTurn, within}
 use Rattle.route.proofs.Cases.{on-test}
-use Rattle.slot_rows.specs.Rows.{cursorIn, firstOf}
-use Rattle.term_scorer.specs.Slots.{Held, MovedSlot, cursorAt, held, lastAt, listAt}
-use Rattle.term_scorer.specs.Weights.{Bounded}
-use Rattle.intersection_window.specs.Scorers.{BoundsKept, InOrder, Query, Ready, Seated, leaderIn, listIn, scorerAt, secondariesIn, slotAt}
-use Rattle.intersection_window.specs.Windows.{Gathered, Gathers, Windowed, boundsOf}
+use Rattle.slot_rows.specs.Inner.Rows.{cursorIn, firstOf}
+use Rattle.term_scorer.specs.Inner.Slots.{Held, MovedSlot, cursorAt, held, lastAt, listAt}
+use Rattle.term_scorer.specs.Inner.Weights.{Bounded}
+use Rattle.intersection_window.specs.Inner.Scorers.{BoundsKept, InOrder, Query, Ready, Seated, leaderIn, listIn, scorerAt, secondariesIn, slotAt}
+use Rattle.intersection_window.specs.Inner.Windows.{Gathered, Gathers, Windowed, boundsOf}
 use Rattle.intersection_window.specs.declared.window.Secondaries.{Secondaries}
 use Rattle.intersection_window.specs.declared.window.Window.the-variants.{Low, Open, Over}
 use Rattle.intersection_window.proofs.Seats.{known-cursor, known-only, known-ready, last-here, last-low, moved-only, others-stay, scorer-is, still-kept, still-seated}

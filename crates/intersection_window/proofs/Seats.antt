@@ -8,23 +8,23 @@ use lib.ListN.{getD, length, length-set, set}
 use lib.Seq.{getD-set-other, getD-set-same, set-getD}
 use lib.Ieee.{Float, nan}
 use borrow.Author.Tests.{eqb-false, eqb-true}
-use Rattle.bm25.specs.declared.Scoring.{Scoring}
-use Rattle.notefile.specs.Header.{documents}
 use Rattle.route.specs.F32.{f32}
 use Rattle.route.specs.Postings.{Postings}
 use Rattle.route.specs.Cursor.{Cursor, blockMax}
 use Rattle.route.specs.Scorer.{lastDocInBlock}
+use Rattle.route.specs.Inner.Lists.{ListOk}
 use Rattle.route.proofs.Cases.{on-test}
-use Rattle.route.proofs.ListLaws.{ListOk}
 use Rattle.route.proofs.Places.{last-cap}
+use Rattle.bm25.specs.declared.Scoring.{Scoring}
+use Rattle.notefile.specs.Header.{documents}
 use Rattle.decoded.proofs.AcceptedLists.{list-ok}
-use Rattle.postings.specs.Decoded.{docIn}
+use Rattle.postings.specs.Inner.Decoded.{docIn}
 use Rattle.postings.proofs.Readers.{end-is}
-use Rattle.slot_rows.specs.Rows.{PlaceIn, cursorIn}
-use Rattle.term_scorer.specs.Slots.{Held, MovedSlot, Shallowed, Sixteen, SlotIn, StandingIn, cursorAt, held, lastAt, partAt}
-use Rattle.term_scorer.specs.Weights.{Bounded, BoundKept}
+use Rattle.slot_rows.specs.Inner.Rows.{PlaceIn, cursorIn}
 use Rattle.slot_rows.proofs.Rows.{bound-in, cur-inside, doc-in-array, last-is, last-small}
-use Rattle.intersection_window.specs.Scorers.{InOrder, Query, Ready, Seated, StillKept, BoundsKept, Unmoved, listIn, scorerAt, scorersBetween, slotAt}
+use Rattle.term_scorer.specs.Inner.Slots.{Held, MovedSlot, Shallowed, Sixteen, SlotIn, StandingIn, cursorAt, held, lastAt, partAt}
+use Rattle.term_scorer.specs.Inner.Weights.{Bounded, BoundKept}
+use Rattle.intersection_window.specs.Inner.Scorers.{InOrder, Query, Ready, Seated, StillKept, BoundsKept, Unmoved, listIn, scorerAt, scorersBetween, slotAt}
 use Rattle.intersection_window.proofs.Parts.{part-same}
 
 -- what holds of slot q, and of every other

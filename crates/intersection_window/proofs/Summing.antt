@@ -11,9 +11,9 @@ use Rattle.arrays.proofs.Order.{lt-or-ge}
 use Rattle.route.specs.F32.{f32}
 use Rattle.route.specs.Score.{sumBack}
 use Rattle.ordering.proofs.Places.{map-drop}
-use Rattle.term_scorer.specs.Slots.{Sixteen}
-use Rattle.intersection_window.specs.Windows.{boundsAlong}
-use Rattle.intersection_window.specs.Candidates.{Suffixes}
+use Rattle.term_scorer.specs.Inner.Slots.{Sixteen}
+use Rattle.intersection_window.specs.Inner.Windows.{boundsAlong}
+use Rattle.intersection_window.specs.Inner.Candidates.{Suffixes}
 use Rattle.intersection_window.proofs.Parts.{part-first, part-none}
 
 module _ (n : ℕ) (order : List ℕ) (bounds : List Float) where

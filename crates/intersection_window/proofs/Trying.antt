@@ -16,10 +16,10 @@ use Rattle.route.specs.Score.{sumBack}
 use Rattle.route.specs.Cursor.{seekIn}
 use Rattle.route.specs.Scorer.{Scorer, docOf, scoreHere, seek}
 use Rattle.route.specs.Intersection.{Tried, dropped, pushSec, tailOf, tryCandidate}
-use Rattle.postings.specs.Decoded.{doc-is, docIn}
-use Rattle.term_scorer.specs.Slots.{Held, MovedSlot, cursorAt, listAt, partAt}
-use Rattle.intersection_window.specs.Scorers.{InOrder, Query, Seated, StillKept, Unmoved, scorerAt, scorersBetween, secondariesIn, slotAt}
-use Rattle.intersection_window.specs.Candidates.{Suffixes, Tries, candidateOf}
+use Rattle.postings.specs.Inner.Decoded.{doc-is, docIn}
+use Rattle.term_scorer.specs.Inner.Slots.{Held, MovedSlot, cursorAt, listAt, partAt}
+use Rattle.intersection_window.specs.Inner.Scorers.{InOrder, Query, Seated, StillKept, Unmoved, scorerAt, scorersBetween, secondariesIn, slotAt}
+use Rattle.intersection_window.specs.Inner.Candidates.{Suffixes, Tries, candidateOf}
 use Rattle.intersection_window.specs.declared.candidate.Candidate.{Candidate}
 use Rattle.intersection_window.specs.declared.candidate.Candidate.the-variants.{Due, Passed}
 use Rattle.intersection_window.proofs.Parts.{part-first, part-last, part-none, part-split}

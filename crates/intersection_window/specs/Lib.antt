@@ -1,5 +1,2 @@
 -- What the contracts of `intersection_window` cite, and those of the intersection's run.
-pub mod Scorers
-pub mod Candidates
-pub mod Windows
-pub mod Sizes
+pub mod Inner

@@ -1,12 +1,13 @@
 // A candidate of the leader against the secondaries, one after the other.
-ghost use Prim.Native.Nat.{_<_};
-ghost use Rattle.term_scorer.specs.Slots.{held};
-ghost use Rattle.intersection_window.specs.Scorers.{query, InOrder, Seated, WeightsIn};
-ghost use Rattle.intersection_window.specs.Candidates.{Tries};
 use bm25::Scoring;
 use fieldnorm::FieldNormReader;
 use term_scorer::score;
 use term_scorer::slot;
+ghost use Prim.Native.Nat.{_<_};
+ghost use Rattle.arrays.specs.Lent.{before, after};
+ghost use Rattle.term_scorer.specs.Inner.Slots.{held};
+ghost use Rattle.intersection_window.specs.Inner.Scorers.{query, InOrder, Seated, WeightsIn};
+ghost use Rattle.intersection_window.specs.Inner.Candidates.{Tries};
 
 // Due with its score, or passed: a secondary lacks it, or it cannot exceed the threshold.
 pub enum Candidate {
@@ -33,7 +34,7 @@ pub fn try_candidate(
     freqs: &mut [[u32; 128]; 16],
 ) -> Candidate
     requires { ⌜ InOrder (query scoring (now file) (now lists) n (now order)) × WeightsIn (query scoring (now file) (now lists) n (now order)) norms (now weights) (now caches) × Seated (query scoring (now file) (now lists) n (now order)) (held (now places) (now docs) (now freqs)) × («candidate_doc» < 2147483647) ⌝ }
-    ensures { λ r. ⌜ Tries (query scoring (now (file .entry)) (now (lists .entry)) n (now (order .entry))) «candidate_doc» «leader_score» threshold (now (suffix .entry)) (held (now (places .entry)) (now (docs .entry)) (now (freqs .entry))) (held (now (places .exit)) (now (docs .exit)) (now (freqs .exit))) r ⌝ }
+    ensures { λ r. ⌜ Tries (query scoring (before file) (before lists) n (before order)) «candidate_doc» «leader_score» threshold (before suffix) (held (before places) (before docs) (before freqs)) (held (after places) (after docs) (after freqs)) r ⌝ }
 {
     let mut total_score = leader_score;
     let mut i = 1usize;

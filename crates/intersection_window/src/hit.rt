@@ -1,14 +1,15 @@
 // The candidates of a window, from the leader's block.
-ghost use Prim.Native.Nat.{_≤_};
-ghost use Rattle.term_scorer.specs.Slots.{held};
-ghost use Rattle.intersection_window.specs.Scorers.{query, InOrder, Seated, WeightsIn};
-ghost use Rattle.intersection_window.specs.Candidates.{Hits};
 use crate::candidate::Candidate;
 use crate::candidate::try_candidate;
 use bm25::Scoring;
 use fieldnorm::FieldNormReader;
 use notefile::block::TERMINATED;
 use term_scorer::score;
+ghost use Prim.Native.Nat.{_≤_};
+ghost use Rattle.arrays.specs.Lent.{before, after};
+ghost use Rattle.term_scorer.specs.Inner.Slots.{held};
+ghost use Rattle.intersection_window.specs.Inner.Scorers.{query, InOrder, Seated, WeightsIn};
+ghost use Rattle.intersection_window.specs.Inner.Candidates.{Hits};
 
 // A candidate whose report is due, by the place behind it, its document and its score; or none is left in the window.
 pub enum Hit {
@@ -36,7 +37,7 @@ pub fn next_hit(
     freqs: &mut [[u32; 128]; 16],
 ) -> Hit
     requires { ⌜ InOrder (query scoring (now file) (now lists) n (now order)) × WeightsIn (query scoring (now file) (now lists) n (now order)) norms (now weights) (now caches) × Seated (query scoring (now file) (now lists) n (now order)) (held (now places) (now docs) (now freqs)) × (from ≤ 128) ⌝ }
-    ensures { λ r. ⌜ Hits (query scoring (now (file .entry)) (now (lists .entry)) n (now (order .entry))) threshold «score_threshold» «window_end» (now (suffix .entry)) from (held (now (places .entry)) (now (docs .entry)) (now (freqs .entry))) (held (now (places .exit)) (now (docs .exit)) (now (freqs .exit))) r ⌝ }
+    ensures { λ r. ⌜ Hits (query scoring (before file) (before lists) n (before order)) threshold «score_threshold» «window_end» (before suffix) from (held (before places) (before docs) (before freqs)) (held (after places) (after docs) (after freqs)) r ⌝ }
 {
     let leader = order[0];
     let mut i = from;

@@ -1,15 +1,16 @@
 // A window: all skip readers on the blocks that may hold a document, and the bounds of these blocks against the threshold.
-ghost use mathlib.Core.Path.{_≡_};
-ghost use Prim.Native.Nat.{ℕ, min, _≤_, _<_};
-ghost use lib.ListN.{getD};
-ghost use Rattle.term_scorer.specs.Slots.{held, Sixteen};
-ghost use Rattle.intersection_window.specs.Scorers.{query, InOrder, Ready, WeightsIn};
-ghost use Rattle.intersection_window.specs.Windows.{boundsAlong, Gathers, Turns};
-ghost use Rattle.intersection_window.specs.Candidates.{Suffixes};
 use bm25::Scoring;
 use fieldnorm::FieldNormReader;
 use term_scorer::score;
 use term_scorer::slot;
+ghost use mathlib.Core.Path.{_≡_};
+ghost use Prim.Native.Nat.{ℕ, min, _≤_, _<_};
+ghost use lib.ListN.{getD};
+ghost use Rattle.arrays.specs.Lent.{before, after};
+ghost use Rattle.term_scorer.specs.Inner.Slots.{held, Sixteen};
+ghost use Rattle.intersection_window.specs.Inner.Scorers.{query, InOrder, Ready, WeightsIn};
+ghost use Rattle.intersection_window.specs.Inner.Windows.{boundsAlong, Gathers, Turns};
+ghost use Rattle.intersection_window.specs.Inner.Candidates.{Suffixes};
 
 // Whether every secondary has documents left, where the first of all present blocks ends, and the secondaries' bounds summed.
 pub struct Secondaries {
@@ -49,7 +50,7 @@ fn gather(
     bounds: &mut [f32; 16],
 ) -> Secondaries
     requires { ⌜ InOrder (query scoring (now file) (now lists) n (now order)) × WeightsIn (query scoring (now file) (now lists) n (now order)) norms (now weights) (now caches) × Ready (query scoring (now file) (now lists) n (now order)) (held (now places) (now docs) (now freqs)) (now bounds) × (doc ≤ 2147483647) ⌝ }
-    ensures { λ r. ⌜ Gathers (query scoring (now (file .entry)) (now (lists .entry)) n (now (order .entry))) doc «leader_end» (held (now (places .entry)) (now (docs .entry)) (now (freqs .entry))) (now (places .exit)) (now (bounds .exit)) r ⌝ }
+    ensures { λ r. ⌜ Gathers (query scoring (before file) (before lists) n (before order)) doc «leader_end» (held (before places) (before docs) (before freqs)) (after places) (after bounds) r ⌝ }
 {
     let mut window_end = leader_end;
     let mut block_max_sum = 0.0f32;
@@ -106,7 +107,7 @@ pub fn next_window(
     bounds: &mut [f32; 16],
 ) -> Window
     requires { ⌜ InOrder (query scoring (now file) (now lists) n (now order)) × WeightsIn (query scoring (now file) (now lists) n (now order)) norms (now weights) (now caches) × Ready (query scoring (now file) (now lists) n (now order)) (held (now places) (now docs) (now freqs)) (now bounds) × (doc < 2147483647) ⌝ }
-    ensures { λ r. ⌜ Turns (query scoring (now (file .entry)) (now (lists .entry)) n (now (order .entry))) threshold doc (held (now (places .entry)) (now (docs .entry)) (now (freqs .entry))) r (held (now (places .exit)) (now (docs .exit)) (now (freqs .exit))) (now (bounds .exit)) ⌝ }
+    ensures { λ r. ⌜ Turns (query scoring (before file) (before lists) n (before order)) threshold doc (held (before places) (before docs) (before freqs)) r (held (after places) (after docs) (after freqs)) (after bounds) ⌝ }
 {
     let leader = order[0];
     slot::seek_block(file, lists, leader, doc, places);
@@ -153,7 +154,7 @@ pub fn next_window(
 // Behind each secondary the sum of the bounds that follow, added from the last on.
 pub fn sum_suffixes(n: usize, order: &[usize; 16], bounds: &[f32; 16], suffix: &mut [f32; 16])
     requires { ⌜ (0 < n) × (n ≤ 16) × Sixteen (now order) × ((i : ℕ) → i < n → getD (now order) i 0 < 16) × Sixteen (now suffix) ⌝ }
-    ensures { λ _. ⌜ Suffixes n (boundsAlong n (now (order .entry)) (now (bounds .entry))) (now (suffix .exit)) × Sixteen (now (suffix .exit)) ⌝ }
+    ensures { λ _. ⌜ Suffixes n (boundsAlong n (before order) (before bounds)) (after suffix) × Sixteen (after suffix) ⌝ }
 {
     let mut running = 0.0f32;
     let mut i = n;

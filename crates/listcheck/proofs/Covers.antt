@@ -12,11 +12,11 @@ use Rattle.arrays.proofs.Every.{each, all}
 use Rattle.floats.specs.Step.{within}
 use Rattle.floats.proofs.Order.{not-above, below-le, lower-below}
 use Rattle.fieldnorm.specs.declared.FieldNormReader.{FieldNormReader}
-use Rattle.bm25_block.specs.Block.{Scored}
 use Rattle.bm25.specs.declared.Scoring.the-variants.{Unstepped}
+use Rattle.bm25_block.specs.Inner.Block.{Scored}
 use Rattle.notefile.specs.Header.{normReader}
-use Rattle.notefile.specs.Given.{WeighedIn}
-use Rattle.notefile.specs.Reads.{allCovered, scoreAmong}
+use Rattle.notefile.specs.Inner.Given.{WeighedIn}
+use Rattle.notefile.specs.Inner.Reads.{allCovered, scoreAmong}
 use Rattle.notefile.specs.declared.part.Part.{Part}
 use Rattle.notefile.proofs.Scores.{score-of-doc}
 use Rattle.notefile.proofs.Decoded.{every-same}

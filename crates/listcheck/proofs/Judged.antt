@@ -14,12 +14,13 @@ use Rattle.arrays.proofs.Every.{fails, one-more}
 use Rattle.floats.specs.Step.{within}
 use Rattle.bm25.specs.Score.{scoreAt}
 use Rattle.bm25.specs.Bound.{maxTf}
-use Rattle.notefile.specs.Skips.{maxNormCode, skipEntryOf}
+use Rattle.notefile.specs.Skips.{maxNormCode}
 use Rattle.notefile.specs.Lists.{fullBlocks, blockSize, blockAt, blockScore, blockBound, listBound}
 use Rattle.notefile.specs.Conditions.{blockDocsRight, blockFreqsRight, covers, boundsRight}
 use Rattle.notefile.specs.Refusal.{firstOf, blocksRefusal}
-use Rattle.notefile.specs.Given.{Limits, WeighedIn}
-use Rattle.notefile.specs.Reads.{DocsRead, FreqsRead, allCovered, scoreAmong, blockRefusal, lower}
+use Rattle.notefile.specs.Inner.Structs.{skipEntryOf}
+use Rattle.notefile.specs.Inner.Given.{Limits, WeighedIn}
+use Rattle.notefile.specs.Inner.Reads.{DocsRead, FreqsRead, allCovered, scoreAmong, blockRefusal, lower}
 use Rattle.notefile.specs.declared.part.Part.{Part}
 use Rattle.notefile.specs.declared.skip.SkipEntry.{SkipEntry}
 use Rattle.notefile.proofs.Decoded.{every-same}

@@ -8,16 +8,16 @@ use lib.Ieee.{Float, binary32, ofBits}
 use borrow.Author.Tests.{eqb-true, leb-true}
 use Rattle.arrays.specs.Every.{every}
 use Rattle.arrays.proofs.Every.{first-true, second-true}
-use Rattle.bm25.specs.Bound.{maxScore}
+use Rattle.bm25.specs.Inner.Bound.{maxScore}
 use Rattle.bm25.specs.declared.Bm25Weight.{Bm25Weight}
 use Rattle.bm25.proofs.WeightLaws.{max-score-is}
 use Rattle.notefile.specs.Lists.{fullBlocks, tailAt, scoreFor, listBound}
 use Rattle.notefile.specs.Conditions.{skipRight, skipsRight, postingsRight, blockDocsRight, blockFreqsRight, boundsRight}
 use Rattle.notefile.specs.Refusal.{unless, firstOf, blocksRefusal, listRefusal}
-use Rattle.notefile.specs.Given.{Parted, Skipped, BlocksIn, WeightIn}
-use Rattle.notefile.specs.Reads.{TailRead, blockRefusal, lower}
+use Rattle.notefile.specs.Inner.Given.{Parted, Skipped, BlocksIn, WeightIn}
+use Rattle.notefile.specs.Inner.Reads.{TailRead, blockRefusal, lower}
 use Rattle.notefile.specs.declared.part.Part.{Part}
-use Rattle.listcheck.specs.Answers.{tailOr}
+use Rattle.listcheck.specs.Inner.Answers.{tailOr}
 use Rattle.listcheck.specs.declared.skip.TailPlace.{TailPlace}
 use Rattle.listcheck.specs.declared.skip.TailPlace.the-variants.{At, Wrong}
 use Rattle.listcheck.proofs.Judged.{docs-right-unless, docs-wrong-if, one-block-more}

@@ -15,7 +15,7 @@ use Rattle.notefile.specs.Skips.{skipEntryAt}
 use Rattle.notefile.specs.Lists.{fullBlocks, tailAt, blockAt}
 use Rattle.notefile.specs.Conditions.{skipRight, skipsRight}
 use Rattle.notefile.specs.declared.part.Part.{Part}
-use Rattle.listcheck.specs.Answers.{tailOr}
+use Rattle.listcheck.specs.Inner.Answers.{tailOr}
 use Rattle.listcheck.specs.declared.skip.TailPlace.the-variants.{At, Wrong}
 
 -- all of a list's skip entries are few bytes

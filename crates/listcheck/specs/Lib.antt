@@ -1,2 +1,2 @@
 -- What the tests of one list answer; the table itself is `notefile`'s.
-pub mod Answers
+pub mod Inner

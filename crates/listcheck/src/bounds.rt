@@ -1,22 +1,23 @@
 // Bounds: whether a bound lies below no score that it covers.
+use bm25::Scoring;
+use fieldnorm::FieldNormReader;
+use notefile::part::Part;
 ghost use mathlib.Core.Path.{_≡_};
 ghost use mathlib.Core.Bool.{_&&_};
 ghost use Prim.Native.Nat.{_≤_};
 ghost use lib.Dec.{T};
 ghost use lib.ListN.{getD};
 ghost use lib.Ieee.{nan};
+ghost use Rattle.arrays.specs.Lent.{before};
 ghost use Rattle.floats.specs.Step.{within};
 ghost use Rattle.notefile.specs.Header.{normReader};
-ghost use Rattle.notefile.specs.Given.{WeighedIn};
-ghost use Rattle.notefile.specs.Reads.{allCovered, scoreAmong};
-use bm25::Scoring;
-use fieldnorm::FieldNormReader;
-use notefile::part::Part;
+ghost use Rattle.notefile.specs.Inner.Given.{WeighedIn};
+ghost use Rattle.notefile.specs.Inner.Reads.{allCovered, scoreAmong};
 
 // Whether the bound lies below none of the first n scores.
 fn covered(scores: &[f32; 128], n: usize, bound: f32) -> bool
     requires { ⌜ n ≤ 128 ⌝ }
-    ensures { λ r. ⌜ r ≡ allCovered bound n (λ i. getD (now (scores .entry)) i nan) ⌝ }
+    ensures { λ r. ⌜ r ≡ allCovered bound n (λ i. getD (before scores) i nan) ⌝ }
 {
     let mut right = true;
     let mut i: usize = 0;
@@ -43,8 +44,8 @@ pub fn both_cover(
     freqs: &[u32; 128],
 ) -> bool
     requires { ⌜ (reader ≡ normReader (now file)) × WeighedIn x weight (now cache) × (n ≤ 128) × T (within 1000 top) × T (within 1000 bound) ⌝ }
-    ensures { λ r. ⌜ r ≡ allCovered top n (scoreAmong (now (file .entry)) x (now (docs .entry)) (now (freqs .entry)))
-        && allCovered bound n (scoreAmong (now (file .entry)) x (now (docs .entry)) (now (freqs .entry))) ⌝ }
+    ensures { λ r. ⌜ r ≡ allCovered top n (scoreAmong (before file) x (before docs) (before freqs))
+        && allCovered bound n (scoreAmong (before file) x (before docs) (before freqs)) ⌝ }
 {
     let mut scores = [0.0f32; 128];
     bm25_block::score_block(

@@ -1,12 +1,4 @@
 // What one list is refused for: conditions 5 to 9, one pass over each block.
-ghost use mathlib.Core.Path.{_≡_};
-ghost use Prim.Native.Nat.{_≤_};
-ghost use Rattle.notefile.specs.Header.{documents, normReader};
-ghost use Rattle.notefile.specs.Skips.{lastBefore};
-ghost use Rattle.notefile.specs.Lists.{fullBlocks, previousDoc};
-ghost use Rattle.notefile.specs.Refusal.{blocksRefusal, listRefusal};
-ghost use Rattle.notefile.specs.Given.{Against, BlocksIn, Limits, PackedIn, Parted, Skipped};
-ghost use Rattle.notefile.specs.Reads.{TailValues, blockRefusal, lower};
 use crate::bounds::both_cover;
 use crate::skip::TailPlace;
 use crate::skip::tail_place;
@@ -21,6 +13,15 @@ use notefile::block::read_tail;
 use notefile::part::Part;
 use notefile::skip::last_before;
 use notefile::skip::read_skip_entry;
+ghost use mathlib.Core.Path.{_≡_};
+ghost use Prim.Native.Nat.{_≤_};
+ghost use Rattle.arrays.specs.Lent.{before};
+ghost use Rattle.notefile.specs.Header.{documents, normReader};
+ghost use Rattle.notefile.specs.Lists.{fullBlocks, previousDoc};
+ghost use Rattle.notefile.specs.Refusal.{blocksRefusal, listRefusal};
+ghost use Rattle.notefile.specs.Inner.Structs.{lastBefore};
+ghost use Rattle.notefile.specs.Inner.Given.{Against, BlocksIn, Limits, PackedIn, Parted, Skipped};
+ghost use Rattle.notefile.specs.Inner.Reads.{TailValues, blockRefusal, lower};
 
 // What full block b is refused for: 7, 8, 9 or nothing.
 fn check_block(
@@ -35,7 +36,7 @@ fn check_block(
     at: usize,
 ) -> u32
     requires { ⌜ Against (now file) x limit reader weight (now cache) top × PackedIn (now file) x b at × (lastBefore (now file) x b ≡ previousDoc (now file) x b) ⌝ }
-    ensures { λ r. ⌜ r ≡ blockRefusal (now (file .entry)) x b ⌝ }
+    ensures { λ r. ⌜ r ≡ blockRefusal (before file) x b ⌝ }
 {
     let e = read_skip_entry(file, x, b);
     let previous = last_before(file, x, b);
@@ -69,7 +70,7 @@ fn check_tail(
 ) -> u32
     requires { ⌜ Against (now file) x limit reader weight (now cache) top × Skipped (now file) x × TailValues (now file) x (now docs) (now freqs)
         × (lastBefore (now file) x (fullBlocks x) ≡ previousDoc (now file) x (fullBlocks x)) ⌝ }
-    ensures { λ r. ⌜ r ≡ blockRefusal (now (file .entry)) x (fullBlocks x) ⌝ }
+    ensures { λ r. ⌜ r ≡ blockRefusal (before file) x (fullBlocks x) ⌝ }
 {
     let b = x.count / 128;
     let n = x.count % 128;
@@ -113,7 +114,7 @@ fn check_blocks(
     top: f32,
 ) -> u32
     requires { ⌜ Against (now file) x limit reader weight (now cache) top × BlocksIn (now file) x ⌝ }
-    ensures { λ r. ⌜ r ≡ blocksRefusal (now (file .entry)) x (fullBlocks x) ⌝ }
+    ensures { λ r. ⌜ r ≡ blocksRefusal (before file) x (fullBlocks x) ⌝ }
 {
     let blocks = x.count / 128;
     let mut lowest: u32 = 0;
@@ -135,7 +136,7 @@ fn check_blocks(
 // What a list is refused for: 5 to 9, or nothing.
 pub fn check_list(file: &[u8], limit: u32, reader: FieldNormReader, x: Part) -> u32
     requires { ⌜ Parted (now file) x × Limits x × (limit ≡ documents (now file)) × (limit ≤ 1048576) × (reader ≡ normReader (now file)) ⌝ }
-    ensures { λ r. ⌜ r ≡ listRefusal (now (file .entry)) x ⌝ }
+    ensures { λ r. ⌜ r ≡ listRefusal (before file) x ⌝ }
 {
     let place = tail_place(file, x);
     let TailPlace::At(at) = place else {

@@ -1,15 +1,16 @@
 // Condition 5: a list's skip entries.
+use codec::bits::wide;
+use notefile::part::Part;
+use notefile::skip::skip_entry_at;
 ghost use mathlib.Core.Path.{_≡_};
 ghost use mathlib.Core.Bool.{_&&_};
 ghost use Prim.Native.Nat.{_/_, _%_};
 ghost use lib.Dec.{eqb, leb};
+ghost use Rattle.arrays.specs.Lent.{before};
 ghost use Rattle.notefile.specs.Lists.{tailAt};
 ghost use Rattle.notefile.specs.Conditions.{skipsRight};
-ghost use Rattle.notefile.specs.Given.{Parted};
-ghost use Rattle.listcheck.specs.Answers.{tailOr};
-use codec::bits::wide;
-use notefile::part::Part;
-use notefile::skip::skip_entry_at;
+ghost use Rattle.notefile.specs.Inner.Given.{Parted};
+ghost use Rattle.listcheck.specs.Inner.Answers.{tailOr};
 
 // Where a list's tail starts, or that its skip entries are wrong.
 pub enum TailPlace {
@@ -33,7 +34,7 @@ fn widths_right(byte: u32, freqs: u32) -> bool
 // Where the tail starts, if condition 5 is not met. The blocks before it may not lie in the file.
 pub fn tail_place(file: &[u8], x: Part) -> TailPlace
     requires { ⌜ Parted (now file) x ⌝ }
-    ensures { λ r. ⌜ r ≡ tailOr (skipsRight (now (file .entry)) x) (tailAt (now (file .entry)) x) ⌝ }
+    ensures { λ r. ⌜ r ≡ tailOr (skipsRight (before file) x) (tailAt (before file) x) ⌝ }
 {
     let blocks = x.count / 128;
     if x.skips + x.entry * blocks != x.postings {

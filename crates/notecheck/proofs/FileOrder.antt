@@ -13,14 +13,15 @@ use lib.Ieee.{binary32, ofBits}
 use borrow.Author.Tests.{le-leb, lt-leb, eq-eqb, ne-eqb}
 use Rattle.arrays.specs.Every.{every}
 use Rattle.bm25.specs.Limits.{averageOk}
-use Rattle.notefile.specs.Header.{listCount, documents, averageBits, normsAt, headerOf}
+use Rattle.notefile.specs.Header.{listCount, documents, averageBits, normsAt}
 use Rattle.notefile.specs.Parts.{skipsAt, partOf}
 use Rattle.notefile.specs.Conditions.{headerRight, averageRight, lengthRight, entryRight}
 use Rattle.notefile.specs.Refusal.{unless, orElse, listRefusal, listsRefusal, fileRefusal}
+use Rattle.notefile.specs.Inner.Structs.{headerOf}
 use Rattle.notefile.specs.declared.header.Header.{Header}
+use Rattle.notefile.proofs.Accepted.{after1, after2, after3}
 use Rattle.notecheck.specs.Answers.{answerOf}
 use Rattle.notecheck.specs.declared.check.Checked.the-variants.{Accepted, Refused}
-use Rattle.notefile.proofs.Accepted.{after1, after2, after3}
 
 first-stays : (m n : ℕ) → (m ≡ 0 → ⊥) → orElse m n ≡ m
 first-stays zero n h = absurd (h refl)

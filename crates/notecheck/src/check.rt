@@ -1,8 +1,4 @@
 // Whether a file is accepted: the table's conditions 1 to 9 in its order.
-ghost use mathlib.Core.Path.{_≡_};
-ghost use Rattle.notefile.specs.Refusal.{fileRefusal, listsRefusal};
-ghost use Rattle.notefile.specs.Given.{FileIn};
-ghost use Rattle.notecheck.specs.Answers.{answerOf};
 use crate::entry::entries_right;
 use crate::header::header_right;
 use listcheck::list::check_list;
@@ -14,6 +10,11 @@ use notefile::header::read_average;
 use notefile::header::read_header;
 use notefile::part::read_part;
 use notefile::part::skips_at;
+ghost use mathlib.Core.Path.{_≡_};
+ghost use Rattle.arrays.specs.Lent.{before};
+ghost use Rattle.notefile.specs.Refusal.{fileRefusal, listsRefusal};
+ghost use Rattle.notefile.specs.Inner.Given.{FileIn};
+ghost use Rattle.notecheck.specs.Answers.{answerOf};
 
 // A file is accepted, or refused with a number of the table.
 pub enum Checked {
@@ -24,7 +25,7 @@ pub enum Checked {
 // What the lists are refused for, the first list's refusal first.
 fn check_lists(file: &[u8], h: Header) -> u32
     requires { ⌜ FileIn (now file) h ⌝ }
-    ensures { λ r. ⌜ r ≡ listsRefusal (now (file .entry)) (h .lists) ⌝ }
+    ensures { λ r. ⌜ r ≡ listsRefusal (before file) (h .lists) ⌝ }
 {
     let lists = h.lists;
     let reader = norm_reader(file, h);
@@ -42,7 +43,7 @@ fn check_lists(file: &[u8], h: Header) -> u32
 
 // The number that a file is refused with, or 0.
 fn refusal(file: &[u8]) -> u32
-    ensures { λ r. ⌜ r ≡ fileRefusal (now (file .entry)) ⌝ }
+    ensures { λ r. ⌜ r ≡ fileRefusal (before file) ⌝ }
 {
     if !header_right(file) {
         return 1;
@@ -67,7 +68,7 @@ fn refusal(file: &[u8]) -> u32
 
 // Whether a file is accepted, for any bytes at all.
 pub fn check(file: &[u8]) -> Checked
-    ensures { λ r. ⌜ r ≡ answerOf (fileRefusal (now (file .entry))) ⌝ }
+    ensures { λ r. ⌜ r ≡ answerOf (fileRefusal (before file)) ⌝ }
 {
     let n = refusal(file);
     if n == 0 {

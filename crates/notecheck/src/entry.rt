@@ -1,18 +1,19 @@
 // Condition 4: the lists' entries.
-ghost use mathlib.Core.Path.{_≡_};
-ghost use Prim.Native.Nat.{_<_};
-ghost use Rattle.arrays.specs.Every.{every};
-ghost use Rattle.notefile.specs.Conditions.{entryRight};
-ghost use Rattle.notefile.specs.Given.{HeaderIn};
 use codec::bits::read_be;
 use notefile::header::ENTRY_LENGTH;
 use notefile::header::HEADER_LENGTH;
 use notefile::header::Header;
+ghost use mathlib.Core.Path.{_≡_};
+ghost use Prim.Native.Nat.{_<_};
+ghost use Rattle.arrays.specs.Lent.{before};
+ghost use Rattle.arrays.specs.Every.{every};
+ghost use Rattle.notefile.specs.Conditions.{entryRight};
+ghost use Rattle.notefile.specs.Inner.Given.{HeaderIn};
 
 // Whether condition 4 is not met by list l.
 fn entry_right(file: &[u8], h: Header, l: usize) -> bool
     requires { ⌜ HeaderIn (now file) h × (l < h .lists) ⌝ }
-    ensures { λ r. ⌜ r ≡ entryRight (now (file .entry)) l ⌝ }
+    ensures { λ r. ⌜ r ≡ entryRight (before file) l ⌝ }
 {
     let e = HEADER_LENGTH + ENTRY_LENGTH * l;
     let weight = read_be(file, e, 4) as u32;
@@ -26,7 +27,7 @@ fn entry_right(file: &[u8], h: Header, l: usize) -> bool
 // Whether condition 4 is not met.
 pub fn entries_right(file: &[u8], h: Header) -> bool
     requires { ⌜ HeaderIn (now file) h ⌝ }
-    ensures { λ r. ⌜ r ≡ every (h .lists) (entryRight (now (file .entry))) ⌝ }
+    ensures { λ r. ⌜ r ≡ every (h .lists) (entryRight (before file)) ⌝ }
 {
     let lists = h.lists;
     let mut right = true;

@@ -1,8 +1,9 @@
 // Condition 1: the header.
-ghost use mathlib.Core.Path.{_≡_};
-ghost use Rattle.notefile.specs.Conditions.{headerRight};
 use notefile::header::HEADER_LENGTH;
 use notefile::header::read_header;
+ghost use mathlib.Core.Path.{_≡_};
+ghost use Rattle.arrays.specs.Lent.{before};
+ghost use Rattle.notefile.specs.Conditions.{headerRight};
 
 const VERSION: u32 = 1;
 
@@ -12,7 +13,7 @@ const MAX_DOCUMENTS: u32 = 1048576;
 
 // Whether condition 1 is not met.
 pub fn header_right(file: &[u8]) -> bool
-    ensures { λ r. ⌜ r ≡ headerRight (now (file .entry)) ⌝ }
+    ensures { λ r. ⌜ r ≡ headerRight (before file) ⌝ }
 {
     if file.len() < HEADER_LENGTH {
         return false;

@@ -11,13 +11,13 @@ use lib.ListN.{length}
 use borrow.Author.Tests.{leb-true, eqb-true}
 use Rattle.arrays.specs.Every.{every}
 use Rattle.arrays.proofs.Every.{first-true, second-true, each, all}
-use Rattle.notefile.specs.Header.{listCount, normsAt, headerOf}
+use Rattle.notefile.specs.Header.{listCount, normsAt}
 use Rattle.notefile.specs.Parts.{skipsAt, partOf}
-use Rattle.notefile.specs.Skips.{lastBefore}
 use Rattle.notefile.specs.Lists.{fullBlocks, tailAt}
 use Rattle.notefile.specs.Conditions.{headerRight, averageRight, lengthRight, entryRight, skipRight, skipsRight, postingsRight, blockDocsRight, blockFreqsRight, boundsRight}
 use Rattle.notefile.specs.Refusal.{unless, orElse, blocksRefusal, listRefusal, listsRefusal, fileRefusal}
-use Rattle.notefile.specs.Given.{HeaderIn, Parted, BlocksIn, BlockRight, Limits}
+use Rattle.notefile.specs.Inner.Structs.{headerOf, lastBefore}
+use Rattle.notefile.specs.Inner.Given.{ListRight, HeaderIn, Parted, BlocksIn, BlockRight, Limits}
 use Rattle.notefile.specs.declared.part.Part.{Part}
 use Rattle.notefile.proofs.Headers.{few-documents, header-in}
 use Rattle.notefile.proofs.Entries.{parted, limits}
@@ -39,14 +39,6 @@ first-none (suc a) b e = e
 later-none : (a b : ℕ) → orElse a b ≡ 0 → b ≡ 0
 later-none zero b e = e
 later-none (suc a) b e = absurd (omega arith)
-
--- a list that meets none of conditions 5 to 9
-pub record ListRight (file : List ℕ) (x : Part) : Type 0 where
-  pub skips : skipsRight file x ≡ true
-  pub postings : postingsRight file x ≡ true
-  pub docs : (b : ℕ) → b ≤ fullBlocks x → blockDocsRight file x b ≡ true
-  pub freqs : (b : ℕ) → b ≤ fullBlocks x → blockFreqsRight file x b ≡ true
-  pub bounds : (b : ℕ) → b ≤ fullBlocks x → boundsRight file x b ≡ true
 
 pub list-right : (file : List ℕ) (x : Part) → listRefusal file x ≡ 0 → ListRight file x
 unfolding listRefusal blocksRefusal

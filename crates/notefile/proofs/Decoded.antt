@@ -8,16 +8,18 @@ use lib.Dec.{eqb, ltb}
 use lib.ListN.{getD}
 use borrow.Author.Tests.{ne-eqb}
 use Rattle.arrays.specs.Every.{every}
-use Rattle.compression.specs.Documents.{gapOf, baseAt, docAt, aboveLast, rises, docsRight, Summed, Checked}
-use Rattle.compression.specs.Frequencies.{freqRight, Counted}
 use Rattle.arrays.proofs.Every.{first-true}
+use Rattle.compression.specs.Documents.{gapOf, baseAt, docAt, aboveLast, rises, docsRight}
+use Rattle.compression.specs.Frequencies.{freqRight}
+use Rattle.compression.specs.Inner.Sums.{Summed, Checked}
+use Rattle.compression.specs.Inner.Counts.{Counted}
 use Rattle.compression.proofs.Differences.{right-word}
 use Rattle.compression.proofs.Counts.{right-freq}
 use Rattle.notefile.specs.Header.{documents}
 use Rattle.notefile.specs.Lists.{blockSize, isFirst, docValue, freqValue, strictIn, blockDoc, previousDoc, blockFreq}
 use Rattle.notefile.specs.Conditions.{docsRise, lastRight, blockDocsRight, blockFreqsRight}
-use Rattle.notefile.specs.Given.{BlockRight}
-use Rattle.notefile.specs.Reads.{FreqsRead}
+use Rattle.notefile.specs.Inner.Given.{BlockRight}
+use Rattle.notefile.specs.Inner.Reads.{FreqsRead}
 use Rattle.notefile.specs.declared.part.Part.{Part}
 
 -- tests that agree below n agree of all

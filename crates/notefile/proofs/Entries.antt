@@ -9,14 +9,14 @@ use lib.Dec.{leb}
 use lib.ListN.{length}
 use lib.Ieee.{binary32, ofBits}
 use Rattle.arrays.specs.Every.{every}
-use Rattle.codec.proofs.BitFields.{bits-lt}
 use Rattle.arrays.proofs.Order.{climbs}
 use Rattle.arrays.proofs.Every.{first-true, each}
+use Rattle.codec.proofs.BitFields.{bits-lt}
 use Rattle.bm25.specs.Limits.{weightOk}
 use Rattle.notefile.specs.Header.{documents}
 use Rattle.notefile.specs.Parts.{skipsAt, partOf, weightBits, documentCount}
 use Rattle.notefile.specs.Conditions.{entryRight, averageRight}
-use Rattle.notefile.specs.Given.{Parted, Limits}
+use Rattle.notefile.specs.Inner.Given.{Parted, Limits}
 
 module _ (file : List ℕ) (l : ℕ) where
   pub next-place : partOf file l .end ≡ skipsAt file (l + 1)

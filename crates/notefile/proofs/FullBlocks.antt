@@ -10,17 +10,19 @@ use lib.ListN.{length, getD}
 use lib.Pow.{pow-pos, pow-mono}
 use borrow.Author.Tests.{lt-ltb, leb-true, eqb-true}
 use Rattle.arrays.specs.Every.{every}
-use Rattle.bitpacker.specs.Packed.{packedAt, Unpacked}
 use Rattle.arrays.proofs.Every.{second-true, each}
 use Rattle.arrays.proofs.Order.{climbs}
-use Rattle.compression.specs.Documents.{Summed, Checked}
-use Rattle.compression.specs.Frequencies.{Counted}
+use Rattle.bitpacker.specs.Packed.{packedAt}
+use Rattle.bitpacker.specs.Inner.Rows.{Unpacked}
+use Rattle.compression.specs.Inner.Sums.{Summed, Checked}
+use Rattle.compression.specs.Inner.Counts.{Counted}
 use Rattle.notefile.specs.Header.{documents}
-use Rattle.notefile.specs.Skips.{lastDoc, docWidth, strictBlock, freqWidth, skipEntryOf, lastBefore, widthByte}
+use Rattle.notefile.specs.Skips.{lastDoc, docWidth, strictBlock, freqWidth, widthByte}
 use Rattle.notefile.specs.Lists.{fullBlocks, tailSize, isFull, blockSize, docValue, freqValue, strictIn, previousDoc, blockDoc, blockAt}
 use Rattle.notefile.specs.Conditions.{docsRise, lastRight, blockDocsRight, skipRight}
-use Rattle.notefile.specs.Given.{PackedIn, BlockRight, BlocksIn}
-use Rattle.notefile.specs.Reads.{DocsRead, FreqsRead, Loaded}
+use Rattle.notefile.specs.Inner.Structs.{skipEntryOf, lastBefore}
+use Rattle.notefile.specs.Inner.Given.{PackedIn, BlockRight, BlocksIn}
+use Rattle.notefile.specs.Inner.Reads.{DocsRead, FreqsRead, Loaded}
 use Rattle.notefile.specs.declared.part.Part.{Part}
 use Rattle.notefile.specs.declared.skip.SkipEntry.{SkipEntry}
 use Rattle.notefile.proofs.Decoded.{rise-is, docs-are, docs-loaded, freqs-are}

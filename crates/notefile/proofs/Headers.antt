@@ -7,15 +7,16 @@ use native.Mathlib.Nat.{add-zero}
 use lib.Dec.{eqb, leb}
 use lib.ListN.{length, getD}
 use borrow.Author.Tests.{leb-true, eq-eqb, ne-eqb}
+use Rattle.arrays.proofs.Every.{first-true, second-true}
 use Rattle.codec.specs.Bits.{bitsAt}
 use Rattle.codec.proofs.BitFields.{bits-cut, bits-lt}
-use Rattle.arrays.proofs.Every.{first-true, second-true}
 use Rattle.fieldnorm.specs.Reader.{fieldnormId}
 use Rattle.fieldnorm.specs.declared.FieldNormReader.the-variants.{FromData, Const}
-use Rattle.notefile.specs.Header.{headerOf, version, spare, listCount, documents, normKind, normCode, normsAt, readerOf, normReader, normCodeOf}
+use Rattle.notefile.specs.Header.{version, spare, listCount, documents, normKind, normCode, normsAt, readerOf, normReader, normCodeOf}
 use Rattle.notefile.specs.Parts.{skipsAt}
 use Rattle.notefile.specs.Conditions.{headerRight}
-use Rattle.notefile.specs.Given.{HeaderIn}
+use Rattle.notefile.specs.Inner.Structs.{headerOf}
+use Rattle.notefile.specs.Inner.Given.{HeaderIn}
 use Rattle.notefile.specs.declared.header.Header.{Header}
 
 -- a field of w bits at bit p, cut out of n bits at bit q: a bits into them and c bits before their end

@@ -10,18 +10,18 @@ use native.Mathlib.Omega.{arith}
 use lib.Dec.{ltb, leb}
 use lib.Ieee.{lt}
 use borrow.Author.Tests.{lt-ltb, le-ltb, ltb-true, leb-true, eqb-true, not-true}
-use Rattle.compression.specs.Documents.{docAt, rises}
-use Rattle.compression.specs.Frequencies.{freqRight}
 use Rattle.arrays.proofs.Order.{lt-or-ge}
 use Rattle.arrays.proofs.Every.{first-true, second-true, each}
+use Rattle.compression.specs.Documents.{docAt, rises}
+use Rattle.compression.specs.Frequencies.{freqRight}
 use Rattle.notefile.specs.Header.{documents}
 use Rattle.notefile.specs.Skips.{lastDoc}
 use Rattle.notefile.specs.Lists.{fullBlocks, tailSize, isFull, blockSize, isFirst, docValue, strictIn, blockDoc, previousDoc, blockFreq, blockScore, blockBound, listBound, listDoc, listFreq, listScore}
 use Rattle.notefile.specs.Conditions.{docsRise, lastRight, blockDocsRight, blockFreqsRight, covers, boundsRight}
+use Rattle.notefile.specs.Inner.Given.{ListRight}
 use Rattle.notefile.specs.declared.part.Part.{Part}
 use Rattle.notefile.proofs.Decoded.{doc-is}
 use Rattle.notefile.proofs.FullBlocks.{full-size}
-use Rattle.notefile.proofs.Accepted.{ListRight}
 
 module _ (file : List ℕ) (x : Part) (R : ListRight file x) where
   module _ (b : ℕ) (h : b ≤ fullBlocks x) where

@@ -8,7 +8,7 @@ use native.Mathlib.Omega.{arith}
 use lib.ListN.{length, getD, set, length-set}
 use lib.Seq.{getD-set-same, getD-set-other}
 use Rattle.arrays.proofs.Order.{lt-or-ge}
-use Rattle.notefile.specs.Reads.{Padded}
+use Rattle.notefile.specs.Inner.Reads.{Padded}
 
 -- the places from n up to i are done
 pub record Padding (before : List ℕ) (n : ℕ) (out : List ℕ) (i : ℕ) : Type 0 where

@@ -11,14 +11,14 @@ use Rattle.floats.specs.Step.{within}
 use Rattle.fieldnorm.specs.Reader.{fieldnormId}
 use Rattle.fieldnorm.specs.declared.FieldNormReader.{FieldNormReader}
 use Rattle.bm25.specs.Score.{scoreAt}
-use Rattle.bm25.specs.Weight.{scoreIn}
 use Rattle.bm25.specs.Bound.{maxTf}
+use Rattle.bm25.specs.Inner.Weight.{scoreIn}
 use Rattle.bm25.specs.declared.Bm25Weight.{Bm25Weight}
 use Rattle.bm25.proofs.Bounds.{score-within}
 use Rattle.bm25.proofs.WeightLaws.{score-in}
 use Rattle.notefile.specs.Header.{normReader, normCodeOf}
 use Rattle.notefile.specs.Lists.{scoreFor, blockBound, listBound}
-use Rattle.notefile.specs.Given.{Limits, WeightIn, weightOf, WeighedIn}
+use Rattle.notefile.specs.Inner.Given.{Limits, WeightIn, weightOf, WeighedIn}
 use Rattle.notefile.specs.declared.part.Part.{Part}
 use Rattle.notefile.proofs.Headers.{norm-code-small}
 

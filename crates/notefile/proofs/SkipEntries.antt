@@ -6,9 +6,10 @@ use native.Mathlib.Nat.{le-trans, le-of-eq, mul-le-mul-left, mul-suc}
 use native.Mathlib.Omega.{arith}
 use lib.ListN.{length}
 use Rattle.codec.specs.Bits.{wordAt}
-use Rattle.notefile.specs.Skips.{skipEntryAt, lastBefore}
+use Rattle.notefile.specs.Skips.{skipEntryAt}
 use Rattle.notefile.specs.Lists.{fullBlocks}
-use Rattle.notefile.specs.Given.{Skipped}
+use Rattle.notefile.specs.Inner.Structs.{lastBefore}
+use Rattle.notefile.specs.Inner.Given.{Skipped}
 use Rattle.notefile.specs.declared.part.Part.{Part}
 
 module _ (file : List ℕ) (x : Part) where

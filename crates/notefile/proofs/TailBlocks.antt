@@ -12,14 +12,15 @@ use Rattle.codec.specs.VInt.{pick, capped, valueOf, vintFrom, vintAt}
 use Rattle.codec.specs.VInts.{vintPlace, vintValue}
 use Rattle.codec.specs.declared.vint.VInt.{VInt}
 use Rattle.codec.specs.declared.vint.VInt.the-variants.{Value, Broken}
-use Rattle.compression.specs.Documents.{gapOf, Summed, Checked}
-use Rattle.compression.specs.Frequencies.{Counted}
+use Rattle.compression.specs.Documents.{gapOf}
+use Rattle.compression.specs.Inner.Sums.{Summed, Checked}
+use Rattle.compression.specs.Inner.Counts.{Counted}
 use Rattle.notefile.specs.Header.{documents}
 use Rattle.notefile.specs.Skips.{strictBlock}
 use Rattle.notefile.specs.Lists.{fullBlocks, tailSize, isFull, blockSize, tailAt, tailFreqsAt, docValue, freqValue, strictIn, previousDoc, blockFreq}
 use Rattle.notefile.specs.Conditions.{docsRise, lastRight, blockDocsRight}
-use Rattle.notefile.specs.Given.{BlockRight}
-use Rattle.notefile.specs.Reads.{TailValues, DocsRead, FreqsRead, Padded, Loaded}
+use Rattle.notefile.specs.Inner.Given.{BlockRight}
+use Rattle.notefile.specs.Inner.Reads.{TailValues, DocsRead, FreqsRead, Padded, Loaded}
 use Rattle.notefile.specs.declared.part.Part.{Part}
 use Rattle.notefile.proofs.Decoded.{rise-is, docs-are, docs-loaded, freqs-are}
 

@@ -9,13 +9,14 @@ use lib.Dec.{eqb}
 use lib.ListN.{getD}
 use borrow.Author.Tests.{le-leb, lt-leb, le-ltb}
 use Rattle.arrays.specs.Every.{every}
-use Rattle.codec.specs.VInts.{vintPlace, vintValue, vintWhole, endOr, VIntsRead}
+use Rattle.arrays.proofs.Every.{each, all}
+use Rattle.codec.specs.VInts.{vintPlace, vintValue, vintWhole}
+use Rattle.codec.specs.Inner.VIntRows.{endOr, VIntsRead}
 use Rattle.codec.specs.declared.vint.VInts.{VInts}
 use Rattle.codec.specs.declared.vint.VInts.the-variants.{End, Broken}
-use Rattle.arrays.proofs.Every.{each, all}
 use Rattle.notefile.specs.Lists.{fullBlocks, tailSize, isFull, tailAt, tailFreqsAt, docValue, freqValue}
 use Rattle.notefile.specs.Conditions.{postingsRight}
-use Rattle.notefile.specs.Reads.{TailRead}
+use Rattle.notefile.specs.Inner.Reads.{TailRead}
 use Rattle.notefile.specs.declared.part.Part.{Part}
 
 -- what an answer of the VInts says

@@ -7,8 +7,8 @@ use lib.Ieee.{add, mul, div, sub, round, ofInt, le, lt, ofBits}
 use Rattle.codec.specs.Bits.{bitsAt}
 use Rattle.codec.specs.VInts.{vintPlace, vintValue, vintWhole}
 use Rattle.codec.specs.VInt.{vintAt}
-use Rattle.compression.specs.Documents.{docAt}
 use Rattle.fieldnorm.specs.Code.{fieldnorm}
+use Rattle.compression.specs.Documents.{docAt}
 use Rattle.bm25.specs.Score.{scoreOf}
 use Rattle.bm25.specs.Limits.{averageOk}
 use Rattle.notefile.specs.Header.{normCodeOf}
@@ -16,15 +16,8 @@ use Rattle.notefile.specs.Parts.{partOf}
 use Rattle.notefile.specs.Lists.{fullBlocks, tailSize, blockScore, listBound}
 use Rattle.notefile.specs.Conditions.{headerRight, averageRight, lengthRight, entryRight, skipsRight, postingsRight, blockDocsRight, blockFreqsRight, boundsRight}
 use Rattle.notefile.specs.Refusal.{fileRefusal}
+use Rattle.notefile.specs.Small.{small}
 use Rattle.notefile.specs.declared.part.Part.{Part}
-
-abbrev pub small : List ℕ
-small =
-    0x18 ∷ 0x80 ∷ 0x40 ∷ 0x00 ∷ 0x08 ∷ 0x41 ∷ 0x00 ∷ 0x00 ∷ 0x00
-    ∷ 0x44 ∷ 0x7A ∷ 0x00 ∷ 0x00 ∷ 0x00 ∷ 0x00 ∷ 0x10 ∷ 0x00 ∷ 0x00 ∷ 0x00 ∷ 0x00 ∷ 0x00 ∷ 0x04
-    ∷ 0x43 ∷ 0xFA ∷ 0x00 ∷ 0x00 ∷ 0x00 ∷ 0x00 ∷ 0x10 ∷ 0x00 ∷ 0x00 ∷ 0x00 ∷ 0x00 ∷ 0x00 ∷ 0x04
-    ∷ 0x81 ∷ 0x82 ∷ 0x81 ∷ 0x83
-    ∷ 0x80 ∷ 0x83 ∷ 0x81 ∷ 0x81 ∷ []
 
 pub small-accepted : fileRefusal small ≡ 0
 unfolding fileRefusal headerRight averageRight lengthRight entryRight skipsRight postingsRight blockDocsRight blockFreqsRight boundsRight bitsAt partOf vintPlace vintValue vintWhole vintAt docAt normCodeOf blockScore listBound averageOk scoreOf fieldnorm add mul div sub ofInt round le lt ofBits

@@ -7,7 +7,6 @@ use Rattle.codec.specs.Bits.{bitsAt}
 use Rattle.fieldnorm.specs.Reader.{fieldnormId}
 use Rattle.fieldnorm.specs.declared.FieldNormReader.{FieldNormReader}
 use Rattle.fieldnorm.specs.declared.FieldNormReader.the-variants.{FromData, Const}
-use Rattle.notefile.specs.declared.header.Header.{Header}
 
 -- the header's bytes, which are the least that a file has
 abbrev pub headerLength : ℕ
@@ -44,10 +43,6 @@ module _ (file : List ℕ) where
   -- the average field length of list l, as bits: one for all of them
   abbrev pub averageBits : ℕ → ℕ
   averageBits l = bitsAt file 40 32
-
-  -- the header as the code has it
-  unfoldable pub headerOf : Header
-  headerOf = record { version = version; kind = normKind; lists = listCount; code = normCode; documents = documents; spare = spare }
 
   -- the place after the entries, where norm bytes stand if there are any
   abbrev pub normsAt : ℕ

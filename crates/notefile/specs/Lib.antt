@@ -6,5 +6,5 @@ pub mod Skips
 pub mod Lists
 pub mod Conditions
 pub mod Refusal
-pub mod Given
-pub mod Reads
+pub mod Small
+pub mod Inner

@@ -4,8 +4,8 @@ use mathlib.Core.List.{List}
 use Prim.Native.Nat.{ℕ, zero, suc, _+_, _*_, _/_, _%_}
 use lib.Dec.{ltb}
 use lib.Ieee.{Float, binary32, ofBits}
-use Rattle.bitpacker.specs.Packed.{packedAt}
 use Rattle.codec.specs.VInts.{vintPlace, vintValue}
+use Rattle.bitpacker.specs.Packed.{packedAt}
 use Rattle.compression.specs.Documents.{gapOf, docAt}
 use Rattle.bm25.specs.Score.{scoreOf}
 use Rattle.bm25.specs.Bound.{maxTf}

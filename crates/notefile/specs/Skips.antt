@@ -1,12 +1,11 @@
 -- 01, The note file, on skip entries: one for each full block.
 use mathlib.Core.Bool.{Bool}
 use mathlib.Core.List.{List}
-use Prim.Native.Nat.{ℕ, zero, suc, _+_, _-_, _*_, _/_, _%_}
+use Prim.Native.Nat.{ℕ, _+_, _-_, _*_, _/_, _%_}
 use lib.Dec.{eqb}
 use lib.ListN.{getD}
 use Rattle.codec.specs.Bits.{wordAt}
 use Rattle.notefile.specs.declared.part.Part.{Part}
-use Rattle.notefile.specs.declared.skip.SkipEntry.{SkipEntry}
 
 -- the place of block b's skip entry
 abbrev pub skipEntryAt : Part → ℕ → ℕ
@@ -37,19 +36,3 @@ module _ (file : List ℕ) (x : Part) where
 
   abbrev pub maxFreqCode : ℕ → ℕ
   maxFreqCode b = getD file (skipEntryAt x b + x .entry - 1) 0
-
-  -- block b's skip entry, as the code has it
-  unfoldable pub skipEntryOf : ℕ → SkipEntry
-  skipEntryOf b = record {
-    last = lastDoc b;
-    width = docWidth b;
-    strict = strictBlock b;
-    freqs = freqWidth b;
-    norm = maxNormCode b;
-    freq = maxFreqCode b;
-  }
-
-  -- the last document of the skip entry before block b's, which the Rust takes for the previous document; before the first there is none
-  abbrev pub lastBefore : ℕ → ℕ
-  lastBefore zero = 0
-  lastBefore (suc b) = lastDoc b

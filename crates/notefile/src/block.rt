@@ -1,14 +1,4 @@
 // The blocks of a list: read with the tests of conditions 6 to 8, or loaded without them.
-ghost use mathlib.Core.Path.{_≡_};
-ghost use mathlib.Core.Bool.{true};
-ghost use Prim.Native.Nat.{_≤_};
-ghost use lib.ListN.{length};
-ghost use Rattle.notefile.specs.Header.{documents};
-ghost use Rattle.notefile.specs.Skips.{skipEntryOf};
-ghost use Rattle.notefile.specs.Lists.{fullBlocks, previousDoc, tailAt};
-ghost use Rattle.notefile.specs.Conditions.{postingsRight};
-ghost use Rattle.notefile.specs.Given.{BlockRight, PackedIn, Skipped};
-ghost use Rattle.notefile.specs.Reads.{DocsRead, FreqsRead, Loaded, Padded, TailRead};
 use crate::part::Part;
 use crate::skip::SkipEntry;
 use crate::skip::read_skip_entry;
@@ -18,6 +8,17 @@ use codec::vint::read_vints;
 use compression::documents::documents;
 use compression::documents::sums;
 use compression::frequencies::frequencies;
+ghost use mathlib.Core.Path.{_≡_};
+ghost use mathlib.Core.Bool.{true};
+ghost use Prim.Native.Nat.{_≤_};
+ghost use lib.ListN.{length};
+ghost use Rattle.arrays.specs.Lent.{before, after};
+ghost use Rattle.notefile.specs.Header.{documents};
+ghost use Rattle.notefile.specs.Lists.{fullBlocks, previousDoc, tailAt};
+ghost use Rattle.notefile.specs.Conditions.{postingsRight};
+ghost use Rattle.notefile.specs.Inner.Structs.{skipEntryOf};
+ghost use Rattle.notefile.specs.Inner.Given.{BlockRight, PackedIn, Skipped};
+ghost use Rattle.notefile.specs.Inner.Reads.{DocsRead, FreqsRead, Loaded, Padded, TailRead};
 
 pub const TERMINATED: u32 = 2147483647;
 
@@ -34,7 +35,7 @@ pub fn packed_docs(
 ) -> bool
     requires { ⌜ PackedIn (now file) x b at × (e ≡ skipEntryOf (now file) x b) × (previous ≡ previousDoc (now file) x b) × (limit ≡ documents (now file)) × (limit ≤ 1048576)
         × (length (now docs) ≡ 128) ⌝ }
-    ensures { λ r. ⌜ DocsRead (now (file .entry)) x b r (now (docs .exit)) ⌝ }
+    ensures { λ r. ⌜ DocsRead (before file) x b r (after docs) ⌝ }
 {
     unpack(file, at, e.width, docs);
     if documents(docs, 128, e.strict, b == 0, previous, limit) {
@@ -54,7 +55,7 @@ pub fn packed_freqs(
     freqs: &mut [u32; 128],
 ) -> bool
     requires { ⌜ PackedIn (now file) x b at × (e ≡ skipEntryOf (now file) x b) × (length (now freqs) ≡ 128) ⌝ }
-    ensures { λ r. ⌜ FreqsRead (now (file .entry)) x b r (now (freqs .exit)) ⌝ }
+    ensures { λ r. ⌜ FreqsRead (before file) x b r (after freqs) ⌝ }
 {
     unpack(file, at + 16 * (e.width as usize), e.freqs, freqs);
     frequencies(freqs, 128, e.strict)
@@ -69,7 +70,7 @@ pub fn read_tail(
     freqs: &mut [u32; 128],
 ) -> bool
     requires { ⌜ Skipped (now file) x × (at ≡ tailAt (now file) x) × (length (now docs) ≡ 128) × (length (now freqs) ≡ 128) ⌝ }
-    ensures { λ r. ⌜ TailRead (now (file .entry)) x r (now (docs .exit)) (now (freqs .exit)) ⌝ }
+    ensures { λ r. ⌜ TailRead (before file) x r (after docs) (after freqs) ⌝ }
 {
     if x.end < at {
         return false;
@@ -89,7 +90,7 @@ pub fn read_tail(
 // TERMINATED in the places from n on.
 fn pad(values: &mut [u32; 128], n: usize)
     requires { ⌜ length (now values) ≡ 128 ⌝ }
-    ensures { λ _. ⌜ Padded (now (values .entry)) n (now (values .exit)) ⌝ }
+    ensures { λ _. ⌜ Padded (before values) n (after values) ⌝ }
 {
     let mut i = n;
     while i < 128 {
@@ -100,7 +101,7 @@ fn pad(values: &mut [u32; 128], n: usize)
 
 // An array of 128 has 128 places.
 fn places(values: &[u32; 128]) -> usize
-    ensures { λ r. ⌜ (r ≡ 128) × (length (now (values .entry)) ≡ 128) ⌝ }
+    ensures { λ r. ⌜ (r ≡ 128) × (length (before values) ≡ 128) ⌝ }
 {
     (&values[..]).len()
 }
@@ -116,7 +117,7 @@ pub fn load_packed(
     freqs: &mut [u32; 128],
 )
     requires { ⌜ PackedIn (now file) x b at × BlockRight (now file) x b previous ⌝ }
-    ensures { λ _. ⌜ Loaded (now (file .entry)) x b (now (docs .exit)) (now (freqs .exit)) ⌝ }
+    ensures { λ _. ⌜ Loaded (before file) x b (after docs) (after freqs) ⌝ }
 {
     places(docs);
     places(freqs);
@@ -136,7 +137,7 @@ pub fn load_tail(
     freqs: &mut [u32; 128],
 )
     requires { ⌜ Skipped (now file) x × (at ≡ tailAt (now file) x) × (postingsRight (now file) x ≡ true) × BlockRight (now file) x (fullBlocks x) previous ⌝ }
-    ensures { λ _. ⌜ Loaded (now (file .entry)) x (fullBlocks x) (now (docs .exit)) (now (freqs .exit)) ⌝ }
+    ensures { λ _. ⌜ Loaded (before file) x (fullBlocks x) (after docs) (after freqs) ⌝ }
 {
     places(docs);
     places(freqs);

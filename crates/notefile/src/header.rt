@@ -1,11 +1,13 @@
 // The header.
+use codec::bits::read_be;
+use fieldnorm::FieldNormReader;
 ghost use mathlib.Core.Path.{_≡_};
 ghost use Prim.Native.Nat.{_≤_};
 ghost use lib.ListN.{length};
-ghost use Rattle.notefile.specs.Header.{averageBits, headerOf, normReader};
-ghost use Rattle.notefile.specs.Given.{HeaderIn};
-use codec::bits::read_be;
-use fieldnorm::FieldNormReader;
+ghost use Rattle.arrays.specs.Lent.{before};
+ghost use Rattle.notefile.specs.Header.{averageBits, normReader};
+ghost use Rattle.notefile.specs.Inner.Structs.{headerOf};
+ghost use Rattle.notefile.specs.Inner.Given.{HeaderIn};
 
 pub const HEADER_LENGTH: usize = 9;
 
@@ -23,7 +25,7 @@ pub struct Header {
 
 pub fn read_header(file: &[u8]) -> Header
     requires { ⌜ 9 ≤ length (now file) ⌝ }
-    ensures { λ r. ⌜ r ≡ headerOf (now (file .entry)) ⌝ }
+    ensures { λ r. ⌜ r ≡ headerOf (before file) ⌝ }
 {
     let x = read_be(file, 0, 5);
     Header {
@@ -39,7 +41,7 @@ pub fn read_header(file: &[u8]) -> Header
 // The average field length of list l, as bits: the header has one for every list.
 pub fn read_average(file: &[u8], l: usize) -> u32
     requires { ⌜ 9 ≤ length (now file) ⌝ }
-    ensures { λ r. ⌜ r ≡ averageBits (now (file .entry)) l ⌝ }
+    ensures { λ r. ⌜ r ≡ averageBits (before file) l ⌝ }
 {
     read_be(file, 5, 4) as u32
 }
@@ -47,7 +49,7 @@ pub fn read_average(file: &[u8], l: usize) -> u32
 // Where the norm codes stand.
 pub fn norm_reader(file: &[u8], h: Header) -> FieldNormReader
     requires { ⌜ HeaderIn (now file) h ⌝ }
-    ensures { λ r. ⌜ r ≡ normReader (now (file .entry)) ⌝ }
+    ensures { λ r. ⌜ r ≡ normReader (before file) ⌝ }
 {
     if h.kind == 0 {
         return FieldNormReader::FromData(HEADER_LENGTH + ENTRY_LENGTH * h.lists);

@@ -1,14 +1,15 @@
 // Each list's entry, and the parts of the file.
-ghost use mathlib.Core.Path.{_≡_};
-ghost use Prim.Native.Nat.{_+_, _*_, _≤_, _<_};
-ghost use lib.ListN.{length};
-ghost use Rattle.notefile.specs.Parts.{entryAt, skipsAt, partOf};
-ghost use Rattle.notefile.specs.Given.{HeaderIn};
 use crate::header::ENTRY_LENGTH;
 use crate::header::HEADER_LENGTH;
 use crate::header::Header;
 use crate::header::read_average;
 use codec::bits::read_be;
+ghost use mathlib.Core.Path.{_≡_};
+ghost use Prim.Native.Nat.{_+_, _*_, _≤_, _<_};
+ghost use lib.ListN.{length};
+ghost use Rattle.arrays.specs.Lent.{before, after};
+ghost use Rattle.notefile.specs.Parts.{entryAt, skipsAt, partOf};
+ghost use Rattle.notefile.specs.Inner.Given.{HeaderIn};
 
 // A list's entry, with the places of its skip bytes and its postings. Weight and average are bits; `entry` is the length of a skip entry.
 pub struct Part {
@@ -24,7 +25,7 @@ pub struct Part {
 // List l's part, whose skip bytes stand at a place. The nine bytes after the weight are read as two numbers of eight bytes.
 fn part_at(file: &[u8], l: usize, at: usize) -> Part
     requires { ⌜ (entryAt (l + 1) ≤ length (now file)) × (l < 32) × (at ≡ skipsAt (now file) l) × (at < 1099511627776) ⌝ }
-    ensures { λ r. ⌜ r ≡ partOf (now (file .entry)) l ⌝ }
+    ensures { λ r. ⌜ r ≡ partOf (before file) l ⌝ }
 {
     let e = HEADER_LENGTH + ENTRY_LENGTH * l;
     let weight = read_be(file, e, 4) as u32;
@@ -47,7 +48,7 @@ fn part_at(file: &[u8], l: usize, at: usize) -> Part
 // Where list n's skip bytes stand; of the list count, where the parts end.
 pub fn skips_at(file: &[u8], h: Header, n: usize) -> usize
     requires { ⌜ HeaderIn (now file) h × (n ≤ h .lists) ⌝ }
-    ensures { λ r. ⌜ (r ≡ skipsAt (now (file .entry)) n) × (r ≤ 2097152 + 134217728 * n) ⌝ }
+    ensures { λ r. ⌜ (r ≡ skipsAt (before file) n) × (r ≤ 2097152 + 134217728 * n) ⌝ }
 {
     let mut at = HEADER_LENGTH + ENTRY_LENGTH * h.lists;
     if h.kind == 0 {
@@ -65,7 +66,7 @@ pub fn skips_at(file: &[u8], h: Header, n: usize) -> usize
 // List l's part.
 pub fn read_part(file: &[u8], h: Header, l: usize) -> Part
     requires { ⌜ HeaderIn (now file) h × (l < h .lists) ⌝ }
-    ensures { λ r. ⌜ r ≡ partOf (now (file .entry)) l ⌝ }
+    ensures { λ r. ⌜ r ≡ partOf (before file) l ⌝ }
 {
     part_at(file, l, skips_at(file, h, l))
 }

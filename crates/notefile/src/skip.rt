@@ -1,13 +1,15 @@
 // Skip entries: one for each full block of a list.
-ghost use mathlib.Core.Path.{_≡_};
-ghost use Prim.Native.Nat.{_+_, _≤_, _<_};
-ghost use lib.ListN.{length};
-ghost use Rattle.notefile.specs.Skips.{lastBefore, skipEntryAt, skipEntryOf};
-ghost use Rattle.notefile.specs.Lists.{fullBlocks};
-ghost use Rattle.notefile.specs.Given.{Skipped};
 use crate::part::Part;
 use codec::bits::read_u32;
 use codec::bits::wide;
+ghost use mathlib.Core.Path.{_≡_};
+ghost use Prim.Native.Nat.{_+_, _≤_, _<_};
+ghost use lib.ListN.{length};
+ghost use Rattle.arrays.specs.Lent.{before};
+ghost use Rattle.notefile.specs.Skips.{skipEntryAt};
+ghost use Rattle.notefile.specs.Lists.{fullBlocks};
+ghost use Rattle.notefile.specs.Inner.Structs.{lastBefore, skipEntryOf};
+ghost use Rattle.notefile.specs.Inner.Given.{Skipped};
 
 // A skip entry. `width` and `freqs` are the widths of documents and frequencies, `norm` and `freq` the codes of the block's bound.
 pub struct SkipEntry {
@@ -22,7 +24,7 @@ pub struct SkipEntry {
 // Where block b's skip entry stands.
 pub fn skip_entry_at(file: &[u8], x: Part, b: usize) -> usize
     requires { ⌜ Skipped (now file) x × (b < fullBlocks x) ⌝ }
-    ensures { λ r. ⌜ (r ≡ skipEntryAt x b) × (8 ≤ x .entry) × (r + x .entry ≤ length (now (file .entry))) ⌝ }
+    ensures { λ r. ⌜ (r ≡ skipEntryAt x b) × (8 ≤ x .entry) × (r + x .entry ≤ length (before file)) ⌝ }
 {
     x.skips + x.entry * b
 }
@@ -30,7 +32,7 @@ pub fn skip_entry_at(file: &[u8], x: Part, b: usize) -> usize
 // Block b's skip entry.
 pub fn read_skip_entry(file: &[u8], x: Part, b: usize) -> SkipEntry
     requires { ⌜ Skipped (now file) x × (b < fullBlocks x) ⌝ }
-    ensures { λ r. ⌜ r ≡ skipEntryOf (now (file .entry)) x b ⌝ }
+    ensures { λ r. ⌜ r ≡ skipEntryOf (before file) x b ⌝ }
 {
     let at = skip_entry_at(file, x, b);
     let byte = wide(file[at + 4]);
@@ -47,7 +49,7 @@ pub fn read_skip_entry(file: &[u8], x: Part, b: usize) -> SkipEntry
 // The last document before block b, by its skip entry; 0 before the first.
 pub fn last_before(file: &[u8], x: Part, b: usize) -> u32
     requires { ⌜ Skipped (now file) x × (b ≤ fullBlocks x) ⌝ }
-    ensures { λ r. ⌜ r ≡ lastBefore (now (file .entry)) x b ⌝ }
+    ensures { λ r. ⌜ r ≡ lastBefore (before file) x b ⌝ }
 {
     if b == 0 {
         return 0;

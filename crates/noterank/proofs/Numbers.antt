@@ -8,20 +8,20 @@ use lib.Dec.{leb}
 use lib.ListN.{length}
 use lib.Ieee.{Float}
 use borrow.Author.Tests.{le-leb, lt-leb}
-use Rattle.bm25.specs.declared.Scoring.{Scoring}
-use Rattle.bm25.specs.declared.Scoring.the-variants.{Unstepped, Stepped}
-use Rattle.notefile.specs.Header.{listCount}
-use Rattle.notefile.specs.Refusal.{fileRefusal}
-use Rattle.notecheck.specs.Answers.{answerOf}
-use Rattle.notecheck.specs.declared.check.Checked.{Checked}
-use Rattle.notecheck.specs.declared.check.Checked.the-variants.{Accepted, Refused}
 use Rattle.route.specs.Report.{Report}
 use Rattle.route.specs.Rule as rules
+use Rattle.bm25.specs.declared.Scoring.{Scoring}
+use Rattle.bm25.specs.declared.Scoring.the-variants.{Unstepped, Stepped}
 use Rattle.rule.specs.Right.{isFinite}
 use Rattle.rule.specs.declared.Rule.{Rule}
 use Rattle.rule.specs.declared.Rule.the-variants.{BestK}
+use Rattle.notefile.specs.Header.{listCount}
+use Rattle.notefile.specs.Refusal.{fileRefusal}
 use Rattle.reports.specs.Rows.{rowsOf}
 use Rattle.reports.proofs.RowLaws.{none-written}
+use Rattle.notecheck.specs.Answers.{answerOf}
+use Rattle.notecheck.specs.declared.check.Checked.{Checked}
+use Rattle.notecheck.specs.declared.check.Checked.the-variants.{Accepted, Refused}
 use Rattle.request.specs.Request.{orElse, queryRight, refusalOf}
 use Rattle.request.specs.declared.Mode.{Mode}
 use Rattle.request.specs.declared.Mode.the-variants.{Single}

@@ -1,19 +1,19 @@
 -- The C interface: each argument's numbers, and an answer as a number, a count and rows.
 use mathlib.Core.Path.{_≡_}
-use mathlib.Core.Bool.{Bool, _&&_, cond}
-use mathlib.Core.List.{List, []}
+use mathlib.Core.Bool.{_&&_, cond}
+use mathlib.Core.List.{List}
 use Prim.Native.Nat.{ℕ, zero, suc, min}
 use lib.Dec.{leb}
 use lib.ListN.{length}
 use lib.Ieee.{Float}
-use Rattle.bm25.specs.declared.Scoring.{Scoring}
-use Rattle.bm25.specs.declared.Scoring.the-variants.{Unstepped, Stepped}
-use Rattle.notefile.specs.Header.{listCount}
-use Rattle.notefile.specs.Refusal.{fileRefusal}
 use Rattle.route.specs.Report.{Report}
 use Rattle.route.specs.Rule as rules
+use Rattle.bm25.specs.declared.Scoring.{Scoring}
+use Rattle.bm25.specs.declared.Scoring.the-variants.{Unstepped, Stepped}
 use Rattle.rule.specs.declared.Rule.{Rule}
 use Rattle.rule.specs.declared.Rule.the-variants.{Script, BestK}
+use Rattle.notefile.specs.Header.{listCount}
+use Rattle.notefile.specs.Refusal.{fileRefusal}
 use Rattle.reports.specs.Rows.{rowsOf, Written}
 use Rattle.request.specs.Request.{orElse, queryRight, refusalOf}
 use Rattle.request.specs.declared.Mode.{Mode}

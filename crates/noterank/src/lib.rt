@@ -10,6 +10,7 @@ use request::refusal;
 use rule::Rule;
 ghost use mathlib.Core.Path.{_≡_};
 ghost use Prim.Native.Nat.{min};
+ghost use Rattle.arrays.specs.Lent.{before, after};
 ghost use Rattle.notefile.specs.Refusal.{fileRefusal};
 ghost use Rattle.ranking.specs.Answers.{countOf, numberOf};
 ghost use Rattle.noterank.specs.Interface.{modeAt, numbersRefusal, ruleAt, scoringAt, OutcomeBy, Ranked};
@@ -17,7 +18,7 @@ ghost use Rattle.noterank.specs.Interface.{modeAt, numbersRefusal, ruleA
 // 0 for an accepted file, or the number of its refusal.
 #[no_mangle]
 pub extern "C" fn noterank_check(file: &[u8]) -> u32
-    ensures { λ r. ⌜ r ≡ fileRefusal (now (file .entry)) ⌝ }
+    ensures { λ r. ⌜ r ≡ fileRefusal (before file) ⌝ }
 {
     match check(file) {
         Checked::Accepted => 0,
@@ -66,7 +67,7 @@ fn numbers_refusal(
     rule: u32,
     script: &[f32],
 ) -> u32
-    ensures { λ r. ⌜ r ≡ numbersRefusal (now (file .entry)) (now (query .entry)) walk mode scoring rule ⌝ }
+    ensures { λ r. ⌜ r ≡ numbersRefusal (before file) (before query) walk mode scoring rule ⌝ }
 {
     let wrong = Rule::BestK(0.0, 0);
     if walk <= 1 {
@@ -108,7 +109,7 @@ fn by_walk(
     documents: &mut [u32],
     scores: &mut [f32],
 ) -> Outcome
-    ensures { λ r. ⌜ OutcomeBy walk (now (file .entry)) (now (query .entry)) mode scoring rule (now (script .entry)) (now (documents .entry)) (now (scores .entry)) r (now (documents .exit)) (now (scores .exit)) ⌝ }
+    ensures { λ r. ⌜ OutcomeBy walk (before file) (before query) mode scoring rule (before script) (before documents) (before scores) r (after documents) (after scores) ⌝ }
 {
     if walk == 0 {
         return run(file, query, mode, scoring, rule, script, documents, scores);
@@ -161,7 +162,7 @@ pub extern "C" fn noterank_run(
     scores: &mut [f32],
     count: &mut u32,
 ) -> u32
-    ensures { λ r. ⌜ Ranked (now (file .entry)) (now (query .entry)) walk mode scoring rule start k (now (script .entry)) (now (documents .entry)) (now (scores .entry)) r (now (count .exit)) (now (documents .exit)) (now (scores .exit)) ⌝ }
+    ensures { λ r. ⌜ Ranked (before file) (before query) walk mode scoring rule start k (before script) (before documents) (before scores) r (after count) (after documents) (after scores) ⌝ }
 {
     let number = numbers_refusal(file, query, walk, mode, scoring, rule, script);
     if number != 0 {

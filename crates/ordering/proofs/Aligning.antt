@@ -11,12 +11,12 @@ use borrow.Author.Tests.{eq-eqb, ne-eqb}
 use Rattle.route.specs.Lists.{All}
 use Rattle.route.specs.Scorer.{Scorer, docOf, seek}
 use Rattle.route.specs.Union.{Around, alignOn, alignScorers, aligned, missed}
+use Rattle.ordering.specs.Inner.Scorers.{Apart, noScorer, slotOf, Same}
 use Rattle.ordering.specs.declared.TermScorer.{TermScorer}
-use Rattle.ordering.specs.Scorers.{Apart, noScorer}
 use Rattle.ordering.proofs.Places.{all-drop, all-first, all-take, drop-take, drop-take-cons, drop-take-nil, map-append}
-use Rattle.ordering.proofs.Kept.{Off, others-apart, slotOf, slots-apart}
+use Rattle.ordering.proofs.Kept.{Off, others-apart, slots-apart}
 use Rattle.ordering.proofs.Turns.{SameOff, all-off, replaced-slots, same-map}
-use Rattle.ordering.proofs.Moving.{Same, all-refl, all-same, slots-length}
+use Rattle.ordering.proofs.Moving.{all-refl, all-same, slots-length}
 
 module _ (B p : ℕ) where
   -- those before the ones that sought stay where they were

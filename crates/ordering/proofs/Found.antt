@@ -11,9 +11,9 @@ use Rattle.route.specs.Lists.{All}
 use Rattle.route.specs.F32.{f32}
 use Rattle.route.specs.Postings.{TERMINATED}
 use Rattle.route.proofs.Cases.{on-test}
+use Rattle.ordering.specs.Inner.Pivots.{Found, beforePivot, countOn, highest, maxOf, pivotAt, pivotOf, placeOfHighest, placeToSeek}
 use Rattle.ordering.specs.declared.TermScorer.{TermScorer}
 use Rattle.ordering.specs.declared.Pivot.the-variants.{At, Nowhere}
-use Rattle.ordering.specs.Pivots.{beforePivot, countOn, highest, maxOf, pivotAt, pivotOf, placeOfHighest, placeToSeek}
 use Rattle.ordering.proofs.Places.{drop-take}
 
 count-le : (d : ℕ) (xs : List TermScorer) → countOn d xs ≤ length xs
@@ -23,13 +23,6 @@ count-le d (x ∷ xs) = let ih = count-le d xs in on-test (eqb (x .doc) d) (λ t
 count-on : (d : ℕ) (xs : List TermScorer) → All (λ s. s .doc ≡ d) (take (countOn d xs) xs)
 count-on d [] = tt
 count-on d (x ∷ xs) = let ih = count-on d xs in on-test (eqb (x .doc) d) (λ t. rw t (eqb-true (x .doc) d t, ih)) (λ t. rw t tt)
-
--- the scorers from before on, up to len, stand on doc, which is a document
-pub record Found (l : List TermScorer) (before len doc : ℕ) : Type 0 where
-  pub first : before < len
-  pub inside : len ≤ length l
-  pub on : All (λ s. s .doc ≡ doc) (drop before (take len l))
-  pub live : doc ≡ TERMINATED → ⊥
 
 found-at : (l : List TermScorer) (b₀ b k d : ℕ) (m : List TermScorer) → drop b₀ l ≡ m → At b k d ≡ pivotAt b₀ m → Found l b k d
 found-at l b₀ b k d [] e q = let z : _≡_ {A = ℕ} 0 1 = cc in absurd (omega arith)

@@ -10,15 +10,11 @@ use lib.Seq.{drop-cons, drop-drop, drop-set-lt, getD-drop, set-getD, take-suc, t
 use lib.Ieee.{Float}
 use Rattle.route.specs.Lists.{All}
 use Rattle.route.specs.Scorer.{Scorer}
+use Rattle.ordering.specs.Inner.Scorers.{Apart, Moving, Same, noScorer, slotOf}
 use Rattle.ordering.specs.declared.TermScorer.{TermScorer}
-use Rattle.ordering.specs.Scorers.{Apart, noScorer}
 use Rattle.ordering.proofs.Places.{map-append}
-use Rattle.ordering.proofs.Kept.{others-apart, slotOf, slots-apart}
+use Rattle.ordering.proofs.Kept.{others-apart, slots-apart}
 use Rattle.ordering.proofs.Turns.{SameOff, all-off, replaced-slots, same-map}
-
--- g says of s what f says
-abbrev pub Same : (f g : TermScorer → Scorer Float) → TermScorer → Type 0
-Same f g s = g s ≡ f s
 
 pub all-same : (f g : TermScorer → Scorer Float) (l : List TermScorer) → All (Same f g) l → map g l ≡ map f l
 all-same f g [] a = refl
@@ -30,13 +26,6 @@ all-refl f (x ∷ l) = (refl, all-refl f l)
 
 pub slots-length : (l l′ : List TermScorer) → map slotOf l′ ≡ map slotOf l → length l′ ≡ length l
 slots-length l l′ e = sym (length-map l′ slotOf) ∙ ap length e ∙ length-map l slotOf
-
--- the first i have made the move m, and from place i on nothing has changed
-pub record Moving (m : Scorer Float → Scorer Float) (f : TermScorer → Scorer Float) (l : List TermScorer) (i : ℕ) (g : TermScorer → Scorer Float) (l′ : List TermScorer) : Type 0 where
-  pub slots : map slotOf l′ ≡ map slotOf l
-  pub front : map g (take i l′) ≡ map m (map f (take i l))
-  pub rest : drop i l′ ≡ drop i l
-  pub same : All (Same f g) (drop i l)
 
 module _ (m : Scorer Float → Scorer Float) (f : TermScorer → Scorer Float) (l : List TermScorer) where
   pub moving : Moving m f l 0 f l

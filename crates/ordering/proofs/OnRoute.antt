@@ -16,11 +16,11 @@ use Rattle.route.specs.Scorer.{Scorer, docOf, maxScore}
 use Rattle.route.specs.Union.{Around, Pivot, findPivotDoc, leastDoc, liveOnly, missedOn, offDoc, onDoc, pivotFrom, pushPre, scorerToSeek}
 use Rattle.route.proofs.Cases.{on-test}
 use Rattle.route.proofs.Lists.{all-imp}
+use Rattle.ordering.specs.Inner.Scorers.{byDoc, leastDocOf, moved, noScorer, returned}
+use Rattle.ordering.specs.Inner.Pivots.{beforePivot, countOn, highest, maxOf, pivotAt, pivotOf, placeToSeek}
 use Rattle.ordering.specs.declared.TermScorer.{TermScorer}
 use Rattle.ordering.specs.declared.Pivot as code
 use Rattle.ordering.specs.declared.Pivot.the-variants.{At, Nowhere}
-use Rattle.ordering.specs.Scorers.{byDoc, leastDocOf, moved, noScorer, returned}
-use Rattle.ordering.specs.Pivots.{beforePivot, countOn, highest, maxOf, pivotAt, pivotOf, placeToSeek}
 use Rattle.ordering.proofs.Places.{all-at, all-drop, drop-take, fromPlace-split, join, map-append}
 use Rattle.ordering.proofs.Carried as carried
 

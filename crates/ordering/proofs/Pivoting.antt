@@ -11,10 +11,10 @@ use lib.Ieee.{Float}
 use borrow.Author.Tests.{eq-eqb, ne-eqb}
 use Rattle.route.specs.F32.{f32}
 use Rattle.route.specs.Postings.{TERMINATED}
+use Rattle.ordering.specs.Inner.Scorers.{noScorer}
+use Rattle.ordering.specs.Inner.Pivots.{beforePivot, countOn, maxOf, pivotAt, pivotOf}
 use Rattle.ordering.specs.declared.TermScorer.{TermScorer}
 use Rattle.ordering.specs.declared.Pivot.the-variants.{At, Nowhere}
-use Rattle.ordering.specs.Scorers.{noScorer}
-use Rattle.ordering.specs.Pivots.{beforePivot, countOn, maxOf, pivotAt, pivotOf}
 use Rattle.ordering.proofs.Places.{drop-take-cons, drop-take-nil}
 
 module _ (maxScores : List Float) (t : Float) (l : List TermScorer) (n : ℕ) where

@@ -6,7 +6,7 @@ use native.Mathlib.Omega.{arith}
 use lib.ListN.{drop, getD, length, length-take, take, take-append-drop}
 use lib.Seq.{drop-cons, getD-take, take-nil}
 use Rattle.route.specs.Lists.{All}
-use Rattle.ordering.specs.Scorers.{fromPlace}
+use Rattle.ordering.specs.Inner.Scorers.{fromPlace}
 
 module _ {A : Type 0} where
   pub drop-take-cons : (l : List A) (n i : ℕ) (d : A) → i < n → n ≤ length l → drop i (take n l) ≡ getD l i d ∷ drop (suc i) (take n l)

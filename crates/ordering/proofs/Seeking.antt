@@ -9,9 +9,9 @@ use native.Mathlib.Omega.{arith}
 use lib.ListN.{drop, getD, length, take}
 use lib.Ieee.{Float}
 use Rattle.route.specs.F32.{f32}
+use Rattle.ordering.specs.Inner.Scorers.{leastDocOf, noScorer}
+use Rattle.ordering.specs.Inner.Pivots.{highest, maxOf, placeOfHighest, placeToSeek}
 use Rattle.ordering.specs.declared.TermScorer.{TermScorer}
-use Rattle.ordering.specs.Scorers.{leastDocOf, noScorer}
-use Rattle.ordering.specs.Pivots.{highest, maxOf, placeOfHighest, placeToSeek}
 use Rattle.ordering.proofs.Places.{drop-take-cons, drop-take-nil}
 
 module _ (maxScores : List Float) (l : List TermScorer) (n : ℕ) where

@@ -13,11 +13,11 @@ use Rattle.route.specs.Ordering.{restoreOrdering, sortBy, sweep}
 use Rattle.route.specs.Scorer.{Scorer, advance, docOf, seek}
 use Rattle.route.specs.Union.{advanceAllScorersOnPivot, behind, blockMaxWasTooLow, leastDoc, leastLastDoc}
 use Rattle.route.proofs.Lists.{all-append}
+use Rattle.ordering.specs.Inner.Scorers.{Apart, byDoc, leastDocOf, moved, noScorer, slotOf}
+use Rattle.ordering.specs.Inner.Pivots.{placeToSeek}
 use Rattle.ordering.specs.declared.TermScorer.{TermScorer}
-use Rattle.ordering.specs.Scorers.{Apart, byDoc, leastDocOf, moved, noScorer}
-use Rattle.ordering.specs.Pivots.{placeToSeek}
 use Rattle.ordering.proofs.Places.{all-drop, all-take, join, map-append}
-use Rattle.ordering.proofs.Kept.{Off, kept-all, others-apart, slotOf, sweep-kept}
+use Rattle.ordering.proofs.Kept.{Off, kept-all, others-apart, sweep-kept}
 use Rattle.ordering.proofs.Found.{seek-inside}
 use Rattle.ordering.proofs.OnRoute.{Fair, SameDoc, around, fair-docs, least-on-route, restored-on-route, seek-on-route, sorted-on-route, swept-on-route}
 

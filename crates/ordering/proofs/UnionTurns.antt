@@ -14,13 +14,14 @@ use Rattle.route.specs.Report.{dueAt}
 use Rattle.route.specs.Scorer.{Scorer, blockMaxScore, scoreHere, seekBlock}
 use Rattle.route.specs.Route.{Turn, quiet}
 use Rattle.route.specs.Union.{Around, UnionPlace, advanceAllScorersOnPivot, afterAlign, afterPivot, alignScorers, aligned, blockMaxWasTooLow, goOn, missed, missedOn, onPivot, unionTurn}
+use Rattle.ordering.specs.Inner.Pivots.{pivotOf, Found}
+use Rattle.ordering.specs.Inner.Scorers.{Moving}
 use Rattle.ordering.specs.declared.TermScorer.{TermScorer}
 use Rattle.ordering.specs.declared.Pivot.the-variants.{At, Nowhere}
-use Rattle.ordering.specs.Pivots.{pivotOf}
 use Rattle.ordering.proofs.Places.{drop-take, join, map-append, map-drop, map-take}
 use Rattle.ordering.proofs.OnRoute.{Fair, pivot-on-route, pivotIn}
-use Rattle.ordering.proofs.Found.{Found, pivot-found}
-use Rattle.ordering.proofs.Moving.{Moving, all-same}
+use Rattle.ordering.proofs.Found.{pivot-found}
+use Rattle.ordering.proofs.Moving.{all-same}
 
 module _ (B : ℕ) (t : Float) (l : List TermScorer) (before len p : ℕ) (first : before ≤ len) where
   -- the pivot's scorers follow those before it

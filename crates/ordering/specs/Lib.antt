@@ -1,3 +1,2 @@
 -- What the contracts of `ordering` cite.
-pub mod Scorers
-pub mod Pivots
+pub mod Inner

@@ -1,2 +1,2 @@
 -- What the contracts of `ordering_lent` cite.
-pub mod Restored
+pub mod Inner

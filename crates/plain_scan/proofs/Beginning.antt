@@ -7,28 +7,29 @@ use native.Mathlib.Nat.{zero-add}
 use native.Mathlib.Omega.{arith}
 use lib.ListN.{length, getD}
 use lib.Ieee.{Float}
-use Rattle.bm25.specs.declared.Scoring.{Scoring}
-use Rattle.notefile.specs.Header.{documents}
-use Rattle.notefile.specs.Parts.{partOf}
-use Rattle.notefile.specs.declared.part.Part.{Part}
 use Rattle.route.specs.Cursor.{Cursor}
 use Rattle.route.specs.F32.{f32}
 use Rattle.route.specs.Plain.{Mode, hit, present}
 use Rattle.route.specs.Postings.{Postings}
 use Rattle.route.specs.Report.{Report}
-use Rattle.route.proofs.Cursor.{Wf, Past, fresh-is}
+use Rattle.route.specs.Inner.Cursors.{Wf, Past}
+use Rattle.route.proofs.Cursor.{fresh-is}
 use Rattle.route.proofs.Scan.{scan-ext}
-use Rattle.rule.specs.declared.Rule.{Rule}
-use Rattle.decoded.specs.Lists.{listOf, postingsOf, queried}
-use Rattle.postings.specs.Decoded.{docIn}
-use Rattle.reports.specs.Runs.{callbackOf}
-use Rattle.term_scorer.specs.Slots.{Held, partAt, listAt}
+use Rattle.bm25.specs.declared.Scoring.{Scoring}
 use Rattle.ordering.specs.declared.TermScorer.{TermScorer}
-use Rattle.query.specs.Fresh.{Arrays, QueryOpened}
+use Rattle.rule.specs.declared.Rule.{Rule}
+use Rattle.notefile.specs.Header.{documents}
+use Rattle.notefile.specs.Parts.{partOf}
+use Rattle.notefile.specs.declared.part.Part.{Part}
+use Rattle.reports.specs.Inner.Runs.{callbackOf}
+use Rattle.decoded.specs.Lists.{listOf, postingsOf, queried}
+use Rattle.postings.specs.Inner.Decoded.{docIn}
+use Rattle.term_scorer.specs.Inner.Slots.{Held, partAt, listAt}
+use Rattle.query.specs.Inner.Fresh.{Arrays, QueryOpened}
+use Rattle.plain_scan.specs.Inner.Found.{foundOf, hitIn}
+use Rattle.plain_scan.specs.Inner.Heads.{listsFrom, AllWeighed, HeadsOf, Ready, Standing, StandsFrom}
+use Rattle.plain_scan.specs.Inner.Runs.{hits, needsAll, plainOf, scanned, PlainRan}
 use Rattle.plain_scan.specs.declared.PlainRun.{PlainRun}
-use Rattle.plain_scan.specs.Found.{foundOf, hitIn}
-use Rattle.plain_scan.specs.Heads.{listsFrom, AllWeighed, HeadsOf, Ready, Standing, StandsFrom}
-use Rattle.plain_scan.specs.Runs.{hits, needsAll, plainOf, scanned, PlainRan}
 use Rattle.plain_scan.proofs.Slots.{ok}
 use Rattle.plain_scan.proofs.Sums.{hit-is}
 

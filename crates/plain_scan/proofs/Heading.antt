@@ -8,10 +8,10 @@ use native.Mathlib.Omega.{arith}
 use lib.ListN.{getD, set, length-set}
 use lib.Seq.{getD-set-same, getD-set-other}
 use Rattle.arrays.proofs.Order.{lt-or-ge}
-use Rattle.term_scorer.specs.Slots.{Sixteen}
+use Rattle.ordering.specs.Inner.Scorers.{noScorer}
 use Rattle.ordering.specs.declared.TermScorer.{TermScorer}
-use Rattle.ordering.specs.Scorers.{noScorer}
-use Rattle.plain_scan.specs.Heads.{leastIn, HeadsOf}
+use Rattle.term_scorer.specs.Inner.Slots.{Sixteen}
+use Rattle.plain_scan.specs.Inner.Heads.{leastIn, HeadsOf}
 
 pub no-heads : (scorers : List TermScorer) (heads : List ℕ) → Sixteen heads → HeadsOf scorers 0 heads
 no-heads scorers heads l = record { long = l; are = λ q h. absurd (omega (arith, h)) }

@@ -11,8 +11,6 @@ use lib.ListN.{length}
 use lib.Ieee.{Float, lt}
 use borrow.Author.Tests.{le-leb}
 use Rattle.arrays.proofs.Order.{lt-or-ge}
-use Rattle.bm25.specs.declared.Scoring.{Scoring}
-use Rattle.notefile.specs.Header.{documents}
 use Rattle.route.specs.F32.{f32}
 use Rattle.route.specs.Report.{Report}
 use Rattle.route.specs.Rule.{Outcome, limited}
@@ -20,17 +18,21 @@ use Rattle.route.specs.Postings.{scoreOf}
 use Rattle.route.specs.Plain.{optList, present, scan, turnOf}
 use Rattle.route.proofs.Cases.{lt-of-ne, on-test}
 use Rattle.route.proofs.Rows.{plain-full}
-use Rattle.rule.specs.Follows.{Follows, ruleOf, startOf}
+use Rattle.bm25.specs.declared.Scoring.{Scoring}
+use Rattle.rule.specs.Rules.{ruleOf, startOf}
+use Rattle.rule.specs.Inner.Follows.{Follows}
 use Rattle.rule.specs.declared.Rule.{Rule}
 use Rattle.rule.specs.declared.Threshold.{Threshold}
-use Rattle.reports.specs.Rows.{rowsOf, Kept, Reported, Written}
-use Rattle.reports.specs.Runs.{callbackOf, outcomeOf}
+use Rattle.notefile.specs.Header.{documents}
+use Rattle.reports.specs.Rows.{rowsOf, Written}
+use Rattle.reports.specs.Inner.Rows.{Kept, Reported}
+use Rattle.reports.specs.Inner.Runs.{callbackOf, outcomeOf}
 use Rattle.reports.proofs.RowLaws.{begun, count-is, documents-long, one-more, scores-long, threshold-is}
-use Rattle.term_scorer.specs.Slots.{Held, listAt}
+use Rattle.term_scorer.specs.Inner.Slots.{Held, listAt}
+use Rattle.plain_scan.specs.Inner.Found.{dueIn, foundOf, hitIn, matchesIn}
+use Rattle.plain_scan.specs.Inner.Heads.{leastIn, listsFrom, Standing, Taken}
+use Rattle.plain_scan.specs.Inner.Runs.{hits, scanned, PlainRan}
 use Rattle.plain_scan.specs.declared.Found.{Found}
-use Rattle.plain_scan.specs.Found.{dueIn, foundOf, hitIn, matchesIn}
-use Rattle.plain_scan.specs.Heads.{leastIn, listsFrom, Standing, Taken}
-use Rattle.plain_scan.specs.Runs.{hits, scanned, PlainRan}
 use Rattle.plain_scan.proofs.Heading.{least-above, least-cap, least-found, least-low}
 use Rattle.plain_scan.proofs.Slots.{absent, below, few-documents, raised}
 

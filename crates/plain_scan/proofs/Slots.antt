@@ -9,20 +9,21 @@ use lib.ListN.{length, getD, set, length-set}
 use lib.Seq.{getD-set-same, getD-set-other}
 use lib.Ieee.{Float}
 use Rattle.arrays.proofs.Order.{lt-or-ge}
+use Rattle.route.specs.Postings.{Postings, docAt, scoreOf}
+use Rattle.route.specs.Cursor.{Cursor, advanceIn, docHere}
+use Rattle.route.specs.Inner.Lists.{ListOk}
+use Rattle.route.specs.Inner.Cursors.{Wf, Past}
+use Rattle.route.proofs.Places.{docAt-in, docAt-out, docAt-lt, docAt-le}
+use Rattle.route.proofs.Cursor.{Advanced, past-up, on-block, advance-is}
+use Rattle.route.proofs.Looking.{score-none, score-at}
 use Rattle.bm25.specs.declared.Scoring.{Scoring}
 use Rattle.notefile.specs.Header.{documents}
 use Rattle.notefile.specs.Lists.{fullBlocks}
-use Rattle.route.specs.Postings.{Postings, docAt, scoreOf}
-use Rattle.route.specs.Cursor.{Cursor, advanceIn, docHere}
-use Rattle.route.proofs.ListLaws.{ListOk}
-use Rattle.route.proofs.Places.{docAt-in, docAt-out, docAt-lt, docAt-le}
-use Rattle.route.proofs.Cursor.{Wf, Past, Advanced, past-up, on-block, advance-is}
 use Rattle.decoded.specs.Lists.{listOf}
 use Rattle.decoded.proofs.AcceptedLists.{list-ok}
-use Rattle.postings.specs.Decoded.{docIn, doc-is}
-use Rattle.term_scorer.specs.Slots.{Held, Sixteen, SlotIn, MovedSlot, partAt, listAt, cursorAt}
-use Rattle.plain_scan.specs.Heads.{StandsFrom}
-use Rattle.route.proofs.Looking.{score-none, score-at}
+use Rattle.postings.specs.Inner.Decoded.{docIn, doc-is}
+use Rattle.term_scorer.specs.Inner.Slots.{Held, Sixteen, SlotIn, MovedSlot, partAt, listAt, cursorAt}
+use Rattle.plain_scan.specs.Inner.Heads.{StandsFrom}
 
 module _ (scoring : Scoring) (file : List ℕ) (lists : List (List ℕ)) where
   -- the laws of a slot's list

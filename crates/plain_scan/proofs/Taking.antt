@@ -9,15 +9,15 @@ use native.Mathlib.Omega.{arith}
 use lib.ListN.{length, getD, set, length-set, length-append}
 use lib.Ieee.{Float}
 use Rattle.arrays.proofs.Order.{lt-or-ge}
-use Rattle.route.proofs.Cases.{lt-of-ne}
-use Rattle.bm25.specs.declared.Scoring.{Scoring}
 use Rattle.route.specs.Cursor.{advanceIn}
 use Rattle.route.specs.Plain.{optList, present}
 use Rattle.route.specs.Postings.{scoreOf}
-use Rattle.term_scorer.specs.Slots.{Held, Sixteen, MovedSlot, listAt, cursorAt}
+use Rattle.route.proofs.Cases.{lt-of-ne}
+use Rattle.bm25.specs.declared.Scoring.{Scoring}
+use Rattle.term_scorer.specs.Inner.Slots.{Held, Sixteen, MovedSlot, listAt, cursorAt}
+use Rattle.plain_scan.specs.Inner.Found.{foundOf, withScore}
+use Rattle.plain_scan.specs.Inner.Heads.{listsFrom, StandsFrom, Standing, Taken}
 use Rattle.plain_scan.specs.declared.Found.{Found}
-use Rattle.plain_scan.specs.Found.{foundOf, withScore}
-use Rattle.plain_scan.specs.Heads.{listsFrom, StandsFrom, Standing, Taken}
 use Rattle.plain_scan.proofs.Sums.{found-snoc}
 use Rattle.plain_scan.proofs.Slots.{raised, absent, has, goes-on, unmoved}
 

@@ -1,4 +1,2 @@
 -- What the contracts of `plain_scan` cite.
-pub mod Found
-pub mod Heads
-pub mod Runs
+pub mod Inner

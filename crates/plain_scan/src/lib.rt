@@ -12,13 +12,14 @@ use term_scorer::slot;
 ghost use mathlib.Core.Path.{_≡_};
 ghost use Prim.Native.Nat.{_≤_, _<_};
 ghost use lib.ListN.{length};
-ghost use Rattle.notefile.specs.Header.{normReader};
+ghost use Rattle.arrays.specs.Lent.{before, after};
 ghost use Rattle.route.specs.Plain.{Mode};
-ghost use Rattle.rule.specs.Follows.{Keeps};
-ghost use Rattle.term_scorer.specs.Slots.{held};
-ghost use Rattle.plain_scan.specs.Found.{dueIn, withScore};
-ghost use Rattle.plain_scan.specs.Heads.{leastIn, AllWeighed, HeadsOf, Ready, Standing, Taken};
-ghost use Rattle.plain_scan.specs.Runs.{needsAll, plainOf, PlainRan, scanned};
+ghost use Rattle.rule.specs.Inner.Follows.{Keeps};
+ghost use Rattle.notefile.specs.Header.{normReader};
+ghost use Rattle.term_scorer.specs.Inner.Slots.{held};
+ghost use Rattle.plain_scan.specs.Inner.Found.{dueIn, withScore};
+ghost use Rattle.plain_scan.specs.Inner.Heads.{leastIn, AllWeighed, HeadsOf, Ready, Standing, Taken};
+ghost use Rattle.plain_scan.specs.Inner.Runs.{needsAll, plainOf, PlainRan, scanned};
 
 // What the lists have of a document: how many have it, and the sum of its scores there.
 struct Found {
@@ -86,7 +87,7 @@ fn heads_of(scorers: [TermScorer; 16], n: usize) -> [u32; 16]
 // The least document on which one of the first n scorers stands.
 fn least(heads: &[u32; 16], n: usize) -> u32
     requires { ⌜ n ≤ 16 ⌝ }
-    ensures { λ r. ⌜ r ≡ leastIn (now (heads .entry)) n ⌝ }
+    ensures { λ r. ⌜ r ≡ leastIn (before heads) n ⌝ }
 {
     let mut doc = TERMINATED;
     let mut q = 0usize;
@@ -116,7 +117,7 @@ fn take_document(
     freqs: &mut [[u32; 128]; 16],
 ) -> Found
     requires { ⌜ (n ≤ 16) × (norms ≡ normReader (now file)) × AllWeighed (now lists) (now weights) (now caches) n × Standing scoring (now file) (now lists) n doc (held (now places) (now docs) (now freqs)) (now heads) × (doc < 2147483647) ⌝ }
-    ensures { λ r. ⌜ Taken scoring (now (file .entry)) (now (lists .entry)) n doc r (held (now (places .exit)) (now (docs .exit)) (now (freqs .exit))) (now (heads .exit)) ⌝ }
+    ensures { λ r. ⌜ Taken scoring (before file) (before lists) n doc r (held (after places) (after docs) (after freqs)) (after heads) ⌝ }
 {
     let mut found = Found {
         matched: 0,
@@ -167,7 +168,7 @@ fn scan(
     scores: &mut [f32],
 ) -> PlainRun
     requires { ⌜ (n ≤ 16) × (norms ≡ normReader (now file)) × AllWeighed (now lists) (now weights) (now caches) n × Standing scoring (now file) (now lists) n 0 (held (now places) (now docs) (now freqs)) (now heads) × Keeps rule ⌝ }
-    ensures { λ r. ⌜ PlainRan (scanned scoring (now (file .entry)) (now (lists .entry)) n all rule (now (script .entry))) (now (documents .entry)) (now (scores .entry)) r (now (documents .exit)) (now (scores .exit)) ⌝ }
+    ensures { λ r. ⌜ PlainRan (scanned scoring (before file) (before lists) n all rule (before script)) (before documents) (before scores) r (after documents) (after scores) ⌝ }
 {
     let room = rows(documents, scores);
     let mut threshold = Threshold::new(rule);
@@ -225,7 +226,7 @@ pub fn plain_scan(
     scores: &mut [f32],
 ) -> PlainRun
     requires { ⌜ (length (now query) ≤ 16) × (norms ≡ normReader (now file)) × Ready (now file) (now query) (now lists) (now weights) (now caches) (held (now places) (now docs) (now freqs)) scorers × Keeps rule ⌝ }
-    ensures { λ r. ⌜ ((m : Mode) → needsAll m ≡ all → PlainRan (plainOf scoring (now (file .entry)) (now (query .entry)) m rule (now (script .entry))) (now (documents .entry)) (now (scores .entry)) r (now (documents .exit)) (now (scores .exit))) ⌝ }
+    ensures { λ r. ⌜ ((m : Mode) → needsAll m ≡ all → PlainRan (plainOf scoring (before file) (before query) m rule (before script)) (before documents) (before scores) r (after documents) (after scores)) ⌝ }
 {
     let n = query.len();
     let mut heads = heads_of(scorers, n);

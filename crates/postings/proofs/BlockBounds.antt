@@ -11,30 +11,30 @@ use lib.Dec.{eqb}
 use lib.ListN.{getD}
 use lib.Ieee.{Float, nan, binary32, ofBits}
 use borrow.Author.Tests.{lt-ltb, le-ltb, eq-eqb, ne-eqb}
+use Rattle.arrays.proofs.Order.{lt-or-ge}
 use Rattle.floats.specs.Maximum.{larger}
 use Rattle.fieldnorm.specs.declared.FieldNormReader.{FieldNormReader}
-use Rattle.bm25.specs.Scoring.{scored}
-use Rattle.bm25.specs.Bound.{maxScore, blockMaxScore}
-use Rattle.bm25.specs.declared.Bm25Weight.{Bm25Weight}
-use Rattle.bm25.specs.declared.Scoring.{Scoring}
-use Rattle.bm25.proofs.WeightLaws.{max-score-is, block-max-score-is}
-use Rattle.bm25_block.specs.Block.{Scored}
-use Rattle.notefile.specs.Header.{normReader}
-use Rattle.notefile.specs.Skips.{maxNormCode, maxFreqCode}
-use Rattle.notefile.specs.Lists.{fullBlocks, scoreFor, blockScore, blockBound, listBound, listScore}
-use Rattle.notefile.specs.Given.{WeightIn}
-use Rattle.notefile.specs.Reads.{scoreAmong}
-use Rattle.notefile.specs.declared.part.Part.{Part}
-use Rattle.notefile.proofs.Scores.{apart, score-of-doc}
 use Rattle.route.specs.F32.{f32}
 use Rattle.route.specs.Postings.{Postings, start}
 use Rattle.route.specs.Cursor.{maxFrom, tailMax, blockMax}
-use Rattle.arrays.proofs.Order.{lt-or-ge}
+use Rattle.bm25.specs.Scoring.{scored}
+use Rattle.bm25.specs.Inner.Bound.{maxScore, blockMaxScore}
+use Rattle.bm25.specs.declared.Bm25Weight.{Bm25Weight}
+use Rattle.bm25.specs.declared.Scoring.{Scoring}
+use Rattle.bm25.proofs.WeightLaws.{max-score-is, block-max-score-is}
+use Rattle.bm25_block.specs.Inner.Block.{Scored}
+use Rattle.notefile.specs.Header.{normReader}
+use Rattle.notefile.specs.Skips.{maxNormCode, maxFreqCode}
+use Rattle.notefile.specs.Lists.{fullBlocks, scoreFor, blockScore, blockBound, listBound, listScore}
+use Rattle.notefile.specs.Inner.Given.{WeightIn}
+use Rattle.notefile.specs.Inner.Reads.{scoreAmong}
+use Rattle.notefile.specs.declared.part.Part.{Part}
+use Rattle.notefile.proofs.Scores.{apart, score-of-doc}
 use Rattle.decoded.specs.Lists.{listOf}
-use Rattle.postings.specs.Bounds.{mostFrom, mostOf}
-use Rattle.postings.specs.Decoded.{Decoded}
-use Rattle.postings.specs.Reader.{remaining}
-use Rattle.postings.specs.Places.{cursorOf}
+use Rattle.postings.specs.Inner.Bounds.{mostFrom, mostOf}
+use Rattle.postings.specs.Inner.Decoded.{Decoded}
+use Rattle.postings.specs.Inner.Reader.{remaining}
+use Rattle.postings.specs.Inner.Places.{cursorOf}
 use Rattle.postings.specs.declared.cursor.SegmentPostings.{SegmentPostings}
 use Rattle.postings.proofs.Readers.{Packed}
 

@@ -8,21 +8,21 @@ use native.Mathlib.Numerals.{add-one}
 use native.Mathlib.Omega.{arith}
 use lib.ListN.{getD}
 use borrow.Author.Tests.{lt-ltb, le-ltb, le-leb}
-use Rattle.arrays.specs.Holds.{Holds}
+use Rattle.arrays.specs.Inner.Holds.{Holds}
 use Rattle.arrays.proofs.Order.{lt-or-ge}
 use Rattle.arrays.proofs.Every.{all}
-use Rattle.block_search.specs.Search.{Sorted}
-use Rattle.notefile.specs.Skips.{lastBefore}
+use Rattle.block_search.specs.Inner.Segments.{Sorted}
+use Rattle.route.specs.Postings.{start}
 use Rattle.notefile.specs.Lists.{fullBlocks, blockSize, blockAt}
 use Rattle.notefile.specs.Conditions.{blockDocsRight}
-use Rattle.notefile.specs.Given.{BlockRight, PackedIn}
-use Rattle.notefile.specs.Reads.{Loaded}
+use Rattle.notefile.specs.Inner.Structs.{lastBefore}
+use Rattle.notefile.specs.Inner.Given.{BlockRight, PackedIn}
+use Rattle.notefile.specs.Inner.Reads.{Loaded}
 use Rattle.notefile.specs.declared.part.Part.{Part}
 use Rattle.notefile.proofs.FullBlocks.{packed-in, previous-same}
 use Rattle.notefile.proofs.ListLaws.{place-in, list-doc-below, list-docs-rise}
-use Rattle.route.specs.Postings.{start}
-use Rattle.postings.specs.Decoded.{docIn, freqIn, Decoded, ListIn}
-use Rattle.postings.specs.Reader.{Stands, remaining}
+use Rattle.postings.specs.Inner.Decoded.{docIn, freqIn, Decoded, ListIn}
+use Rattle.postings.specs.Inner.Reader.{Stands, remaining}
 use Rattle.postings.specs.declared.skip.SkipReader.{SkipReader}
 use Rattle.postings.proofs.Readers.{place-is, previous-is}
 

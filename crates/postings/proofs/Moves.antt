@@ -13,17 +13,17 @@ use borrow.Author.Tests.{lt-ltb, le-ltb, le-leb, lt-leb, eq-eqb, ne-eqb}
 use Rattle.arrays.proofs.Order.{lt-or-ge}
 use Rattle.block_search.specs.Search.{countBelow}
 use Rattle.block_search.proofs.Segments.{place-test, at-most}
+use Rattle.route.specs.Postings.{Postings, start, docAt, lastDoc as endOf}
+use Rattle.route.specs.Cursor.{Cursor, fresh, findIn, skipTo, seekBlockIn, loadAt, seekIn, advanceIn}
 use Rattle.bm25.specs.declared.Scoring.{Scoring}
 use Rattle.bm25.specs.declared.Scoring.the-variants.{Unstepped}
 use Rattle.notefile.specs.Lists.{fullBlocks}
 use Rattle.notefile.specs.declared.part.Part.{Part}
 use Rattle.notefile.proofs.ListLaws.{last-is}
-use Rattle.route.specs.Postings.{Postings, start, docAt, lastDoc as endOf}
-use Rattle.route.specs.Cursor.{Cursor, fresh, findIn, skipTo, seekBlockIn, loadAt, seekIn, advanceIn}
 use Rattle.decoded.specs.Lists.{listOf}
-use Rattle.postings.specs.Decoded.{docIn, doc-is, Decoded, ListIn}
-use Rattle.postings.specs.Reader.{lastIn, readerAt, Stands, Sought}
-use Rattle.postings.specs.Places.{cursorOf, Placed, Moved, Shallow, Here}
+use Rattle.postings.specs.Inner.Decoded.{docIn, doc-is, Decoded, ListIn}
+use Rattle.postings.specs.Inner.Reader.{lastIn, readerAt, Stands, Sought}
+use Rattle.postings.specs.Inner.Places.{cursorOf, Placed, Moved, Shallow, Here}
 use Rattle.postings.specs.declared.skip.SkipReader.{SkipReader}
 use Rattle.postings.specs.declared.cursor.SegmentPostings.{SegmentPostings}
 use Rattle.postings.proofs.Readers.{block-is, stands-on, last-here, end-is}

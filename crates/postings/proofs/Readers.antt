@@ -8,20 +8,21 @@ use native.Mathlib.Omega.{arith}
 use lib.Dec.{ltb}
 use lib.ListN.{length}
 use borrow.Author.Tests.{lt-ltb, le-ltb, le-leb, lt-leb}
-use Rattle.bm25.specs.declared.Scoring.{Scoring}
-use Rattle.notefile.specs.Skips.{lastDoc, docWidth, strictBlock, freqWidth, maxNormCode, maxFreqCode, skipEntryOf}
-use Rattle.notefile.specs.Lists.{fullBlocks, blockAt, listDoc}
-use Rattle.notefile.specs.Given.{BlocksIn, PackedIn}
-use Rattle.notefile.specs.declared.part.Part.{Part}
-use Rattle.notefile.specs.declared.skip.SkipEntry.{SkipEntry}
 use Rattle.arrays.proofs.Order.{lt-or-ge}
-use Rattle.notefile.proofs.FullBlocks.{packed-in}
-use Rattle.notefile.proofs.ListLaws.{last-is}
 use Rattle.route.specs.Postings.{start, lastDoc as endOf}
 use Rattle.route.specs.Cursor.{skipTo}
+use Rattle.bm25.specs.declared.Scoring.{Scoring}
+use Rattle.notefile.specs.Skips.{lastDoc, docWidth, strictBlock, freqWidth, maxNormCode, maxFreqCode}
+use Rattle.notefile.specs.Lists.{fullBlocks, blockAt, listDoc}
+use Rattle.notefile.specs.Inner.Structs.{skipEntryOf}
+use Rattle.notefile.specs.Inner.Given.{BlocksIn, PackedIn}
+use Rattle.notefile.specs.declared.part.Part.{Part}
+use Rattle.notefile.specs.declared.skip.SkipEntry.{SkipEntry}
+use Rattle.notefile.proofs.FullBlocks.{packed-in}
+use Rattle.notefile.proofs.ListLaws.{last-is}
 use Rattle.decoded.specs.Lists.{listOf}
-use Rattle.postings.specs.Decoded.{ListIn}
-use Rattle.postings.specs.Reader.{remaining, lastIn, previousIn, placeIn, infoIn, readerAt, Stands, Sought}
+use Rattle.postings.specs.Inner.Decoded.{ListIn}
+use Rattle.postings.specs.Inner.Reader.{remaining, lastIn, previousIn, placeIn, infoIn, readerAt, Stands, Sought}
 use Rattle.postings.specs.declared.skip.BlockInfo.the-variants.{BitPacked, VInt}
 use Rattle.postings.specs.declared.skip.SkipReader.{SkipReader}
 

@@ -1,16 +1,17 @@
 // Block loads: the skip reader's block decoded into two lent arrays.
-ghost use Rattle.arrays.specs.Holds.{Holds};
-ghost use Rattle.postings.specs.Decoded.{Decoded, ListIn};
-ghost use Rattle.postings.specs.Reader.{Stands};
 use crate::skip::BlockInfo;
 use crate::skip::SkipReader;
 use notefile::block::TERMINATED;
 use notefile::block::load_packed;
 use notefile::block::load_tail;
 use notefile::part::Part;
+ghost use Rattle.arrays.specs.Lent.{before, after};
+ghost use Rattle.arrays.specs.Inner.Holds.{Holds};
+ghost use Rattle.postings.specs.Inner.Decoded.{Decoded, ListIn};
+ghost use Rattle.postings.specs.Inner.Reader.{Stands};
 
 fn fill_terminated(values: &mut [u32; 128])
-    ensures { λ _. ⌜ Holds 0 128 (λ i. 2147483647) (now (values .exit)) ⌝ }
+    ensures { λ _. ⌜ Holds 0 128 (λ i. 2147483647) (after values) ⌝ }
 {
     let n = (&values[..]).len();
     let mut i = 0usize;
@@ -29,7 +30,7 @@ pub fn load_block(
     freqs: &mut [u32; 128],
 )
     requires { ⌜ ListIn (now file) x × Stands (now file) x reader ⌝ }
-    ensures { λ _. ⌜ Decoded (now (file .entry)) x (reader .block) (now (docs .exit)) (now (freqs .exit)) ⌝ }
+    ensures { λ _. ⌜ Decoded (before file) x (reader .block) (after docs) (after freqs) ⌝ }
 {
     let info = reader.block_info;
     let at = reader.byte_offset;

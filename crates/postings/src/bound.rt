@@ -1,29 +1,30 @@
 // Block bounds: a full block's from its skip entry, a tail's from its scores once they are loaded.
-ghost use mathlib.Core.Path.{_≡_};
-ghost use Prim.Native.Nat.{_≤_};
-ghost use lib.ListN.{getD};
-ghost use lib.Ieee.{nan};
-ghost use Rattle.bm25.specs.Scoring.{scored};
-ghost use Rattle.notefile.specs.Header.{normReader};
-ghost use Rattle.notefile.specs.Given.{WeightIn};
-ghost use Rattle.notefile.specs.Reads.{scoreAmong};
-ghost use Rattle.route.specs.Cursor.{blockMax};
-ghost use Rattle.route.specs.F32.{f32};
-ghost use Rattle.postings.specs.Bounds.{mostOf};
-ghost use Rattle.decoded.specs.Lists.{listOf};
-ghost use Rattle.postings.specs.Decoded.{ListIn};
-ghost use Rattle.postings.specs.Places.{Placed, cursorOf};
 use crate::cursor::SegmentPostings;
 use crate::skip::BlockInfo;
 use bm25::Bm25Weight;
 use bm25::Scoring;
 use fieldnorm::FieldNormReader;
 use notefile::part::Part;
+ghost use mathlib.Core.Path.{_≡_};
+ghost use Prim.Native.Nat.{_≤_};
+ghost use lib.ListN.{getD};
+ghost use lib.Ieee.{nan};
+ghost use Rattle.arrays.specs.Lent.{before};
+ghost use Rattle.route.specs.Cursor.{blockMax};
+ghost use Rattle.route.specs.F32.{f32};
+ghost use Rattle.bm25.specs.Scoring.{scored};
+ghost use Rattle.notefile.specs.Header.{normReader};
+ghost use Rattle.notefile.specs.Inner.Given.{WeightIn};
+ghost use Rattle.notefile.specs.Inner.Reads.{scoreAmong};
+ghost use Rattle.decoded.specs.Lists.{listOf};
+ghost use Rattle.postings.specs.Inner.Bounds.{mostOf};
+ghost use Rattle.postings.specs.Inner.Decoded.{ListIn};
+ghost use Rattle.postings.specs.Inner.Places.{Placed, cursorOf};
 
 // The largest of the first n scores, or 0 where there is none.
 fn max_score(scores: &[f32; 128], n: usize) -> f32
     requires { ⌜ n ≤ 128 ⌝ }
-    ensures { λ r. ⌜ r ≡ mostOf (λ i. getD (now (scores .entry)) i nan) n ⌝ }
+    ensures { λ r. ⌜ r ≡ mostOf (λ i. getD (before scores) i nan) n ⌝ }
 {
     if n == 0 {
         return 0.0;
@@ -49,7 +50,7 @@ fn tail_max_score(
     freqs: &[u32; 128],
 ) -> f32
     requires { ⌜ (norms ≡ normReader (now file)) × WeightIn x w × (n ≤ 128) ⌝ }
-    ensures { λ r. ⌜ r ≡ mostOf (λ i. scored scoring (scoreAmong (now (file .entry)) x (now (docs .entry)) (now (freqs .entry)) i)) n ⌝ }
+    ensures { λ r. ⌜ r ≡ mostOf (λ i. scored scoring (scoreAmong (before file) x (before docs) (before freqs) i)) n ⌝ }
 {
     let mut scores = [0.0f32; 128];
     bm25_block::score_block(
@@ -77,7 +78,7 @@ pub fn block_max_score(
     freqs: &[u32; 128],
 ) -> f32
     requires { ⌜ ListIn (now file) x × (norms ≡ normReader (now file)) × WeightIn x w × Placed (now file) x p (now docs) (now freqs) ⌝ }
-    ensures { λ r. ⌜ r ≡ blockMax 128 f32 (listOf scoring (now (file .entry)) x) (cursorOf p) ⌝ }
+    ensures { λ r. ⌜ r ≡ blockMax 128 f32 (listOf scoring (before file) x) (cursorOf p) ⌝ }
 {
     let reader = p.skip_reader;
     let info = reader.block_info;

@@ -1,16 +1,17 @@
 // A scorer's place in its list: the block cursor and the place in the block that it decoded last.
-ghost use mathlib.Core.Path.{_≡_};
-ghost use Prim.Native.Nat.{min, suc, _≤_, _<_};
-ghost use Rattle.notefile.specs.Lists.{fullBlocks};
-ghost use Rattle.route.specs.Cursor.{advanceIn, fresh, loadAt, seekBlockIn, seekIn};
-ghost use Rattle.decoded.specs.Lists.{listOf};
-ghost use Rattle.postings.specs.Decoded.{Decoded, ListIn};
-ghost use Rattle.postings.specs.Reader.{Stands};
-ghost use Rattle.postings.specs.Places.{Here, Moved, Placed, Shallow, cursorOf};
 use crate::block::load_block;
 use crate::skip::SkipReader;
 use block_search::search_block;
 use notefile::part::Part;
+ghost use mathlib.Core.Path.{_≡_};
+ghost use Prim.Native.Nat.{min, suc, _≤_, _<_};
+ghost use Rattle.arrays.specs.Lent.{before, after};
+ghost use Rattle.route.specs.Cursor.{advanceIn, fresh, loadAt, seekBlockIn, seekIn};
+ghost use Rattle.notefile.specs.Lists.{fullBlocks};
+ghost use Rattle.decoded.specs.Lists.{listOf};
+ghost use Rattle.postings.specs.Inner.Decoded.{Decoded, ListIn};
+ghost use Rattle.postings.specs.Inner.Reader.{Stands};
+ghost use Rattle.postings.specs.Inner.Places.{Here, Moved, Placed, Shallow, cursorOf};
 
 // The Rust's block cursor and its `cur`. The decoded block stands in two arrays beside it, and `decoded` is its number.
 pub struct SegmentPostings {
@@ -37,7 +38,7 @@ impl SegmentPostings {
         freqs: &mut [u32; 128],
     ) -> SegmentPostings
         requires { ⌜ ListIn (now file) x ⌝ }
-        ensures { λ r. ⌜ Moved (now (file .entry)) x (λ _. fresh) r (now (docs .exit)) (now (freqs .exit)) ⌝ }
+        ensures { λ r. ⌜ Moved (before file) x (λ _. fresh) r (after docs) (after freqs) ⌝ }
     {
         let skip_reader = SkipReader::new(file, x);
         load_block(file, x, skip_reader, docs, freqs);
@@ -52,7 +53,7 @@ impl SegmentPostings {
     // The document that the scorer stands on, of the block decoded last.
     pub fn doc(self, docs: &[u32; 128]) -> u32
         requires { ⌜ self .cur < 128 ⌝ }
-        ensures { λ r. ⌜ Here self (now (docs .entry)) r ⌝ }
+        ensures { λ r. ⌜ Here self (before docs) r ⌝ }
     {
         let cur = self.cur;
         docs[cur]
@@ -61,7 +62,7 @@ impl SegmentPostings {
     // Moves the skip reader only: the document and its frequency stay those of the block decoded last.
     pub fn seek_block(self, file: &[u8], x: Part, target: u32) -> SegmentPostings
         requires { ⌜ ListIn (now file) x × Stands (now file) x (self .«skip_reader») × (self .«skip_reader» .block ≤ suc (fullBlocks x)) ⌝ }
-        ensures { λ r. ⌜ Shallow (now (file .entry)) x (λ scoring. seekBlockIn (listOf scoring (now (file .entry)) x) 128 target (cursorOf self)) self r ⌝ }
+        ensures { λ r. ⌜ Shallow (before file) x (λ scoring. seekBlockIn (listOf scoring (before file) x) 128 target (cursorOf self)) self r ⌝ }
     {
         let reader = self.skip_reader;
         if target <= reader.last_doc_in_block {
@@ -79,7 +80,7 @@ impl SegmentPostings {
     // The skip reader's block, loaded if it is not.
     fn load(self, file: &[u8], x: Part, docs: &mut [u32; 128], freqs: &mut [u32; 128])
         requires { ⌜ ListIn (now file) x × Placed (now file) x self (now docs) (now freqs) ⌝ }
-        ensures { λ _. ⌜ Decoded (now (file .entry)) x (self .«skip_reader» .block) (now (docs .exit)) (now (freqs .exit)) ⌝ }
+        ensures { λ _. ⌜ Decoded (before file) x (self .«skip_reader» .block) (after docs) (after freqs) ⌝ }
     {
         if self.block_loaded {
             return;
@@ -98,7 +99,7 @@ impl SegmentPostings {
         freqs: &mut [u32; 128],
     ) -> SegmentPostings
         requires { ⌜ ListIn (now file) x × Placed (now file) x self (now docs) (now freqs) × (target ≤ self .«skip_reader» .«last_doc_in_block») ⌝ }
-        ensures { λ r. ⌜ Moved (now (file .entry)) x (λ scoring. loadAt (listOf scoring (now (file .entry)) x) 128 target (self .«skip_reader» .block)) r (now (docs .exit)) (now (freqs .exit)) ⌝ }
+        ensures { λ r. ⌜ Moved (before file) x (λ scoring. loadAt (listOf scoring (before file) x) 128 target (self .«skip_reader» .block)) r (after docs) (after freqs) ⌝ }
     {
         self.load(file, x, docs, freqs);
         let skip_reader = self.skip_reader;
@@ -121,7 +122,7 @@ impl SegmentPostings {
         freqs: &mut [u32; 128],
     ) -> SegmentPostings
         requires { ⌜ ListIn (now file) x × Placed (now file) x self (now docs) (now freqs) × (target ≤ 2147483647) ⌝ }
-        ensures { λ r. ⌜ Moved (now (file .entry)) x (λ scoring. seekIn (listOf scoring (now (file .entry)) x) 128 target (cursorOf self)) r (now (docs .exit)) (now (freqs .exit)) ⌝ }
+        ensures { λ r. ⌜ Moved (before file) x (λ scoring. seekIn (listOf scoring (before file) x) 128 target (cursorOf self)) r (after docs) (after freqs) ⌝ }
     {
         let cur = self.cur;
         let doc = docs[cur];
@@ -148,7 +149,7 @@ impl SegmentPostings {
         freqs: &mut [u32; 128],
     ) -> SegmentPostings
         requires { ⌜ ListIn (now file) x × Placed (now file) x self (now docs) (now freqs) × (self .«skip_reader» .block ≤ fullBlocks x) ⌝ }
-        ensures { λ r. ⌜ Moved (now (file .entry)) x (λ scoring. advanceIn (listOf scoring (now (file .entry)) x) 128 (cursorOf self)) r (now (docs .exit)) (now (freqs .exit)) ⌝ }
+        ensures { λ r. ⌜ Moved (before file) x (λ scoring. advanceIn (listOf scoring (before file) x) 128 (cursorOf self)) r (after docs) (after freqs) ⌝ }
     {
         let mut p = self;
         if self.cur != 127 {

@@ -1,12 +1,13 @@
 // The skip reader: block by block over a list's skip entries, and behind its tail.
-ghost use mathlib.Core.Path.{_≡_};
-ghost use Prim.Native.Nat.{suc, _<_};
-ghost use Rattle.notefile.specs.Given.{BlocksIn};
-ghost use Rattle.postings.specs.Decoded.{ListIn};
-ghost use Rattle.postings.specs.Reader.{Sought, Stands, placeIn, previousIn, readerAt, remaining};
 use notefile::block::TERMINATED;
 use notefile::part::Part;
 use notefile::skip::read_skip_entry;
+ghost use mathlib.Core.Path.{_≡_};
+ghost use Prim.Native.Nat.{suc, _<_};
+ghost use Rattle.arrays.specs.Lent.{before, after};
+ghost use Rattle.notefile.specs.Inner.Given.{BlocksIn};
+ghost use Rattle.postings.specs.Inner.Decoded.{ListIn};
+ghost use Rattle.postings.specs.Inner.Reader.{Sought, Stands, placeIn, previousIn, readerAt, remaining};
 
 // What the reader knows of its block: of a packed one the widths and the pair of codes of its bound, of the tail its count.
 pub enum BlockInfo {
@@ -42,7 +43,7 @@ fn read_block_info(
     remaining_docs: usize,
 ) -> SkipReader
     requires { ⌜ BlocksIn (now file) x × («byte_offset» ≡ placeIn (now file) x b) × (previous ≡ previousIn (now file) x b) × («remaining_docs» ≡ remaining x b) ⌝ }
-    ensures { λ r. ⌜ r ≡ readerAt (now (file .entry)) x b ⌝ }
+    ensures { λ r. ⌜ r ≡ readerAt (before file) x b ⌝ }
 {
     if remaining_docs < 128 {
         return SkipReader {
@@ -77,7 +78,7 @@ impl SkipReader {
     // The reader on a list's first block.
     pub fn new(file: &[u8], x: Part) -> SkipReader
         requires { ⌜ BlocksIn (now file) x ⌝ }
-        ensures { λ r. ⌜ r ≡ readerAt (now (file .entry)) x 0 ⌝ }
+        ensures { λ r. ⌜ r ≡ readerAt (before file) x 0 ⌝ }
     {
         read_block_info(file, x, 0, x.postings, 0, x.count)
     }
@@ -85,7 +86,7 @@ impl SkipReader {
     // The reader on block b, whose place and previous document are known.
     pub fn on(file: &[u8], x: Part, b: usize, byte_offset: usize, previous: u32) -> SkipReader
         requires { ⌜ BlocksIn (now file) x × («byte_offset» ≡ placeIn (now file) x b) × (previous ≡ previousIn (now file) x b) × (b < 4294967296) ⌝ }
-        ensures { λ r. ⌜ r ≡ readerAt (now (file .entry)) x b ⌝ }
+        ensures { λ r. ⌜ r ≡ readerAt (before file) x b ⌝ }
     {
         let before = 128 * b;
         if before <= x.count {
@@ -97,7 +98,7 @@ impl SkipReader {
     // On to the next block. A full one takes 16 bytes for each bit of width; a tail ends the postings.
     pub fn advance(self, file: &[u8], x: Part) -> SkipReader
         requires { ⌜ BlocksIn (now file) x × Stands (now file) x self × (self .block < 4294967296) ⌝ }
-        ensures { λ r. ⌜ r ≡ readerAt (now (file .entry)) x (suc (self .block)) ⌝ }
+        ensures { λ r. ⌜ r ≡ readerAt (before file) x (suc (self .block)) ⌝ }
     {
         let info = self.block_info;
         let b = self.block + 1;
@@ -120,7 +121,7 @@ impl SkipReader {
     // On to the first block that ends at the target or after it, and no further than the tail.
     pub fn seek(self, file: &[u8], x: Part, target: u32) -> SkipReader
         requires { ⌜ ListIn (now file) x × Stands (now file) x self × (self .block < 4294967296) ⌝ }
-        ensures { λ r. ⌜ Sought (now (file .entry)) x target (self .block) r ⌝ }
+        ensures { λ r. ⌜ Sought (before file) x target (self .block) r ⌝ }
     {
         let blocks = x.count / 128;
         let mut reader = self;

@@ -1,38 +1,39 @@
 -- A list that is opened in a slot leaves a fresh slot, and the others as they were.
 use mathlib.Core.Path.{_≡_, refl, sym, ap, _∙_, subst}
 use mathlib.Core.List.{List, [], _∷_, map}
+use mathlib.Core.Logic.{inl, inr}
 use Prim.Native.Nat.{ℕ, suc, _+_, _≤_, _<_}
 use native.Mathlib.Nat.{add-zero, zero-add}
-use mathlib.Core.Logic.{inl, inr}
-use Rattle.arrays.proofs.Order.{lt-or-ge}
-use Rattle.ordering.specs.declared.TermScorer.{TermScorer}
-use Rattle.ordering.specs.Scorers.{noScorer}
 use native.Mathlib.Omega.{arith}
 use lib.ListN.{length, getD, set, take, drop, length-set}
 use lib.Seq.{drop-cons, getD-set-same, getD-set-other}
 use lib.Ieee.{Float, nan, binary32, ofBits}
-use Rattle.bm25.specs.Bound.{maxScore}
+use Rattle.arrays.proofs.Order.{lt-or-ge}
+use Rattle.route.specs.Cursor.{Cursor, fresh}
+use Rattle.route.specs.Scorer.{Scorer, scorersFrom}
 use Rattle.bm25.specs.Scoring.{scored}
+use Rattle.bm25.specs.Inner.Bound.{maxScore}
 use Rattle.bm25.specs.declared.Bm25Weight.{Bm25Weight}
 use Rattle.bm25.specs.declared.Scoring.{Scoring}
 use Rattle.bm25.specs.declared.Scoring.the-variants.{Unstepped}
 use Rattle.bm25.proofs.WeightLaws.{max-score-is}
-use Rattle.notefile.specs.Header.{headerOf, listCount}
+use Rattle.ordering.specs.Inner.Scorers.{noScorer}
+use Rattle.ordering.specs.declared.TermScorer.{TermScorer}
+use Rattle.notefile.specs.Header.{listCount}
 use Rattle.notefile.specs.Parts.{partOf}
 use Rattle.notefile.specs.Lists.{listBound, scoreFor}
-use Rattle.notefile.specs.Given.{WeightIn, WeighedIn}
+use Rattle.notefile.specs.Inner.Structs.{headerOf}
+use Rattle.notefile.specs.Inner.Given.{WeightIn, WeighedIn}
 use Rattle.notefile.specs.declared.header.Header.{Header}
 use Rattle.notefile.specs.declared.part.Part.{Part}
 use Rattle.notefile.proofs.Scores.{apart}
-use Rattle.route.specs.Cursor.{Cursor, fresh}
-use Rattle.route.specs.Scorer.{Scorer, scorersFrom}
 use Rattle.decoded.specs.Lists.{listOf, postingsOf, queried}
-use Rattle.postings.specs.Decoded.{docIn, ListIn}
-use Rattle.slot_rows.specs.Rows.{partIn, partRow, PartRow}
-use Rattle.term_scorer.specs.Slots.{Held, Sixteen, Opened, partAt, listAt, cursorAt}
-use Rattle.term_scorer.specs.Weights.{Weighed}
+use Rattle.postings.specs.Inner.Decoded.{docIn, ListIn}
+use Rattle.slot_rows.specs.Inner.Rows.{partIn, partRow, PartRow}
 use Rattle.slot_rows.proofs.Rows.{part-back}
-use Rattle.query.specs.Fresh.{Arrays, Room, FreshSlot, OnlySlot, OneOpened, QueryOpened}
+use Rattle.term_scorer.specs.Inner.Slots.{Held, Sixteen, Opened, partAt, listAt, cursorAt}
+use Rattle.term_scorer.specs.Inner.Weights.{Weighed}
+use Rattle.query.specs.Inner.Fresh.{Arrays, Room, FreshSlot, OnlySlot, OneOpened, QueryOpened}
 
 -- a list's number is below the header's
 pub listed : (file : List ℕ) (h : Header) → h ≡ headerOf file → (l : ℕ) → l < listCount file → l < h .lists

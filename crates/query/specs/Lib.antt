@@ -1,2 +1,2 @@
 -- What the contracts of `query` cite.
-pub mod Fresh
+pub mod Inner

@@ -1,16 +1,18 @@
 // The lists that a query names, each opened in a slot of its own: slot q is the query's number q.
-ghost use mathlib.Core.Path.{_≡_};
-ghost use Prim.Native.Nat.{_≤_, _<_};
-ghost use lib.ListN.{length};
-ghost use Rattle.notefile.specs.Header.{headerOf, listCount};
-ghost use Rattle.notefile.specs.Refusal.{fileRefusal};
-ghost use Rattle.query.specs.Fresh.{arrays, Named, OneOpened, QueryOpened, Room};
 use bm25::Bm25Weight;
 use bm25::Scoring;
 use notefile::header::Header;
 use notefile::part::read_part;
 use ordering::TermScorer;
 use term_scorer::slot;
+ghost use mathlib.Core.Path.{_≡_};
+ghost use Prim.Native.Nat.{_≤_, _<_};
+ghost use lib.ListN.{length};
+ghost use Rattle.arrays.specs.Lent.{before, after};
+ghost use Rattle.notefile.specs.Header.{listCount};
+ghost use Rattle.notefile.specs.Refusal.{fileRefusal};
+ghost use Rattle.notefile.specs.Inner.Structs.{headerOf};
+ghost use Rattle.query.specs.Inner.Fresh.{arrays, Named, OneOpened, QueryOpened, Room};
 
 // List l in slot q, on its first posting, with its weight, its norms and its bound.
 fn open_list(
@@ -28,7 +30,7 @@ fn open_list(
     max_scores: &mut [f32; 16],
 ) -> u32
     requires { ⌜ (fileRefusal (now file) ≡ 0) × (h ≡ headerOf (now file)) × (l < listCount (now file)) × (q < 16) × Room (arrays (now lists) (now places) (now docs) (now freqs) (now weights) (now caches) (now «max_scores»)) ⌝ }
-    ensures { λ r. ⌜ OneOpened scoring (now (file .entry)) l q (arrays (now (lists .entry)) (now (places .entry)) (now (docs .entry)) (now (freqs .entry)) (now (weights .entry)) (now (caches .entry)) (now («max_scores» .entry))) (arrays (now (lists .exit)) (now (places .exit)) (now (docs .exit)) (now (freqs .exit)) (now (weights .exit)) (now (caches .exit)) (now («max_scores» .exit))) r ⌝ }
+    ensures { λ r. ⌜ OneOpened scoring (before file) l q (arrays (before lists) (before places) (before docs) (before freqs) (before weights) (before caches) (before «max_scores»)) (arrays (after lists) (after places) (after docs) (after freqs) (after weights) (after caches) (after «max_scores»)) r ⌝ }
 {
     let x = read_part(file, h, l);
     let w = Bm25Weight::new(f32::from_bits(x.weight), f32::from_bits(x.average));
@@ -54,7 +56,7 @@ pub fn open_lists(
     max_scores: &mut [f32; 16],
 ) -> [TermScorer; 16]
     requires { ⌜ (fileRefusal (now file) ≡ 0) × (h ≡ headerOf (now file)) × (length (now query) ≤ 16) × Named (now file) (now query) × Room (arrays (now lists) (now places) (now docs) (now freqs) (now weights) (now caches) (now «max_scores»)) ⌝ }
-    ensures { λ r. ⌜ QueryOpened scoring (now (file .entry)) (now (query .entry)) (length (now (query .entry))) (arrays (now (lists .exit)) (now (places .exit)) (now (docs .exit)) (now (freqs .exit)) (now (weights .exit)) (now (caches .exit)) (now («max_scores» .exit))) r ⌝ }
+    ensures { λ r. ⌜ QueryOpened scoring (before file) (before query) (length (before query)) (arrays (after lists) (after places) (after docs) (after freqs) (after weights) (after caches) (after «max_scores»)) r ⌝ }
 {
     let mut scorers = [TermScorer { doc: 0, slot: 0 }; 16];
     let mut q = 0usize;

@@ -4,24 +4,24 @@ use mathlib.Core.List.{List, []}
 use Prim.Native.Nat.{ℕ, zero, suc}
 use lib.ListN.{length}
 use lib.Ieee.{Float}
-use Rattle.bm25.specs.declared.Scoring.{Scoring}
-use Rattle.notefile.specs.Header.{headerOf}
-use Rattle.notefile.specs.Refusal.{fileRefusal}
-use Rattle.notefile.specs.Given.{HeaderIn}
-use Rattle.notefile.specs.declared.header.Header.{Header}
-use Rattle.notefile.proofs.Accepted.{header-inside}
 use Rattle.route.specs.Report.{Report}
 use Rattle.route.specs.Rule as rules
 use Rattle.route.specs.Rule.{limited}
+use Rattle.bm25.specs.declared.Scoring.{Scoring}
+use Rattle.ordering.specs.declared.TermScorer.{TermScorer}
+use Rattle.rule.specs.declared.Rule.{Rule}
+use Rattle.notefile.specs.Refusal.{fileRefusal}
+use Rattle.notefile.specs.Inner.Structs.{headerOf}
+use Rattle.notefile.specs.Inner.Given.{HeaderIn}
+use Rattle.notefile.specs.declared.header.Header.{Header}
+use Rattle.notefile.proofs.Accepted.{header-inside}
 use Rattle.reports.specs.Rows.{rowsOf}
 use Rattle.reports.proofs.RowLaws.{none-written}
-use Rattle.rule.specs.declared.Rule.{Rule}
+use Rattle.query.specs.Inner.Fresh.{Arrays, QueryOpened}
 use Rattle.request.specs.Request.{refusalOf}
 use Rattle.request.specs.declared.Mode.{Mode}
-use Rattle.ordering.specs.declared.TermScorer.{TermScorer}
-use Rattle.query.specs.Fresh.{Arrays, QueryOpened}
-use Rattle.plain_scan.specs.Heads.{Ready}
-use Rattle.plain_scan.specs.Runs.{PlainRan}
+use Rattle.plain_scan.specs.Inner.Heads.{Ready}
+use Rattle.plain_scan.specs.Inner.Runs.{PlainRan}
 use Rattle.plain_scan.specs.declared.PlainRun.{PlainRun}
 use Rattle.ranking.specs.Answers.{numberOf, countOf, answer, finished, Answered, Listed, RunIs}
 use Rattle.ranking.specs.declared.outcome.Outcome.{Outcome}

@@ -7,22 +7,24 @@ use lib.ListN.{length, getD, drop}
 use lib.Dec.{T}
 use lib.Ieee.{Float}
 use Rattle.floats.specs.Threshold.{thresholdOk}
-use Rattle.bm25.specs.declared.Scoring.{Scoring}
-use Rattle.bm25.specs.declared.Scoring.the-variants.{Stepped}
-use Rattle.notefile.specs.Header.{listCount, documents}
 use Rattle.route.specs.Lists.{All}
 use Rattle.route.specs.F32.{f32}
 use Rattle.route.specs.Report.{Report}
 use Rattle.route.specs.Rule as rules
-use Rattle.route.specs.Rule.{RuleOk, limited, scores}
+use Rattle.route.specs.Rule.{limited, scores}
 use Rattle.route.specs.Plain.{plain}
-use Rattle.decoded.specs.Lists.{Bytes, queried}
-use Rattle.decoded.proofs.Files.{file-plain, file-demand-3}
-use Rattle.rule.specs.Follows.{ruleOf, startOf}
+use Rattle.route.specs.Inner.Rules.{RuleOk}
+use Rattle.bm25.specs.declared.Scoring.{Scoring}
+use Rattle.bm25.specs.declared.Scoring.the-variants.{Stepped}
+use Rattle.rule.specs.Rules.{ruleOf, startOf}
 use Rattle.rule.specs.declared.Rule.{Rule}
 use Rattle.rule.specs.declared.Rule.the-variants.{Script, BestK}
 use Rattle.rule.proofs.RightRules.{rule-ok}
+use Rattle.notefile.specs.Header.{listCount, documents}
 use Rattle.reports.specs.Rows.{rowsOf, docs}
+use Rattle.decoded.specs.Lists.{queried}
+use Rattle.decoded.specs.Inner.Bytes.{Bytes}
+use Rattle.decoded.proofs.Files.{file-plain, file-demand-3}
 use Rattle.request.specs.Request.{modeOf, refusalOf}
 use Rattle.request.specs.declared.Mode.{Mode}
 use Rattle.request.proofs.Requests.{let-through}

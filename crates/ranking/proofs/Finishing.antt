@@ -6,13 +6,6 @@ use Prim.Native.Nat.{ℕ, suc, _≤_, _<_}
 use native.Mathlib.Omega.{arith}
 use lib.ListN.{length, getD}
 use lib.Ieee.{Float}
-use Rattle.bm25.specs.declared.Scoring.{Scoring}
-use Rattle.notefile.specs.Header.{listCount, documents}
-use Rattle.notefile.specs.Parts.{partOf}
-use Rattle.notefile.specs.Refusal.{fileRefusal}
-use Rattle.notefile.specs.declared.part.Part.{Part}
-use Rattle.notefile.proofs.Accepted.{list-accepted, header-right}
-use Rattle.notefile.proofs.Headers.{few-documents}
 use Rattle.route.specs.Lists.{All}
 use Rattle.route.specs.F32.{f32}
 use Rattle.route.specs.Report.{Report}
@@ -20,22 +13,30 @@ use Rattle.route.specs.Rule as rules
 use Rattle.route.specs.Rule.{limited}
 use Rattle.route.specs.Route.{Route, Ends}
 use Rattle.route.specs.Single.{blockWandSingleScorer}
-use Rattle.route.specs.Plain.{Takes, single}
+use Rattle.route.specs.Plain.{single}
 use Rattle.route.specs.Skipping.{route}
-use Rattle.route.proofs.ListLaws.{ListOk}
+use Rattle.route.specs.Inner.Rules.{Takes}
+use Rattle.route.specs.Inner.Lists.{ListOk}
 use Rattle.route.proofs.Ending.{Stays}
 use Rattle.route.proofs.Agree.{has-list, route-stays}
+use Rattle.bm25.specs.declared.Scoring.{Scoring}
+use Rattle.rule.specs.declared.Rule.{Rule}
+use Rattle.notefile.specs.Header.{listCount, documents}
+use Rattle.notefile.specs.Parts.{partOf}
+use Rattle.notefile.specs.Refusal.{fileRefusal}
+use Rattle.notefile.specs.declared.part.Part.{Part}
+use Rattle.notefile.proofs.Accepted.{list-accepted, header-right}
+use Rattle.notefile.proofs.Headers.{few-documents}
+use Rattle.reports.specs.Rows.{rowsOf}
+use Rattle.reports.specs.Inner.Runs.{callbackOf, runAfter, outcomeOf, Ran}
+use Rattle.reports.proofs.RunLaws.{ran-limited}
 use Rattle.decoded.specs.Lists.{queried}
 use Rattle.decoded.proofs.AcceptedLists.{list-ok}
-use Rattle.rule.specs.declared.Rule.{Rule}
-use Rattle.reports.specs.Rows.{rowsOf}
-use Rattle.reports.specs.Runs.{callbackOf, runAfter, outcomeOf, Ran}
-use Rattle.reports.proofs.RunLaws.{ran-limited}
+use Rattle.block_wand_single.specs.Inner.Scans.{singleRoute}
 use Rattle.request.specs.Request.{modeOf}
 use Rattle.request.specs.declared.Mode.{Mode}
 use Rattle.request.specs.declared.Mode.the-variants.{Intersection, Single}
 use Rattle.request.proofs.Requests.{Let}
-use Rattle.block_wand_single.specs.Scans.{singleRoute}
 use Rattle.ranking.specs.Answers.{numberOf, countOf, finished, scorerOf, Answered, Finished, Listed}
 use Rattle.ranking.specs.declared.outcome.Outcome.{Outcome}
 

@@ -7,23 +7,23 @@ use native.Mathlib.Omega.{arith}
 use lib.ListN.{length, getD}
 use lib.Ieee.{Float}
 use Rattle.fieldnorm.specs.declared.FieldNormReader.{FieldNormReader}
-use Rattle.bm25.specs.declared.Scoring.{Scoring}
-use Rattle.notefile.specs.Header.{normReader}
-use Rattle.notefile.specs.Parts.{partOf}
-use Rattle.notefile.specs.declared.part.Part.{Part}
 use Rattle.route.specs.F32.{f32}
 use Rattle.route.specs.Cursor.{Cursor}
 use Rattle.route.specs.Plain.{intersection}
 use Rattle.route.specs.Postings.{Postings}
 use Rattle.route.specs.Skipping.{route}
-use Rattle.decoded.specs.Lists.{listOf, postingsOf, queried}
-use Rattle.rule.specs.declared.Rule.{Rule}
-use Rattle.reports.specs.Runs.{Rests}
-use Rattle.term_scorer.specs.Slots.{Sixteen, listAt, partAt}
+use Rattle.bm25.specs.declared.Scoring.{Scoring}
 use Rattle.ordering.specs.declared.TermScorer.{TermScorer}
-use Rattle.query.specs.Fresh.{Arrays, QueryOpened}
-use Rattle.intersection_window.specs.Sizes.{slotsFrom}
-use Rattle.block_wand_intersection.specs.Queries.{Fresh, listsOf}
+use Rattle.rule.specs.declared.Rule.{Rule}
+use Rattle.notefile.specs.Header.{normReader}
+use Rattle.notefile.specs.Parts.{partOf}
+use Rattle.notefile.specs.declared.part.Part.{Part}
+use Rattle.reports.specs.Inner.Runs.{Rests}
+use Rattle.decoded.specs.Lists.{listOf, postingsOf, queried}
+use Rattle.term_scorer.specs.Inner.Slots.{Sixteen, listAt, partAt}
+use Rattle.query.specs.Inner.Fresh.{Arrays, QueryOpened}
+use Rattle.intersection_window.specs.Inner.Sizes.{slotsFrom}
+use Rattle.block_wand_intersection.specs.Inner.Queries.{Fresh, listsOf}
 use Rattle.block_wand_intersection.specs.declared.run.Ended.{Ended}
 use Rattle.ranking.specs.Answers.{finished, Finished}
 use Rattle.ranking.specs.declared.outcome.Outcome.{Outcome}

@@ -7,9 +7,6 @@ use native.Mathlib.Omega.{arith}
 use lib.ListN.{length, getD, take}
 use lib.Seq.{length-take-le}
 use lib.Ieee.{Float}
-use Rattle.bm25.specs.declared.Scoring.{Scoring}
-use Rattle.notefile.specs.Parts.{partOf}
-use Rattle.notefile.specs.declared.part.Part.{Part}
 use Rattle.route.specs.Lists.{All}
 use Rattle.route.specs.F32.{f32}
 use Rattle.route.specs.Cursor.{Cursor}
@@ -20,19 +17,22 @@ use Rattle.route.specs.Single.{blockWandSingleScorer}
 use Rattle.route.specs.Union.{blockWand, pivotRoute}
 use Rattle.route.specs.Skipping.{route}
 use Rattle.route.specs.Plain.{union}
-use Rattle.decoded.specs.Lists.{listOf, queried}
-use Rattle.postings.specs.Decoded.{docIn, doc-is}
-use Rattle.term_scorer.specs.Slots.{Sixteen, cursorAt, partAt}
-use Rattle.ordering.specs.Scorers.{Apart, Left, byDoc, noScorer}
+use Rattle.bm25.specs.declared.Scoring.{Scoring}
+use Rattle.ordering.specs.Inner.Scorers.{Apart, Left, byDoc, noScorer}
 use Rattle.ordering.specs.declared.Scorers.{Scorers}
 use Rattle.ordering.specs.declared.TermScorer.{TermScorer}
 use Rattle.ordering.proofs.Kept.{kept-all, kept-apart, retain-kept}
 use Rattle.ordering.proofs.OnRoute.{SameDoc, retained-on-route}
-use Rattle.query.specs.Fresh.{Arrays, QueryOpened}
-use Rattle.query.proofs.Opening.{opened-scorers}
-use Rattle.block_wand_union.specs.Seats.{Seat, Seated, Topped, scorerAt, terms}
-use Rattle.block_wand_union.specs.Fresh.{Fresh}
 use Rattle.rule.specs.declared.Rule.{Rule}
+use Rattle.notefile.specs.Parts.{partOf}
+use Rattle.notefile.specs.declared.part.Part.{Part}
+use Rattle.decoded.specs.Lists.{listOf, queried}
+use Rattle.postings.specs.Inner.Decoded.{docIn, doc-is}
+use Rattle.term_scorer.specs.Inner.Slots.{Sixteen, cursorAt, partAt}
+use Rattle.query.specs.Inner.Fresh.{Arrays, QueryOpened}
+use Rattle.query.proofs.Opening.{opened-scorers}
+use Rattle.block_wand_union.specs.Inner.Seats.{Seat, Seated, Topped, scorerAt, terms}
+use Rattle.block_wand_union.specs.Inner.Fresh.{Fresh}
 use Rattle.ranking.specs.Answers.{scorerOf, Finished}
 use Rattle.ranking.specs.declared.outcome.Outcome.{Outcome}
 

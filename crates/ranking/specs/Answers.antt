@@ -5,8 +5,6 @@ use mathlib.Core.List.{List, []}
 use Prim.Native.Nat.{ℕ, zero, suc}
 use lib.ListN.{length}
 use lib.Ieee.{Float}
-use Rattle.bm25.specs.declared.Scoring.{Scoring}
-use Rattle.notefile.specs.Header.{documents}
 use Rattle.route.specs.F32.{f32}
 use Rattle.route.specs.Report.{Report}
 use Rattle.route.specs.Cursor.{fresh}
@@ -16,14 +14,16 @@ use Rattle.route.specs.Rule as rules
 use Rattle.route.specs.Rule.{limited}
 use Rattle.route.specs.Plain as scan
 use Rattle.route.specs.Skipping.{Skips}
-use Rattle.decoded.specs.Lists.{postingsOf, queried}
-use Rattle.rule.specs.Follows.{ruleOf, startOf}
+use Rattle.bm25.specs.declared.Scoring.{Scoring}
+use Rattle.rule.specs.Rules.{ruleOf, startOf}
 use Rattle.rule.specs.declared.Rule.{Rule}
+use Rattle.notefile.specs.Header.{documents}
 use Rattle.reports.specs.Rows.{rowsOf, Written}
-use Rattle.reports.specs.Runs.{Ran}
-use Rattle.plain_scan.specs.Runs.{needsAll}
+use Rattle.reports.specs.Inner.Runs.{Ran}
+use Rattle.decoded.specs.Lists.{postingsOf, queried}
 use Rattle.request.specs.Request.{modeOf, refusalOf}
 use Rattle.request.specs.declared.Mode.{Mode}
+use Rattle.plain_scan.specs.Inner.Runs.{needsAll}
 use Rattle.ranking.specs.declared.outcome.Outcome.{Outcome}
 use Rattle.ranking.specs.declared.outcome.Outcome.the-variants.{Done, Full, Refused}
 

@@ -5,17 +5,17 @@ use mathlib.Core.List.{List, [], _∷_}
 use mathlib.Core.Logic.{_↔_}
 use Prim.Native.Nat.{ℕ, zero, suc}
 use lib.Ieee.{Float, lt}
-use Rattle.bm25.specs.declared.Scoring.the-variants.{Stepped}
-use Rattle.notefile.specs.Header.{documents}
 use Rattle.route.specs.Lists.{All}
 use Rattle.route.specs.Score.{larger, smaller}
 use Rattle.route.specs.F32.{f32}
 use Rattle.route.specs.Report.{Report}
 use Rattle.route.specs.Plain as scan
-use Rattle.decoded.specs.Lists.{queried}
-use Rattle.rule.specs.Follows.{ruleOf, startOf}
+use Rattle.bm25.specs.declared.Scoring.the-variants.{Stepped}
+use Rattle.rule.specs.Rules.{ruleOf, startOf}
 use Rattle.rule.specs.declared.Rule.{Rule}
 use Rattle.rule.specs.declared.Rule.the-variants.{Script, BestK}
+use Rattle.notefile.specs.Header.{documents}
+use Rattle.decoded.specs.Lists.{queried}
 use Rattle.request.specs.Request.{modeOf}
 use Rattle.request.specs.declared.Mode.{Mode}
 use Rattle.ranking.specs.Answers.{numberOf, countOf}

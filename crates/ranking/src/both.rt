@@ -1,14 +1,15 @@
 // Both runs side by side: the function whose contract is demand 3.
-ghost use mathlib.Core.Path.{_≡_};
-ghost use Rattle.bm25.specs.declared.Scoring.the-variants.{Stepped};
-ghost use Rattle.ranking.specs.Answers.{PlainIs, RunIs};
-ghost use Rattle.ranking.specs.Rows.{from, Demand3};
 use crate::outcome::Outcome;
 use crate::plain::plain;
 use crate::skipping::run;
 use bm25::Scoring;
 use request::Mode;
 use rule::Rule;
+ghost use mathlib.Core.Path.{_≡_};
+ghost use Rattle.arrays.specs.Lent.{before, after};
+ghost use Rattle.bm25.specs.declared.Scoring.the-variants.{Stepped};
+ghost use Rattle.ranking.specs.Answers.{PlainIs, RunIs};
+ghost use Rattle.ranking.specs.Rows.{from, Demand3};
 
 // What each run returned.
 pub struct Pair {
@@ -40,7 +41,7 @@ pub fn both(
     plain_documents: &mut [u32],
     plain_scores: &mut [f32],
 ) -> Pair
-    ensures { λ r. ⌜ RunIs (now (file .entry)) (now (query .entry)) mode scoring rule (now (script .entry)) (now (documents .entry)) (now (scores .entry)) (r .skipping) (now (documents .exit)) (now (scores .exit)) × PlainIs (now (file .entry)) (now (query .entry)) mode scoring (from rule «plain_start») (now (script .entry)) (now («plain_documents» .entry)) (now («plain_scores» .entry)) (r .plain) (now («plain_documents» .exit)) (now («plain_scores» .exit)) × (scoring ≡ Stepped → Demand3 (now (file .entry)) (now (query .entry)) mode rule (now (script .entry)) «plain_start» (r .skipping) (now (documents .exit)) (now (scores .exit)) (r .plain) (now («plain_documents» .exit)) (now («plain_scores» .exit))) ⌝ }
+    ensures { λ r. ⌜ RunIs (before file) (before query) mode scoring rule (before script) (before documents) (before scores) (r .skipping) (after documents) (after scores) × PlainIs (before file) (before query) mode scoring (from rule «plain_start») (before script) (before «plain_documents») (before «plain_scores») (r .plain) (after «plain_documents») (after «plain_scores») × (scoring ≡ Stepped → Demand3 (before file) (before query) mode rule (before script) «plain_start» (r .skipping) (after documents) (after scores) (r .plain) (after «plain_documents») (after «plain_scores»)) ⌝ }
 {
     let skipping = run(file, query, mode, scoring, rule, script, documents, scores);
     let other = restart(rule, plain_start);

@@ -1,7 +1,4 @@
 // The plain run: every matching document upward.
-ghost use mathlib.Core.Path.{_≡_};
-ghost use Rattle.request.specs.Request.{refusalOf};
-ghost use Rattle.ranking.specs.Answers.{needsAllOf, PlainIs, PlainListed};
 use crate::outcome::Outcome;
 use crate::outcome::finish;
 use bm25::Scoring;
@@ -12,6 +9,10 @@ use query::open_lists;
 use request::Mode;
 use request::refusal;
 use rule::Rule;
+ghost use mathlib.Core.Path.{_≡_};
+ghost use Rattle.arrays.specs.Lent.{before, after};
+ghost use Rattle.request.specs.Request.{refusalOf};
+ghost use Rattle.ranking.specs.Answers.{needsAllOf, PlainIs, PlainListed};
 
 // Whether a document must be in every list.
 fn needs_all(mode: Mode) -> bool
@@ -36,7 +37,7 @@ fn plain_accepted(
     scores: &mut [f32],
 ) -> Outcome
     requires { ⌜ refusalOf (now file) (now query) mode scoring rule (now script) ≡ 0 ⌝ }
-    ensures { λ r. ⌜ PlainListed (now (file .entry)) (now (query .entry)) mode scoring rule (now (script .entry)) (now (documents .entry)) (now (scores .entry)) r (now (documents .exit)) (now (scores .exit)) ⌝ }
+    ensures { λ r. ⌜ PlainListed (before file) (before query) mode scoring rule (before script) (before documents) (before scores) r (after documents) (after scores) ⌝ }
 {
     let h = read_header(file);
     let norms = norm_reader(file, h);
@@ -93,7 +94,7 @@ pub fn plain(
     documents: &mut [u32],
     scores: &mut [f32],
 ) -> Outcome
-    ensures { λ r. ⌜ PlainIs (now (file .entry)) (now (query .entry)) mode scoring rule (now (script .entry)) (now (documents .entry)) (now (scores .entry)) r (now (documents .exit)) (now (scores .exit)) ⌝ }
+    ensures { λ r. ⌜ PlainIs (before file) (before query) mode scoring rule (before script) (before documents) (before scores) r (after documents) (after scores) ⌝ }
 {
     let number = refusal(file, query, mode, scoring, rule, script);
     if number != 0 {

@@ -1,18 +1,4 @@
 // The skipping run of each mode.
-ghost use mathlib.Core.Path.{_≡_};
-ghost use Prim.Native.Nat.{ℕ, _≤_, _<_};
-ghost use lib.ListN.{length};
-ghost use Rattle.notefile.specs.Header.{headerOf, listCount};
-ghost use Rattle.notefile.specs.Refusal.{fileRefusal};
-ghost use Rattle.rule.specs.Follows.{Keeps};
-ghost use Rattle.route.specs.F32.{f32};
-ghost use Rattle.route.specs.Plain.{intersection, union};
-ghost use Rattle.route.specs.Single.{blockWandSingleScorer};
-ghost use Rattle.route.specs.Skipping.{route};
-ghost use Rattle.decoded.specs.Lists.{queried};
-ghost use Rattle.query.specs.Fresh.{Named};
-ghost use Rattle.request.specs.Request.{refusalOf};
-ghost use Rattle.ranking.specs.Answers.{scorerOf, Finished, Listed, RunIs};
 use crate::outcome::Outcome;
 use crate::outcome::finish;
 use block_wand_intersection::block_wand_intersection;
@@ -29,6 +15,22 @@ use query::open_lists;
 use request::Mode;
 use request::refusal;
 use rule::Rule;
+ghost use mathlib.Core.Path.{_≡_};
+ghost use Prim.Native.Nat.{ℕ, _≤_, _<_};
+ghost use lib.ListN.{length};
+ghost use Rattle.arrays.specs.Lent.{before, after};
+ghost use Rattle.route.specs.F32.{f32};
+ghost use Rattle.route.specs.Plain.{intersection, union};
+ghost use Rattle.route.specs.Single.{blockWandSingleScorer};
+ghost use Rattle.route.specs.Skipping.{route};
+ghost use Rattle.rule.specs.Inner.Follows.{Keeps};
+ghost use Rattle.notefile.specs.Header.{listCount};
+ghost use Rattle.notefile.specs.Refusal.{fileRefusal};
+ghost use Rattle.notefile.specs.Inner.Structs.{headerOf};
+ghost use Rattle.decoded.specs.Lists.{queried};
+ghost use Rattle.query.specs.Inner.Fresh.{Named};
+ghost use Rattle.request.specs.Request.{refusalOf};
+ghost use Rattle.ranking.specs.Answers.{scorerOf, Finished, Listed, RunIs};
 
 // The single scan over list l.
 fn run_single(
@@ -42,7 +44,7 @@ fn run_single(
     scores: &mut [f32],
 ) -> Outcome
     requires { ⌜ (fileRefusal (now file) ≡ 0) × (h ≡ headerOf (now file)) × (l < listCount (now file)) × Keeps rule ⌝ }
-    ensures { λ r. ⌜ ((ord : ℕ) → Finished (blockWandSingleScorer 128 f32 (scorerOf scoring (now (file .entry)) l ord)) rule (now (script .entry)) (now (documents .entry)) (now (scores .entry)) r (now (documents .exit)) (now (scores .exit))) ⌝ }
+    ensures { λ r. ⌜ ((ord : ℕ) → Finished (blockWandSingleScorer 128 f32 (scorerOf scoring (before file) l ord)) rule (before script) (before documents) (before scores) r (after documents) (after scores)) ⌝ }
 {
     let norms = norm_reader(file, h);
     let x = read_part(file, h, l);
@@ -63,7 +65,7 @@ fn run_union(
     scores: &mut [f32],
 ) -> Outcome
     requires { ⌜ (fileRefusal (now file) ≡ 0) × (h ≡ headerOf (now file)) × (length (now query) ≤ 16) × Named (now file) (now query) × Keeps rule ⌝ }
-    ensures { λ r. ⌜ Finished (route 128 f32 union (queried scoring (now (file .entry)) (now (query .entry)))) rule (now (script .entry)) (now (documents .entry)) (now (scores .entry)) r (now (documents .exit)) (now (scores .exit)) ⌝ }
+    ensures { λ r. ⌜ Finished (route 128 f32 union (queried scoring (before file) (before query))) rule (before script) (before documents) (before scores) r (after documents) (after scores) ⌝ }
 {
     let norms = norm_reader(file, h);
     let mut lists = [[0usize; 8]; 16];
@@ -129,7 +131,7 @@ fn run_intersection(
     scores: &mut [f32],
 ) -> Outcome
     requires { ⌜ (fileRefusal (now file) ≡ 0) × (h ≡ headerOf (now file)) × (length (now query) ≤ 16) × (2 ≤ length (now query)) × Named (now file) (now query) × Keeps rule ⌝ }
-    ensures { λ r. ⌜ Finished (route 128 f32 intersection (queried scoring (now (file .entry)) (now (query .entry)))) rule (now (script .entry)) (now (documents .entry)) (now (scores .entry)) r (now (documents .exit)) (now (scores .exit)) ⌝ }
+    ensures { λ r. ⌜ Finished (route 128 f32 intersection (queried scoring (before file) (before query))) rule (before script) (before documents) (before scores) r (after documents) (after scores) ⌝ }
 {
     let norms = norm_reader(file, h);
     let mut lists = [[0usize; 8]; 16];
@@ -186,7 +188,7 @@ fn run_accepted(
     scores: &mut [f32],
 ) -> Outcome
     requires { ⌜ refusalOf (now file) (now query) mode scoring rule (now script) ≡ 0 ⌝ }
-    ensures { λ r. ⌜ Listed (now (file .entry)) (now (query .entry)) mode scoring rule (now (script .entry)) (now (documents .entry)) (now (scores .entry)) r (now (documents .exit)) (now (scores .exit)) ⌝ }
+    ensures { λ r. ⌜ Listed (before file) (before query) mode scoring rule (before script) (before documents) (before scores) r (after documents) (after scores) ⌝ }
 {
     let h = read_header(file);
     match mode {
@@ -212,7 +214,7 @@ pub fn run(
     documents: &mut [u32],
     scores: &mut [f32],
 ) -> Outcome
-    ensures { λ r. ⌜ RunIs (now (file .entry)) (now (query .entry)) mode scoring rule (now (script .entry)) (now (documents .entry)) (now (scores .entry)) r (now (documents .exit)) (now (scores .exit)) ⌝ }
+    ensures { λ r. ⌜ RunIs (before file) (before query) mode scoring rule (before script) (before documents) (before scores) r (after documents) (after scores) ⌝ }
 {
     let number = refusal(file, query, mode, scoring, rule, script);
     if number != 0 {

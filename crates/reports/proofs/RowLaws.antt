@@ -8,11 +8,12 @@ use lib.Seq.{drop-cons, set-at, take-at, append-snoc}
 use lib.Ieee.{Float, nan}
 use Rattle.route.specs.Report.{Report}
 use Rattle.route.specs.Rule.{scores}
-use Rattle.rule.specs.Follows.{Follows}
+use Rattle.rule.specs.Inner.Follows.{Follows}
 use Rattle.rule.specs.declared.Rule.{Rule}
 use Rattle.rule.specs.declared.Threshold.{Threshold}
-use Rattle.reports.specs.Rows.{docs, rowsOf, Written, Kept, Reported}
-use Rattle.reports.specs.Runs.{callbackOf}
+use Rattle.reports.specs.Rows.{docs, rowsOf, Written}
+use Rattle.reports.specs.Inner.Rows.{Kept, Reported}
+use Rattle.reports.specs.Inner.Runs.{callbackOf}
 
 pub none-written : (documents : List ℕ) (values : List Float) → Written [] documents values documents values
 none-written documents values = record { fit = omega arith; documents-are = refl; scores-are = refl }

@@ -14,15 +14,17 @@ use Rattle.route.specs.Rule.{limited}
 use Rattle.route.specs.Lists.{All}
 use Rattle.route.specs.Cursor.{Cursor}
 use Rattle.route.specs.Route.{Route, Turn, Ends, quiet}
+use Rattle.route.specs.F32.{f32}
 use Rattle.route.proofs.Cases.{on-test}
 use Rattle.route.proofs.Ending.{Nears, Stays, one-end}
 use Rattle.route.proofs.Rows.{route-full}
-use Rattle.rule.specs.Follows.{Follows, ruleOf, startOf}
+use Rattle.rule.specs.Rules.{ruleOf, startOf}
+use Rattle.rule.specs.Inner.Follows.{Follows}
 use Rattle.rule.specs.declared.Rule.{Rule}
 use Rattle.rule.specs.declared.Threshold.{Threshold}
-use Rattle.route.specs.F32.{f32}
-use Rattle.reports.specs.Rows.{rowsOf, Reported}
-use Rattle.reports.specs.Runs.{callbackOf, runAfter, Quietly, stays, goes, AtRest, Going, Ran, Rests, outcomeOf}
+use Rattle.reports.specs.Rows.{rowsOf}
+use Rattle.reports.specs.Inner.Rows.{Reported}
+use Rattle.reports.specs.Inner.Runs.{callbackOf, runAfter, Quietly, stays, goes, AtRest, Going, Ran, Rests, outcomeOf}
 use Rattle.reports.proofs.RowLaws.{begun, threshold-is, count-is, one-more}
 
 -- quiet turns keep what a route keeps, and bring it no farther from its end

@@ -1,3 +1,3 @@
 -- What the contracts of `reports` cite, and those of the runs that report.
 pub mod Rows
-pub mod Runs
+pub mod Inner

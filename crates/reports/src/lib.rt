@@ -4,12 +4,14 @@ use rule::Threshold;
 ghost use mathlib.Core.Path.{_≡_};
 ghost use Prim.Native.Nat.{_<_};
 ghost use lib.ListN.{length};
-ghost use Rattle.rule.specs.Follows.{Keeps};
-ghost use Rattle.reports.specs.Rows.{rowsOf, Reported};
+ghost use Rattle.arrays.specs.Lent.{before, after};
+ghost use Rattle.rule.specs.Inner.Follows.{Keeps};
+ghost use Rattle.reports.specs.Rows.{rowsOf};
+ghost use Rattle.reports.specs.Inner.Rows.{Reported};
 
 // How many rows there are: as many as the shorter buffer has.
 pub fn rows(documents: &[u32], scores: &[f32]) -> usize
-    ensures { λ r. ⌜ r ≡ rowsOf (now (documents .entry)) (now (scores .entry)) ⌝ }
+    ensures { λ r. ⌜ r ≡ rowsOf (before documents) (before scores) ⌝ }
 {
     if documents.len() < scores.len() {
         return documents.len();
@@ -28,7 +30,7 @@ pub fn report(
     scores: &mut [f32],
 ) -> Threshold
     requires { ⌜ Keeps rule × (t .reports < length (now documents)) × (t .reports < length (now scores)) ⌝ }
-    ensures { λ r. ⌜ Reported rule (now (script .entry)) t doc score (now (documents .entry)) (now (scores .entry)) r (now (documents .exit)) (now (scores .exit)) ⌝ }
+    ensures { λ r. ⌜ Reported rule (before script) t doc score (before documents) (before scores) r (after documents) (after scores) ⌝ }
 {
     let row = t.reports;
     documents[row] = doc;

@@ -11,16 +11,17 @@ use lib.Seq.{drop-cons}
 use lib.Ieee.{Float}
 use borrow.Author.Tests.{lt-ltb, le-ltb, ltb-true, leb-true, eqb-true}
 use Rattle.arrays.proofs.Every.{first-true, second-true}
+use Rattle.route.specs.Inner.Rules.{Takes}
 use Rattle.bm25.specs.declared.Scoring.{Scoring}
-use Rattle.notefile.specs.Header.{headerOf, listCount}
+use Rattle.rule.specs.Right.{ruleRight}
+use Rattle.rule.specs.declared.Rule.{Rule}
+use Rattle.notefile.specs.Header.{listCount}
 use Rattle.notefile.specs.Refusal.{fileRefusal}
+use Rattle.notefile.specs.Inner.Structs.{headerOf}
 use Rattle.notefile.specs.declared.header.Header.{Header}
 use Rattle.notecheck.specs.Answers.{answerOf}
 use Rattle.notecheck.specs.declared.check.Checked.{Checked}
 use Rattle.notecheck.specs.declared.check.Checked.the-variants.{Accepted, Refused}
-use Rattle.route.specs.Plain.{Takes}
-use Rattle.rule.specs.Right.{ruleRight}
-use Rattle.rule.specs.declared.Rule.{Rule}
 use Rattle.request.specs.Request.{modeOf, numbersRight, countRight, queryRight, orElse, refusalOf}
 use Rattle.request.specs.declared.Mode.{Mode}
 use Rattle.request.specs.declared.Mode.the-variants.{Union, Intersection, Single}

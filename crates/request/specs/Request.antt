@@ -5,12 +5,12 @@ use Prim.Native.Nat.{ℕ, zero, suc}
 use lib.Dec.{eqb, leb, ltb}
 use lib.ListN.{length}
 use lib.Ieee.{Float}
-use Rattle.bm25.specs.declared.Scoring.{Scoring}
-use Rattle.notefile.specs.Header.{listCount}
-use Rattle.notefile.specs.Refusal.{fileRefusal}
 use Rattle.route.specs.Plain as plain
+use Rattle.bm25.specs.declared.Scoring.{Scoring}
 use Rattle.rule.specs.Right.{ruleRight}
 use Rattle.rule.specs.declared.Rule.{Rule}
+use Rattle.notefile.specs.Header.{listCount}
+use Rattle.notefile.specs.Refusal.{fileRefusal}
 use Rattle.request.specs.declared.Mode.{Mode}
 use Rattle.request.specs.declared.Mode.the-variants.{Union, Intersection, Single}
 

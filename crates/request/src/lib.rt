@@ -7,6 +7,7 @@ use rule::Rule;
 use rule::rule_right;
 ghost use mathlib.Core.Path.{_≡_};
 ghost use lib.ListN.{length};
+ghost use Rattle.arrays.specs.Lent.{before};
 ghost use Rattle.request.specs.Request.{numbersRight, countRight, queryRight, refusalOf};
 
 // Which documents match: those of any list of the query, of all its lists, or of its one list.
@@ -18,7 +19,7 @@ pub enum Mode {
 
 // Whether every number of the query is a list's.
 fn numbers_right(lists: usize, query: &[u32]) -> bool
-    ensures { λ r. ⌜ r ≡ numbersRight lists (now (query .entry)) ⌝ }
+    ensures { λ r. ⌜ r ≡ numbersRight lists (before query) ⌝ }
 {
     let mut i = 0usize;
     while i < query.len() {
@@ -48,7 +49,7 @@ fn count_right(mode: Mode, n: usize) -> bool
 
 // Whether condition 10 is not met.
 fn query_right(lists: usize, mode: Mode, query: &[u32]) -> bool
-    ensures { λ r. ⌜ r ≡ queryRight lists mode (now (query .entry)) ⌝ }
+    ensures { λ r. ⌜ r ≡ queryRight lists mode (before query) ⌝ }
 {
     if numbers_right(lists, query) {
         return count_right(mode, query.len());
@@ -65,7 +66,7 @@ pub fn refusal(
     rule: Rule,
     script: &[f32],
 ) -> u32
-    ensures { λ r. ⌜ r ≡ refusalOf (now (file .entry)) (now (query .entry)) mode scoring rule (now (script .entry)) ⌝ }
+    ensures { λ r. ⌜ r ≡ refusalOf (before file) (before query) mode scoring rule (before script) ⌝ }
 {
     match check(file) {
         Checked::Refused(n) => n,

@@ -9,7 +9,7 @@ use Rattle.route.specs.Lists.{All}
 use Rattle.route.specs.Score.{Ops}
 use Rattle.route.specs.Report.{Callback}
 use Rattle.route.specs.Postings.{Postings, TERMINATED, scoreOf}
-use Rattle.route.specs.Plain.{Mode, Takes, hit, intersection, scan, single, union}
+use Rattle.route.specs.Plain.{Mode, hit, intersection, scan, single, union}
 use Rattle.route.specs.Cursor.{fresh}
 use Rattle.route.specs.Ordering.{retain, sortBy}
 use Rattle.route.specs.Scorer.{Scorer, docOf, onCur, scorersFrom, sizeHint}
@@ -18,21 +18,25 @@ use Rattle.route.specs.Single.{blockWandSingleScorer}
 use Rattle.route.specs.Union.{blockWand, pivotRoute}
 use Rattle.route.specs.Intersection.{leaderRoute}
 use Rattle.route.specs.Skipping.{noRoute, ofTwo, route}
+use Rattle.route.specs.Inner.Rules.{Takes}
+use Rattle.route.specs.Inner.Lists.{ListOk}
+use Rattle.route.specs.Inner.Singles.{SingleKept, singleCost}
+use Rattle.route.specs.Inner.Unions.{UnionKept}
 use Rattle.route.proofs.Lists.{perm-length}
 use Rattle.route.proofs.Order.{NeverFalls, Ordered}
 use Rattle.route.proofs.Scan.{rest, scan-ext}
-use Rattle.route.proofs.ListLaws.{Accepted, ListOk}
+use Rattle.route.proofs.ListLaws.{Accepted}
 use Rattle.route.proofs.Sums.{Exact, Sums}
 use Rattle.route.proofs.Ordering.{retain-all, sort-perm}
 use Rattle.route.proofs.Scorers.{QueryOk, fresh-lists}
 use Rattle.route.proofs.Hits.{one-total}
-use Rattle.route.proofs.Single.{single-agrees}
+use Rattle.route.proofs.Single.Agrees.{single-agrees}
 use Rattle.route.proofs.Ending.{Nears, Stays, ends-within, one-end}
-use Rattle.route.proofs.SingleEnds.{SingleKept, single-nears, single-stays, singleCost}
-use Rattle.route.proofs.Union.{one-left, union-agrees}
-use Rattle.route.proofs.UnionEnds.{UnionKept, union-nears, union-stays, unionCost}
-use Rattle.route.proofs.Intersection.{intersection-agrees}
-use Rattle.route.proofs.IntersectionEnds.{InterKept, interCost, intersection-nears, intersection-stays}
+use Rattle.route.proofs.Single.Ends.{single-nears, single-stays}
+use Rattle.route.proofs.Union.Agrees.{one-left, union-agrees}
+use Rattle.route.proofs.Union.Ends.{union-nears, union-stays, unionCost}
+use Rattle.route.proofs.Intersection.Agrees.{intersection-agrees}
+use Rattle.route.proofs.Intersection.Ends.{InterKept, interCost, intersection-nears, intersection-stays}
 
 -- What stepped scoring gives, for sums of at most M values: an order, sums that ignore order, differences that are exact.
 pub record SteppedLaws (O : Ops) (M : ℕ) : Type 1 where

@@ -9,9 +9,10 @@ use borrow.Author.Tests.{eq-eqb, eqb-false, eqb-true, lt-ltb, ltb-false, ltb-tru
 use Rattle.route.specs.Score.{Ops, larger}
 use Rattle.route.specs.Postings.{Postings, lookFrom, scoreOf, start}
 use Rattle.route.specs.Cursor.{Cursor, blockMax, maxFrom, tailMax}
+use Rattle.route.specs.Inner.Lists.{ListOk}
 use Rattle.route.proofs.Cases.{by-test, on-test}
 use Rattle.route.proofs.Order.{Ordered, Values, larger-rank}
-use Rattle.route.proofs.ListLaws.{ListOk, ScoresOk}
+use Rattle.route.proofs.ListLaws.{ScoresOk}
 use Rattle.route.proofs.Places.{doc-inj}
 
 module _ (B : ℕ) {O : Ops} {L : Ordered O} {P : O .S → Type 0} (vs : Values O L P) where

@@ -7,31 +7,19 @@ use lib.Dec.{eqb, leb, ltb}
 use borrow.Author.Tests.{eqb-false, eqb-true, leb-false, leb-true, ltb-false, ltb-true}
 use Rattle.route.specs.Postings.{Postings, TERMINATED, docAt, lastDoc, start}
 use Rattle.route.specs.Cursor.{Cursor, advanceIn, docHere, findIn, fresh, loadAt, nextIn, seekBlockIn, seekIn, skipTo}
+use Rattle.route.specs.Inner.Cursors.{Past, Wf}
+use Rattle.route.specs.Inner.Lists.{ListOk}
 use Rattle.route.proofs.Cases.{by-test, lt-of-ne, on-test}
-use Rattle.route.proofs.ListLaws.{ListOk}
 use Rattle.route.proofs.Places.{docAt-in, docAt-le, docAt-lt, docAt-out, last-in, last-out, last-place, le-last, start-inv, start-le, start-suc}
 
 module _ (B : ℕ) where
-  -- a well-formed cursor, and what moving it may do
+  -- what moving a cursor may do
   module _ {S : Type 0} (l : Postings S) where
-    pub record Wf (c : Cursor) : Type 0 where
-      pub lo : start B (c .dec) ≤ c .at
-      pub hi : c .at < start B (c .dec) + B
-      pub order : c .dec ≤ c .blk
-      pub in-list : c .blk ≤ l .full
-      pub here : c .at ≤ l .len
-      pub is-loaded : c .loaded ≡ true → c .dec ≡ c .blk
-      pub to-loaded : c .dec ≡ c .blk → c .loaded ≡ true
-
-    -- the cursor has passed no document from x on, and neither has its skip reader
-    abbrev pub Past : Cursor → ℕ → Type 0
-    Past c x = (i : ℕ) → i < l .len → x ≤ l .doc i → (c .at ≤ i) × (start B (c .blk) ≤ i)
-
     pub record Moved (t : ℕ) (c c′ : Cursor) : Type 0 where
-      pub wf : Wf c′
+      pub wf : Wf B l c′
       pub up : c .blk ≤ c′ .blk
       pub on : c .at ≤ c′ .at
-      pub past : (x : ℕ) → t ≤ x → Past c x → Past c′ x
+      pub past : (x : ℕ) → t ≤ x → Past B l c x → Past B l c′ x
 
     pub record Shallow (t : ℕ) (c c′ : Cursor) : Type 0 where
       pub moved : Moved t c c′
@@ -44,10 +32,10 @@ module _ (B : ℕ) where
       pub lands : t ≤ docHere l c′
 
     pub record Advanced (c c′ : Cursor) : Type 0 where
-      pub wf : Wf c′
+      pub wf : Wf B l c′
       pub next : c′ .at ≡ suc (c .at)
       pub block : c′ .dec ≡ c′ .blk
-      pub past : (x : ℕ) → docHere l c < x → Past c x → Past c′ x
+      pub past : (x : ℕ) → docHere l c < x → Past B l c x → Past B l c′ x
 
   module _ (N : ℕ) {S : Type 0} (l : Postings S) (k : ListOk B N l) where
     pub record Skipped (t b b′ : ℕ) : Type 0 where
@@ -133,13 +121,13 @@ module _ (B : ℕ) where
         let j0 = j .0 in
         (find-up t B (start B b), omega arith, j0, j .1))
 
-    pub past-up : (c : Cursor) (x y : ℕ) → x ≤ y → Past l c x → Past l c y
+    pub past-up : (c : Cursor) (x y : ℕ) → x ≤ y → Past B l c x → Past B l c y
     past-up c x y h p i a b = p i a (omega arith)
 
-    pub moved-not : (t : ℕ) (c : Cursor) → Wf l c → Moved l t c c
+    pub moved-not : (t : ℕ) (c : Cursor) → Wf B l c → Moved l t c c
     moved-not t c w = record { wf = w; up = omega arith; on = omega arith; past = λ x h p. p }
 
-    pub seekBlock-is : (t : ℕ) (c : Cursor) → t ≤ TERMINATED → Wf l c → Shallow l t c (seekBlockIn l B t c)
+    pub seekBlock-is : (t : ℕ) (c : Cursor) → t ≤ TERMINATED → Wf B l c → Shallow l t c (seekBlockIn l B t c)
     seekBlock-is t c h w =
         by-test (Shallow l t c) (ltb (lastDoc l B (c .blk)) t)
         (record { blk = skipTo l B t (l .full - c .blk) (c .blk); loaded = false; dec = c .dec; at = c .at }) c
@@ -176,7 +164,7 @@ module _ (B : ℕ) where
         })
         (λ e. record { moved = moved-not t c w; covers = ltb-false (lastDoc l B (c .blk)) t e; same-at = refl; same-dec = refl })
 
-    next-is : (t : ℕ) (c : Cursor) → t ≤ TERMINATED → Wf l c → docHere l c < t → Moved l t c (nextIn l B c)
+    next-is : (t : ℕ) (c : Cursor) → t ≤ TERMINATED → Wf B l c → docHere l c < t → Moved l t c (nextIn l B c)
     next-is t c h w g =
         let i = docAt-lt B N l k (c .at) (omega arith) in
         let lo = w .lo in
@@ -206,7 +194,7 @@ module _ (B : ℕ) where
               );
         }
 
-    load-is : (t : ℕ) (c : Cursor) → t ≤ TERMINATED → Wf l c → docHere l c < t → Sought l t c (loadAt l B t (seekBlockIn l B t c .blk))
+    load-is : (t : ℕ) (c : Cursor) → t ≤ TERMINATED → Wf B l c → docHere l c < t → Sought l t c (loadAt l B t (seekBlockIn l B t c .blk))
     load-is t c h w g =
         let s = seekBlock-is t c h w in
         let b′ : ℕ = seekBlockIn l B t c .blk in
@@ -235,7 +223,7 @@ module _ (B : ℕ) where
           lands = f .3;
         }
 
-    pub seek-is : (t : ℕ) (c : Cursor) → t ≤ TERMINATED → Wf l c → Sought l t c (seekIn l B t c)
+    pub seek-is : (t : ℕ) (c : Cursor) → t ≤ TERMINATED → Wf B l c → Sought l t c (seekIn l B t c)
     seek-is t c h w =
         by-test (Sought l t c) (leb t (docHere l c)) c
         (cond (leb t (docHere l (nextIn l B c))) (nextIn l B c) (loadAt l B t (seekBlockIn l B t c .blk)))
@@ -247,7 +235,7 @@ module _ (B : ℕ) where
         (λ f. load-is t c h w g))
 
     -- a cursor that stands on a document that it has not passed has its block loaded
-    pub on-block : (c : Cursor) (x : ℕ) → Wf l c → Past l c x → docHere l c < TERMINATED → x ≤ docHere l c → c .dec ≡ c .blk
+    pub on-block : (c : Cursor) (x : ℕ) → Wf B l c → Past B l c x → docHere l c < TERMINATED → x ≤ docHere l c → c .dec ≡ c .blk
     on-block c x w p h g =
         let i = docAt-lt B N l k (c .at) h in
         let q = p (c .at) i (omega (arith, docAt-in B N l k (c .at) i)) .1 in
@@ -255,7 +243,7 @@ module _ (B : ℕ) where
         let o = w .order in
         omega arith
 
-    pub advance-is : (c : Cursor) → Wf l c → c .dec ≡ c .blk → docHere l c < TERMINATED → Advanced l c (advanceIn l B c)
+    pub advance-is : (c : Cursor) → Wf B l c → c .dec ≡ c .blk → docHere l c < TERMINATED → Advanced l c (advanceIn l B c)
     advance-is c w o h =
         let i = docAt-lt B N l k (c .at) h in
         let b = k .wide in
@@ -263,7 +251,7 @@ module _ (B : ℕ) where
         let od = ap (start B) o in
         let lo = w .lo in
         let hi = w .hi in
-        let passes : (x j : ℕ) → docHere l c < x → Past l c x → j < l .len → x ≤ l .doc j → c .at < j =
+        let passes : (x j : ℕ) → docHere l c < x → Past B l c x → j < l .len → x ≤ l .doc j → c .at < j =
         λ x j a p m n.
         on-test (ltb (c .at) j) (λ e. ltb-true (c .at) j e)
         (λ e.
@@ -319,7 +307,7 @@ module _ (B : ℕ) where
         })
 
     -- on the first place of the skip reader's block, loaded
-    pub first-wf : (c : Cursor) → Wf l c → Wf l (record { blk = c .blk; loaded = true; dec = c .blk; at = start B (c .blk) })
+    pub first-wf : (c : Cursor) → Wf B l c → Wf B l (record { blk = c .blk; loaded = true; dec = c .blk; at = start B (c .blk) })
     first-wf c w =
         let h = k .wide in
         record {
@@ -332,7 +320,7 @@ module _ (B : ℕ) where
           to-loaded = λ _. refl;
         }
 
-    pub fresh-is : Wf l fresh × ((x : ℕ) → Past l fresh x)
+    pub fresh-is : Wf B l fresh × ((x : ℕ) → Past B l fresh x)
     unfolding start
     fresh-is = (
       record {

@@ -10,10 +10,11 @@ use lib.ListN.{length}
 use Rattle.route.specs.Lists.{All}
 use Rattle.route.specs.Score.{Ops, larger, smaller}
 use Rattle.route.specs.Report.{Report}
-use Rattle.route.specs.Rule.{Rule, RuleOk, limited, ruled}
+use Rattle.route.specs.Rule.{Rule, limited, ruled}
 use Rattle.route.specs.Postings.{Postings, TERMINATED}
-use Rattle.route.specs.Plain.{Mode, Takes, hit, plain}
+use Rattle.route.specs.Plain.{Mode, hit, plain}
 use Rattle.route.specs.Skipping.{Skips}
+use Rattle.route.specs.Inner.Rules.{RuleOk, Takes}
 use Rattle.route.proofs.Cases.{on-test}
 use Rattle.route.proofs.Order.{FinOf, above-false, above-true}
 use Rattle.route.proofs.Rule.{never-falls, start-fin}

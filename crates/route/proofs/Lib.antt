@@ -1,4 +1,4 @@
--- Laws from the bottom: order and rule, lists and cursors, sums, then each route agrees with the plain scan and ends, then all modes and demand 3.
+-- Laws from the bottom: order and rule, lists and cursors, sums, then each route agrees with the plain scan and ends, by mode, then all modes and demand 3.
 pub mod Cases
 pub mod Lists
 pub mod Order
@@ -15,28 +15,13 @@ pub mod Sums
 pub mod Grid
 pub mod Ordering
 pub mod Scorers
-pub mod Pivot
 pub mod Hits
-pub mod Lag
-pub mod Single
 pub mod Ending
-pub mod SingleEnds
-pub mod UnionState
-pub mod UnionTooLow
-pub mod UnionMissed
-pub mod UnionHit
+pub mod Single
 pub mod Union
-pub mod UnionSafe
-pub mod UnionEnds
-pub mod InterCandidate
-pub mod InterWindow
-pub mod InterQuery
 pub mod Intersection
-pub mod IntersectionEnds
 pub mod Agree
 pub mod Rows
 pub mod Demand
 pub mod Stepped
-pub mod ExamplesFile
 pub mod Examples
-pub mod ExamplesUnstepped

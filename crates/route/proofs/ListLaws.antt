@@ -1,17 +1,9 @@
 -- The laws of a decoded list: what 01's conditions 5 to 9 leave of a list in an accepted file.
 use Prim.Native.Nat.{ℕ, _+_, _<_, _≤_}
 use Rattle.route.specs.Score.{Ops}
-use Rattle.route.specs.Postings.{Postings, TERMINATED, start}
+use Rattle.route.specs.Postings.{Postings, start}
+use Rattle.route.specs.Inner.Lists.{ListOk}
 use Rattle.route.proofs.Order.{Ordered}
-
--- condition 7: documents rise strictly and stay below the header's number; full blocks of B, then a tail shorter than B
-pub record ListOk (B : ℕ) {S : Type 0} (N : ℕ) (l : Postings S) : Type 0 where
-  pub rises : (i j : ℕ) → i < j → j < l .len → l .doc i < l .doc j
-  pub below : (i : ℕ) → i < l .len → l .doc i < N
-  pub few : N ≤ TERMINATED
-  pub wide : 0 < B
-  pub blocks : start B (l .full) ≤ l .len
-  pub tail : l .len < start B (l .full) + B
 
 -- condition 9: scores and bounds are values of the scoring, and each bound covers the scores of its block or list
 pub record ScoresOk (B : ℕ) (O : Ops) (L : Ordered O) (P : O .S → Type 0) (l : Postings (O .S)) : Type 0 where

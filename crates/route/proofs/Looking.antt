@@ -6,8 +6,8 @@ use native.Mathlib.Omega.{arith}
 use lib.Dec.{eqb}
 use borrow.Author.Tests.{eqb-true, eqb-false}
 use Rattle.route.specs.Postings.{Postings, lookFrom, scoreOf}
+use Rattle.route.specs.Inner.Lists.{ListOk}
 use Rattle.route.proofs.Cases.{by-test, lt-of-ne}
-use Rattle.route.proofs.ListLaws.{ListOk}
 use Rattle.route.proofs.Places.{doc-inj}
 
 module _ {S : Type 0} (l : Postings S) where

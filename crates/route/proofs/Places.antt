@@ -6,8 +6,8 @@ use native.Mathlib.Omega.{arith}
 use lib.Dec.{leb, ltb}
 use borrow.Author.Tests.{le-ltb, leb-false, leb-true, lt-ltb, ltb-false, ltb-true}
 use Rattle.route.specs.Postings.{Postings, TERMINATED, docAt, lastDoc, start}
+use Rattle.route.specs.Inner.Lists.{ListOk}
 use Rattle.route.proofs.Cases.{by-test, on-test}
-use Rattle.route.proofs.ListLaws.{ListOk}
 
 module _ (B : ℕ) where
   pub start-suc : (b : ℕ) → start B (suc b) ≡ start B b + B

@@ -10,7 +10,8 @@ use borrow.Author.Tests.{leb-false, leb-true}
 use Rattle.route.specs.Lists.{All}
 use Rattle.route.specs.Score.{Ops, larger}
 use Rattle.route.specs.Report.{Report}
-use Rattle.route.specs.Rule.{Rises, Rule, RuleOk, best, insertDown, lastOf, rankFrom, ruled, scores, script, thresholdAfter}
+use Rattle.route.specs.Rule.{Rule, best, insertDown, lastOf, rankFrom, ruled, scores, script, thresholdAfter}
+use Rattle.route.specs.Inner.Rules.{Rises, RuleOk}
 use Rattle.route.proofs.Cases.{by-test}
 use Rattle.route.proofs.Lists.{all-append}
 use Rattle.route.proofs.Ranking.{rank-length, rank-snoc}

@@ -13,12 +13,13 @@ use Rattle.route.specs.Postings.{Postings, TERMINATED, docAt, scoreOf}
 use Rattle.route.specs.Plain.{optList, present}
 use Rattle.route.specs.Cursor.{Cursor, seekIn}
 use Rattle.route.specs.Scorer.{Scorer, advance, blockMaxScore, docOf, lastDocInBlock, maxScore, onCur, scoreHere, scorersFrom, seek, seekBlock}
+use Rattle.route.specs.Inner.Cursors.{Past, Wf}
 use Rattle.route.proofs.Cases.{on-test}
 use Rattle.route.proofs.Lists.{Perm, all-imp, all-map, p-cons, p-nil, p-swap, p-trans, perm-left, perm-map, perm-refl}
 use Rattle.route.proofs.Order.{LowOf, Ordered}
 use Rattle.route.proofs.ListLaws.{Accepted}
 use Rattle.route.proofs.Places.{docAt-in, docAt-le, docAt-lt, docAt-out, last-le}
-use Rattle.route.proofs.Cursor.{Past, Wf, advance-is, fresh-is, on-block, past-up, seek-is, seekBlock-is}
+use Rattle.route.proofs.Cursor.{advance-is, fresh-is, on-block, past-up, seek-is, seekBlock-is}
 use Rattle.route.proofs.Bounds.{block-covers, block-fin}
 use Rattle.route.proofs.Looking.{score-all, score-at}
 use Rattle.route.proofs.Sums.{Dom, Sums, d-nil, dom-opt}

@@ -12,20 +12,22 @@ use lib.Ieee.Exact.{HasValue}
 use lib.Ieee.Fits.{and-i, down-pos, eq→eqb}
 use lib.ListN.{length}
 use borrow.Author.Tests.{le-ltb, lt-ltb, ltb-false, ltb-true}
+use Rattle.floats.specs.Step.{gridF}
+use Rattle.floats.specs.Threshold.{thresholdOk}
+use Rattle.floats.specs.Inner.Steps.{level}
 use Rattle.floats.proofs.Exact.{difference-exact}
 use Rattle.floats.proofs.Grid.{grid-add, grid-has, grid-steps}
 use Rattle.floats.proofs.Steps.{steps-lt}
 use Rattle.floats.proofs.Threshold.{level-steps}
-use Rattle.floats.specs.Step.{gridF}
-use Rattle.floats.specs.Threshold.{level, thresholdOk}
 use Rattle.route.specs.Lists.{All}
 use Rattle.route.specs.Score.{larger, smaller}
 use Rattle.route.specs.F32.{f32}
 use Rattle.route.specs.Report.{Report}
-use Rattle.route.specs.Rule.{Rule, RuleOk, limited}
+use Rattle.route.specs.Rule.{Rule, limited}
 use Rattle.route.specs.Postings.{Postings, TERMINATED}
-use Rattle.route.specs.Plain.{Mode, Takes, plain}
+use Rattle.route.specs.Plain.{Mode, plain}
 use Rattle.route.specs.Skipping.{Skips}
+use Rattle.route.specs.Inner.Rules.{RuleOk, Takes}
 use Rattle.route.proofs.Cases.{on-test}
 use Rattle.route.proofs.Order.{Ordered}
 use Rattle.route.proofs.ListLaws.{Accepted}

@@ -9,8 +9,9 @@ use native.Mathlib.Omega.{arith}
 use Rattle.route.specs.Lists.{All}
 use Rattle.route.specs.Score.{Ops}
 use Rattle.route.specs.Report.{Report}
-use Rattle.route.specs.Rule.{Rule, RuleOk, ruled, scores, thresholdAfter}
+use Rattle.route.specs.Rule.{Rule, ruled, scores, thresholdAfter}
 use Rattle.route.specs.Plain.{scan, turnOf}
+use Rattle.route.specs.Inner.Rules.{RuleOk}
 use Rattle.route.proofs.Lists.{all-append, all-back, all-front}
 use Rattle.route.proofs.Order.{FinOf, Ordered, above-false, above-true, le-above, lt-above}
 use Rattle.route.proofs.Scan.{offer-all}

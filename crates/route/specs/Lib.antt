@@ -14,3 +14,4 @@ pub mod Single
 pub mod Union
 pub mod Intersection
 pub mod Skipping
+pub mod Inner

@@ -1,8 +1,7 @@
 -- The plain scan, which 01 adds to measure skipping runs by: every matching document upward, in all modes.
-use mathlib.Core.Path.{_≡_}
 use mathlib.Core.Option.{Option, none, some}
 use mathlib.Core.List.{List, [], _∷_, _++_}
-use Prim.Native.Nat.{ℕ, zero, suc, _≤_}
+use Prim.Native.Nat.{ℕ, zero, suc}
 use Rattle.route.specs.Score.{Ops, sumFrom}
 use Rattle.route.specs.Report.{Report, Callback, offer}
 use Rattle.route.specs.Rule.{Rule, ruled}
@@ -11,12 +10,6 @@ use Rattle.route.specs.Postings.{Postings, scoreOf}
 -- 01's three modes
 pub data Mode : Type 0 where
   union intersection single : Mode
-
--- What refusal 10 asks of the number of lists named: one for single, two or more for an intersection.
-abbrev pub Takes : Mode → ℕ → Type 0
-Takes union n = Unit {0}
-Takes intersection n = 2 ≤ n
-Takes single n = n ≡ 1
 
 -- the score of a list that has the document
 abbrev pub optList : {S : Type 0} → Option S → List S

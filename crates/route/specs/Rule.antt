@@ -1,11 +1,9 @@
 -- Rules: how the threshold moves with the reports, and what a run with n rows returns.
-use mathlib.Core.Path.{_≡_}
-use mathlib.Core.Bool.{false, cond}
+use mathlib.Core.Bool.{cond}
 use mathlib.Core.List.{List, [], _∷_, _++_, map}
-use Prim.Native.Nat.{ℕ, _<_, pred}
+use Prim.Native.Nat.{ℕ, pred}
 use lib.Dec.{leb}
 use lib.ListN.{length, getD, take}
-use Rattle.route.specs.Lists.{All}
 use Rattle.route.specs.Score.{Ops, larger}
 use Rattle.route.specs.Report.{Report, Callback}
 
@@ -47,18 +45,6 @@ module _ (O : Ops) where
     threshold = λ rs. thresholdAfter q start (scores rs);
     call = λ d x rs. rs ++ (record { doc = d; score = x } ∷ []);
   }
-
-module _ (O : Ops) where
-  -- 01's condition 11 on a script: no entry is below the one before it, and the first is not below the start.
-  abbrev pub Rises : O .S → List (O .S) → Type 0
-  Rises start [] = Unit {0}
-  Rises start (x ∷ xs) = (O .above start x ≡ false) × Rises x xs
-
-  -- What condition 11 leaves: `Fin` thresholds, a script that rises, and k at least 1; that k is at most 64 matters to no
-  -- theorem here.
-  abbrev pub RuleOk : (O .S → Type 0) → Rule (O .S) → O .S → Type 0
-  RuleOk Fin (script l) start = Fin start × Rises start l × All Fin l
-  RuleOk Fin (best k) start = Fin start × (0 < k)
 
 -- What a run returns (01's table): its number, and the rows below its count.
 pub record Outcome (S : Type 0) : Type 0 where

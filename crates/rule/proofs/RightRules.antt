@@ -7,13 +7,14 @@ use lib.Ieee.{Float, lt}
 use borrow.Author.Tests.{leb-true}
 use Rattle.arrays.proofs.Every.{first-true, second-true}
 use Rattle.floats.specs.Threshold.{thresholdOk}
-use Rattle.bm25.specs.declared.Scoring.{Scoring}
-use Rattle.bm25.specs.declared.Scoring.the-variants.{Stepped}
 use Rattle.route.specs.Lists.{All}
 use Rattle.route.specs.F32.{f32}
-use Rattle.route.specs.Rule.{Rises, RuleOk}
+use Rattle.route.specs.Inner.Rules.{Rises, RuleOk}
+use Rattle.bm25.specs.declared.Scoring.{Scoring}
+use Rattle.bm25.specs.declared.Scoring.the-variants.{Stepped}
 use Rattle.rule.specs.Right.{thresholdRight, scriptRight, ruleRight}
-use Rattle.rule.specs.Follows.{startOf, ruleOf, Keeps}
+use Rattle.rule.specs.Rules.{startOf, ruleOf}
+use Rattle.rule.specs.Inner.Follows.{Keeps}
 use Rattle.rule.specs.declared.Rule.{Rule}
 use Rattle.rule.specs.declared.Rule.the-variants.{Script, BestK}
 

@@ -2,31 +2,31 @@
 use mathlib.Core.Path.{_≡_, refl, sym, ap, _∙_, subst}
 use mathlib.Core.Bool.{Bool, true, false}
 use mathlib.Core.List.{List}
+use mathlib.Core.Logic.{inl, inr}
 use Prim.Native.Nat.{ℕ, suc, min, _+_, _≤_, _<_}
 use native.Mathlib.Nat.{add-zero}
 use native.Mathlib.Omega.{arith}
 use lib.Dec.{eqb}
 use lib.ListN.{getD, set}
 use lib.Ieee.{Float}
-use mathlib.Core.Logic.{inl, inr}
 use borrow.Author.Tests.{eq-eqb, lt-ltb, le-ltb}
 use Rattle.arrays.proofs.Order.{lt-or-ge}
 use Rattle.block_search.specs.Search.{countBelow}
+use Rattle.route.specs.Postings.{Postings, lastDoc, start}
+use Rattle.route.specs.Cursor.{Cursor, advanceIn, seekBlockIn, seekIn}
 use Rattle.bm25.specs.declared.Scoring.{Scoring}
 use Rattle.bm25.specs.declared.Scoring.the-variants.{Unstepped}
 use Rattle.notefile.specs.Lists.{fullBlocks}
 use Rattle.notefile.specs.declared.part.Part.{Part}
-use Rattle.route.specs.Postings.{Postings, lastDoc, start}
-use Rattle.route.specs.Cursor.{Cursor, advanceIn, seekBlockIn, seekIn}
 use Rattle.decoded.specs.Lists.{listOf}
-use Rattle.postings.specs.Decoded.{docIn, doc-is, Decoded, ListIn}
-use Rattle.postings.specs.Reader.{lastIn, placeIn, previousIn, readerAt, Stands}
-use Rattle.postings.specs.Places.{cursorOf, Placed, Moved, Shallow, Here}
+use Rattle.postings.specs.Inner.Decoded.{docIn, doc-is, Decoded, ListIn}
+use Rattle.postings.specs.Inner.Reader.{lastIn, placeIn, previousIn, readerAt, Stands}
+use Rattle.postings.specs.Inner.Places.{cursorOf, Placed, Moved, Shallow, Here}
 use Rattle.postings.specs.declared.skip.SkipReader.{SkipReader}
 use Rattle.postings.specs.declared.cursor.SegmentPostings.{SegmentPostings}
 use Rattle.postings.proofs.Readers.{block-is, stands-on}
 use Rattle.postings.proofs.Moves.{advanced-in, doc-here, sought-here, sought-next, sought-within, stays}
-use Rattle.slot_rows.specs.Rows.{partIn, partRow, flag, firstOf, placeRow, Narrow, cursorIn, postingsIn, Standing, PlaceIn, MovedRow, ShallowRow}
+use Rattle.slot_rows.specs.Inner.Rows.{partIn, partRow, flag, firstOf, placeRow, Narrow, cursorIn, postingsIn, Standing, PlaceIn, MovedRow, ShallowRow}
 
 flag-back : (b : Bool) → eqb (flag b) 1 ≡ b
 flag-back true = refl

@@ -1,2 +1,2 @@
 -- What the contracts of `slot_rows` cite.
-pub mod Rows
+pub mod Inner

@@ -1,10 +1,11 @@
 // A slot's two rows of numbers: those of its list's part, and those of its place. Structs are made of them at a block change only.
-ghost use mathlib.Core.Path.{_≡_};
-ghost use Rattle.notefile.specs.Given.{BlocksIn};
-ghost use Rattle.slot_rows.specs.Rows.{partIn, partRow, PartRow, postingsIn, placeRow, Narrow, Standing};
 use notefile::part::Part;
 use postings::cursor::SegmentPostings;
 use postings::skip::SkipReader;
+ghost use mathlib.Core.Path.{_≡_};
+ghost use Rattle.arrays.specs.Lent.{before, after};
+ghost use Rattle.notefile.specs.Inner.Given.{BlocksIn};
+ghost use Rattle.slot_rows.specs.Inner.Rows.{partIn, partRow, PartRow, postingsIn, placeRow, Narrow, Standing};
 
 // Where a place's numbers stand in its row. The last says whether the block's bound is known.
 pub const BLOCK: usize = 0;
@@ -33,7 +34,7 @@ pub const COUNT: usize = 2;
 
 // A part's numbers, put into a row.
 pub fn keep_part(x: Part, list: &mut [usize; 8])
-    ensures { λ _. ⌜ (now (list .exit) ≡ partRow x) × PartRow (now (list .exit)) ⌝ }
+    ensures { λ _. ⌜ (after list ≡ partRow x) × PartRow (after list) ⌝ }
 {
     *list = [
         x.weight as usize,
@@ -50,7 +51,7 @@ pub fn keep_part(x: Part, list: &mut [usize; 8])
 // The part of a row.
 pub fn part_of(list: &[usize; 8]) -> Part
     requires { ⌜ PartRow (now list) ⌝ }
-    ensures { λ r. ⌜ r ≡ partIn (now (list .entry)) ⌝ }
+    ensures { λ r. ⌜ r ≡ partIn (before list) ⌝ }
 {
     Part {
         weight: list[0] as u32,
@@ -65,7 +66,7 @@ pub fn part_of(list: &[usize; 8]) -> Part
 
 // A place's numbers, put into a row, with a bound that is not known.
 pub fn keep(p: SegmentPostings, place: &mut [usize; 8])
-    ensures { λ _. ⌜ (now (place .exit) ≡ placeRow p 0) × Narrow p ⌝ }
+    ensures { λ _. ⌜ (after place ≡ placeRow p 0) × Narrow p ⌝ }
 {
     let reader = p.skip_reader;
     let mut loaded = 0usize;
@@ -87,7 +88,7 @@ pub fn keep(p: SegmentPostings, place: &mut [usize; 8])
 // The place of a row. Its skip reader reads the block's entry again.
 pub fn postings_of(file: &[u8], x: Part, place: &[usize; 8]) -> SegmentPostings
     requires { ⌜ BlocksIn (now file) x × Standing (now file) x (now place) ⌝ }
-    ensures { λ r. ⌜ r ≡ postingsIn (now (file .entry)) x (now (place .entry)) ⌝ }
+    ensures { λ r. ⌜ r ≡ postingsIn (before file) x (before place) ⌝ }
 {
     let previous = place[PREVIOUS] as u32;
     let skip_reader = SkipReader::on(file, x, place[BLOCK], place[BYTE_OFFSET], previous);

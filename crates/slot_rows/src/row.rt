@@ -1,12 +1,4 @@
 // A scorer's moves over its slot's rows and arrays. Within a block they change one number or none.
-ghost use mathlib.Core.Path.{_≡_};
-ghost use Prim.Native.Nat.{_≤_};
-ghost use lib.ListN.{getD};
-ghost use Rattle.notefile.specs.Lists.{fullBlocks};
-ghost use Rattle.route.specs.Cursor.{advanceIn, fresh, seekBlockIn, seekIn};
-ghost use Rattle.decoded.specs.Lists.{listOf};
-ghost use Rattle.postings.specs.Decoded.{docIn, ListIn};
-ghost use Rattle.slot_rows.specs.Rows.{cursorIn, firstOf, partIn, MovedRow, PartRow, PlaceIn, ShallowRow, Standing};
 use crate::place::CUR;
 use crate::place::LAST;
 use crate::place::LOADED;
@@ -18,6 +10,15 @@ use notefile::part::Part;
 use postings::block::load_block;
 use postings::cursor::SegmentPostings;
 use postings::cursor::next_place;
+ghost use mathlib.Core.Path.{_≡_};
+ghost use Prim.Native.Nat.{_≤_};
+ghost use lib.ListN.{getD};
+ghost use Rattle.arrays.specs.Lent.{before, after};
+ghost use Rattle.route.specs.Cursor.{advanceIn, fresh, seekBlockIn, seekIn};
+ghost use Rattle.notefile.specs.Lists.{fullBlocks};
+ghost use Rattle.decoded.specs.Lists.{listOf};
+ghost use Rattle.postings.specs.Inner.Decoded.{docIn, ListIn};
+ghost use Rattle.slot_rows.specs.Inner.Rows.{cursorIn, firstOf, partIn, MovedRow, PartRow, PlaceIn, ShallowRow, Standing};
 
 // On the list's first posting.
 pub fn open(
@@ -28,7 +29,7 @@ pub fn open(
     freqs: &mut [u32; 128],
 ) -> u32
     requires { ⌜ ListIn (now file) x ⌝ }
-    ensures { λ r. ⌜ MovedRow (now (file .entry)) x (λ _. fresh) (now (place .entry)) (now (place .exit)) (now (docs .exit)) (now (freqs .exit)) r × (getD (now (place .exit)) 7 0 ≡ 0) ⌝ }
+    ensures { λ r. ⌜ MovedRow (before file) x (λ _. fresh) (before place) (after place) (after docs) (after freqs) r × (getD (after place) 7 0 ≡ 0) ⌝ }
 {
     let p = SegmentPostings::open(file, x, docs, freqs);
     keep(p, place);
@@ -38,7 +39,7 @@ pub fn open(
 // The skip reader alone goes on; within its block nothing moves.
 pub fn seek_block(file: &[u8], list: &[usize; 8], target: u32, place: &mut [usize; 8])
     requires { ⌜ PartRow (now list) × ListIn (now file) (partIn (now list)) × Standing (now file) (partIn (now list)) (now place) ⌝ }
-    ensures { λ _. ⌜ ShallowRow (now (file .entry)) (partIn (now (list .entry))) (λ s. seekBlockIn (listOf s (now (file .entry)) (partIn (now (list .entry)))) 128 target (cursorIn (now (place .entry)))) (now (place .entry)) (now (place .exit)) ⌝ }
+    ensures { λ _. ⌜ ShallowRow (before file) (partIn (before list)) (λ s. seekBlockIn (listOf s (before file) (partIn (before list))) 128 target (cursorIn (before place))) (before place) (after place) ⌝ }
 {
     if target as usize <= place[LAST] {
         return;
@@ -59,7 +60,7 @@ fn seek_far(
     freqs: &mut [u32; 128],
 ) -> u32
     requires { ⌜ PartRow (now list) × ListIn (now file) (partIn (now list)) × PlaceIn (now file) (partIn (now list)) (now place) (now docs) (now freqs) × (target ≤ 2147483647) ⌝ }
-    ensures { λ r. ⌜ MovedRow (now (file .entry)) (partIn (now (list .entry))) (λ s. seekIn (listOf s (now (file .entry)) (partIn (now (list .entry)))) 128 target (cursorIn (now (place .entry)))) (now (place .entry)) (now (place .exit)) (now (docs .exit)) (now (freqs .exit)) r ⌝ }
+    ensures { λ r. ⌜ MovedRow (before file) (partIn (before list)) (λ s. seekIn (listOf s (before file) (partIn (before list))) 128 target (cursorIn (before place))) (before place) (after place) (after docs) (after freqs) r ⌝ }
 {
     let x = part_of(list);
     let p = postings_of(file, x, place);
@@ -79,7 +80,7 @@ pub fn seek(
     freqs: &mut [u32; 128],
 ) -> u32
     requires { ⌜ PartRow (now list) × ListIn (now file) (partIn (now list)) × PlaceIn (now file) (partIn (now list)) (now place) (now docs) (now freqs) × (doc ≡ docIn (now file) (partIn (now list)) (cursorIn (now place) .at)) × (target ≤ 2147483647) ⌝ }
-    ensures { λ r. ⌜ MovedRow (now (file .entry)) (partIn (now (list .entry))) (λ s. seekIn (listOf s (now (file .entry)) (partIn (now (list .entry)))) 128 target (cursorIn (now (place .entry)))) (now (place .entry)) (now (place .exit)) (now (docs .exit)) (now (freqs .exit)) r ⌝ }
+    ensures { λ r. ⌜ MovedRow (before file) (partIn (before list)) (λ s. seekIn (listOf s (before file) (partIn (before list))) 128 target (cursorIn (before place))) (before place) (after place) (after docs) (after freqs) r ⌝ }
 {
     if target <= doc {
         return doc;
@@ -109,7 +110,7 @@ fn advance_far(
     freqs: &mut [u32; 128],
 ) -> u32
     requires { ⌜ PartRow (now list) × ListIn (now file) (partIn (now list)) × PlaceIn (now file) (partIn (now list)) (now place) (now docs) (now freqs) × (getD (now place) 0 0 ≤ fullBlocks (partIn (now list))) ⌝ }
-    ensures { λ r. ⌜ MovedRow (now (file .entry)) (partIn (now (list .entry))) (λ s. advanceIn (listOf s (now (file .entry)) (partIn (now (list .entry)))) 128 (cursorIn (now (place .entry)))) (now (place .entry)) (now (place .exit)) (now (docs .exit)) (now (freqs .exit)) r ⌝ }
+    ensures { λ r. ⌜ MovedRow (before file) (partIn (before list)) (λ s. advanceIn (listOf s (before file) (partIn (before list))) 128 (cursorIn (before place))) (before place) (after place) (after docs) (after freqs) r ⌝ }
 {
     let x = part_of(list);
     let p = postings_of(file, x, place);
@@ -127,7 +128,7 @@ pub fn advance(
     freqs: &mut [u32; 128],
 ) -> u32
     requires { ⌜ PartRow (now list) × ListIn (now file) (partIn (now list)) × PlaceIn (now file) (partIn (now list)) (now place) (now docs) (now freqs) × (getD (now place) 0 0 ≤ fullBlocks (partIn (now list))) ⌝ }
-    ensures { λ r. ⌜ MovedRow (now (file .entry)) (partIn (now (list .entry))) (λ s. advanceIn (listOf s (now (file .entry)) (partIn (now (list .entry)))) 128 (cursorIn (now (place .entry)))) (now (place .entry)) (now (place .exit)) (now (docs .exit)) (now (freqs .exit)) r ⌝ }
+    ensures { λ r. ⌜ MovedRow (before file) (partIn (before list)) (λ s. advanceIn (listOf s (before file) (partIn (before list))) 128 (cursorIn (before place))) (before place) (after place) (after docs) (after freqs) r ⌝ }
 {
     let cur = place[CUR];
     if cur != 127 {
@@ -146,7 +147,7 @@ pub fn load(
     freqs: &mut [u32; 128],
 ) -> u32
     requires { ⌜ PartRow (now list) × ListIn (now file) (partIn (now list)) × PlaceIn (now file) (partIn (now list)) (now place) (now docs) (now freqs) ⌝ }
-    ensures { λ r. ⌜ MovedRow (now (file .entry)) (partIn (now (list .entry))) (λ _. firstOf (cursorIn (now (place .entry)))) (now (place .entry)) (now (place .exit)) (now (docs .exit)) (now (freqs .exit)) r ⌝ }
+    ensures { λ r. ⌜ MovedRow (before file) (partIn (before list)) (λ _. firstOf (cursorIn (before place))) (before place) (after place) (after docs) (after freqs) r ⌝ }
 {
     if place[LOADED] == 1 {
         place[CUR] = 0;

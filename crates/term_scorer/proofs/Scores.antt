@@ -11,34 +11,35 @@ use lib.Ieee.{Float, nan}
 use borrow.Author.Tests.{lt-ltb, le-ltb}
 use Rattle.arrays.proofs.Order.{lt-or-ge}
 use Rattle.fieldnorm.specs.Reader.{fieldnormId}
+use Rattle.fieldnorm.specs.declared.FieldNormReader.{FieldNormReader}
+use Rattle.route.specs.Cursor.{blockMax}
+use Rattle.route.specs.F32.{f32}
+use Rattle.route.specs.Postings.{start}
 use Rattle.bm25.specs.Score.{scoreAt}
 use Rattle.bm25.specs.Scoring.{scored}
-use Rattle.bm25.specs.Weight.{scoreIn}
-use Rattle.bm25.specs.Bound.{maxTf, maxScore, blockMaxScore}
+use Rattle.bm25.specs.Bound.{maxTf}
+use Rattle.bm25.specs.Inner.Weight.{scoreIn}
+use Rattle.bm25.specs.Inner.Bound.{maxScore, blockMaxScore}
 use Rattle.bm25.specs.declared.Bm25Weight.{Bm25Weight}
 use Rattle.bm25.specs.declared.Scoring.{Scoring}
 use Rattle.notefile.specs.Header.{normCodeOf, normReader}
 use Rattle.notefile.specs.Lists.{blockScore}
-use Rattle.notefile.specs.Given.{weightOf, WeighedIn}
+use Rattle.notefile.specs.Inner.Given.{weightOf, WeighedIn}
 use Rattle.notefile.specs.declared.part.Part.{Part}
-use Rattle.fieldnorm.specs.declared.FieldNormReader.{FieldNormReader}
 use Rattle.notefile.proofs.Headers.{norm-code-small}
 use Rattle.notefile.proofs.Scores.{score-by-is}
-use Rattle.route.specs.Cursor.{blockMax}
-use Rattle.route.specs.F32.{f32}
-use Rattle.route.specs.Postings.{start}
 use Rattle.decoded.specs.Lists.{listOf}
-use Rattle.postings.specs.Decoded.{docIn}
-use Rattle.postings.specs.Reader.{Stands}
-use Rattle.postings.specs.Places.{cursorOf}
+use Rattle.postings.specs.Inner.Decoded.{docIn}
+use Rattle.postings.specs.Inner.Reader.{Stands}
+use Rattle.postings.specs.Inner.Places.{cursorOf}
 use Rattle.postings.specs.declared.skip.BlockInfo.the-variants.{BitPacked, VInt}
 use Rattle.postings.specs.declared.cursor.SegmentPostings.{SegmentPostings}
 use Rattle.postings.proofs.Readers.{packed-info, tail-info}
 use Rattle.postings.proofs.BlockBounds.{full-bound, unloaded-bound}
-use Rattle.slot_rows.specs.Rows.{cursorIn, partIn, postingsIn, PlaceIn}
-use Rattle.term_scorer.specs.Slots.{listAt, cursorAt}
+use Rattle.slot_rows.specs.Inner.Rows.{cursorIn, partIn, postingsIn, PlaceIn}
 use Rattle.slot_rows.proofs.Rows.{cursor-is}
-use Rattle.term_scorer.specs.Weights.{Bounded, BoundKept}
+use Rattle.term_scorer.specs.Inner.Slots.{listAt, cursorAt}
+use Rattle.term_scorer.specs.Inner.Weights.{Bounded, BoundKept}
 
 module _ (file : List ℕ) (x : Part) (weight : Float) (cache : List Float) (W : WeighedIn x weight cache) (scoring : Scoring) where
   module _ (bytes : (k : ℕ) → getD file k 0 < 256) {norms : FieldNormReader} (en : norms ≡ normReader file)

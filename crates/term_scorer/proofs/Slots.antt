@@ -5,12 +5,12 @@ use Prim.Native.Nat.{ℕ, _≤_, _<_}
 use native.Mathlib.Omega.{arith}
 use lib.ListN.{getD, set}
 use lib.Seq.{getD-set-same, set-getD}
+use Rattle.route.specs.Cursor.{Cursor, fresh, seekBlockIn}
 use Rattle.bm25.specs.declared.Scoring.{Scoring}
 use Rattle.notefile.specs.declared.part.Part.{Part}
-use Rattle.route.specs.Cursor.{Cursor, fresh, seekBlockIn}
-use Rattle.slot_rows.specs.Rows.{cursorIn, partIn, partRow, PartRow, MovedRow, ShallowRow}
-use Rattle.term_scorer.specs.Slots.{Sixteen, StandingIn, cursorAt, held, listAt, partAt, MovedSlot, Shallowed, Opened}
+use Rattle.slot_rows.specs.Inner.Rows.{cursorIn, partIn, partRow, PartRow, MovedRow, ShallowRow}
 use Rattle.slot_rows.proofs.Rows.{part-back, stays-shallow}
+use Rattle.term_scorer.specs.Inner.Slots.{Sixteen, StandingIn, cursorAt, held, listAt, partAt, MovedSlot, Shallowed, Opened}
 
 -- the row that was put into a slot
 same-row : {A : Type 0} (xss : List (List A)) (q : ℕ) (xs : List A) → q < 16 → Sixteen xss → getD (set xss q xs) q [] ≡ xs

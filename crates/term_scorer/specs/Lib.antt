@@ -1,3 +1,2 @@
 -- What the contracts of `term_scorer` cite.
-pub mod Slots
-pub mod Weights
+pub mod Inner

@@ -1,18 +1,4 @@
 // Scores and block bounds by slot. Norms and weights stand in lent arrays, so that one posting is scored without a copy of its list's norms.
-ghost use mathlib.Core.Path.{_≡_};
-ghost use Prim.Native.Nat.{_+_, _<_};
-ghost use lib.ListN.{getD};
-ghost use mathlib.Core.List.{[]};
-ghost use Rattle.notefile.specs.Header.{normReader};
-ghost use Rattle.notefile.specs.Given.{WeighedIn};
-ghost use Rattle.route.specs.Cursor.{blockMax};
-ghost use Rattle.route.specs.F32.{f32};
-ghost use Rattle.route.specs.Postings.{start};
-ghost use Rattle.decoded.specs.Lists.{listOf};
-ghost use Rattle.postings.specs.Decoded.{docIn, ListIn};
-ghost use Rattle.slot_rows.specs.Rows.{cursorIn, partIn, PartRow, PlaceIn};
-ghost use Rattle.term_scorer.specs.Slots.{cursorAt, held, listAt, partAt, Sixteen, SlotIn};
-ghost use Rattle.term_scorer.specs.Weights.{Bounded, BoundKept, Weighed};
 use bm25::Bm25Weight;
 use bm25::MAX_FIELDNORM_ID;
 use bm25::MAX_TERM_FREQ;
@@ -25,11 +11,26 @@ use slot_rows::place::CUR;
 use slot_rows::place::KNOWN;
 use slot_rows::place::part_of;
 use slot_rows::place::postings_of;
+ghost use mathlib.Core.Path.{_≡_};
+ghost use mathlib.Core.List.{[]};
+ghost use Prim.Native.Nat.{_+_, _<_};
+ghost use lib.ListN.{getD};
+ghost use Rattle.arrays.specs.Lent.{before, after};
+ghost use Rattle.route.specs.Cursor.{blockMax};
+ghost use Rattle.route.specs.F32.{f32};
+ghost use Rattle.route.specs.Postings.{start};
+ghost use Rattle.notefile.specs.Header.{normReader};
+ghost use Rattle.notefile.specs.Inner.Given.{WeighedIn};
+ghost use Rattle.decoded.specs.Lists.{listOf};
+ghost use Rattle.postings.specs.Inner.Decoded.{docIn, ListIn};
+ghost use Rattle.slot_rows.specs.Inner.Rows.{cursorIn, partIn, PartRow, PlaceIn};
+ghost use Rattle.term_scorer.specs.Inner.Slots.{cursorAt, held, listAt, partAt, Sixteen, SlotIn};
+ghost use Rattle.term_scorer.specs.Inner.Weights.{Bounded, BoundKept, Weighed};
 
 // The frequency of the posting on which slot q's scorer stands.
 pub fn term_freq(q: usize, places: &[[usize; 8]; 16], freqs: &[[u32; 128]; 16]) -> u32
     requires { ⌜ (q < 16) × (getD (getD (now places) q []) 6 0 < 128) ⌝ }
-    ensures { λ r. ⌜ r ≡ getD (getD (now (freqs .entry)) q []) (getD (getD (now (places .entry)) q []) 6 0) 0 ⌝ }
+    ensures { λ r. ⌜ r ≡ getD (getD (before freqs) q []) (getD (getD (before places) q []) 6 0) 0 ⌝ }
 {
     let cur = places[q][CUR];
     freqs[q][cur]
@@ -50,7 +51,7 @@ pub fn score(
     freqs: &[[u32; 128]; 16],
 ) -> f32
     requires { ⌜ (q < 16) × (norms ≡ normReader (now file)) × SlotIn (now file) (now lists) (held (now places) (now docs) (now freqs)) q × Weighed (now lists) (now weights) (now caches) q × (doc ≡ docIn (now file) (partAt (now lists) q) (cursorAt (now places) q .at)) × (doc < 2147483647) ⌝ }
-    ensures { λ r. ⌜ r ≡ listAt scoring (now (file .entry)) (now (lists .entry)) q .score (cursorAt (now (places .entry)) q .at) ⌝ }
+    ensures { λ r. ⌜ r ≡ listAt scoring (before file) (before lists) q .score (cursorAt (before places) q .at) ⌝ }
 {
     let id = norms.fieldnorm_id(file, doc);
     let freq = term_freq(q, places, freqs);
@@ -73,7 +74,7 @@ pub fn score_in_block(
     freqs: &[[u32; 128]; 16],
 ) -> f32
     requires { ⌜ (q < 16) × (norms ≡ normReader (now file)) × SlotIn (now file) (now lists) (held (now places) (now docs) (now freqs)) q × Weighed (now lists) (now weights) (now caches) q × (i < 128) × (doc ≡ docIn (now file) (partAt (now lists) q) (start 128 (cursorAt (now places) q .dec) + i)) × (doc < 2147483647) ⌝ }
-    ensures { λ r. ⌜ r ≡ listAt scoring (now (file .entry)) (now (lists .entry)) q .score (start 128 (cursorAt (now (places .entry)) q .dec) + i) ⌝ }
+    ensures { λ r. ⌜ r ≡ listAt scoring (before file) (before lists) q .score (start 128 (cursorAt (before places) q .dec) + i) ⌝ }
 {
     let id = norms.fieldnorm_id(file, doc);
     bm25::score_by(&caches[q], weights[q], scoring, id, freqs[q][i])
@@ -92,7 +93,7 @@ fn bound_of(
     freqs: &[u32; 128],
 ) -> f32
     requires { ⌜ (norms ≡ normReader (now file)) × PartRow (now list) × ListIn (now file) (partIn (now list)) × PlaceIn (now file) (partIn (now list)) (now place) (now docs) (now freqs) × WeighedIn (partIn (now list)) weight (now cache) ⌝ }
-    ensures { λ r. ⌜ r ≡ blockMax 128 f32 (listOf scoring (now (file .entry)) (partIn (now (list .entry)))) (cursorIn (now (place .entry))) ⌝ }
+    ensures { λ r. ⌜ r ≡ blockMax 128 f32 (listOf scoring (before file) (partIn (before list))) (cursorIn (before place)) ⌝ }
 {
     let x = part_of(list);
     let p = postings_of(file, x, place);
@@ -139,7 +140,7 @@ pub fn block_max(
     bounds: &mut [f32; 16],
 ) -> f32
     requires { ⌜ (q < 16) × (norms ≡ normReader (now file)) × SlotIn (now file) (now lists) (held (now places) (now docs) (now freqs)) q × Weighed (now lists) (now weights) (now caches) q × BoundKept scoring (now file) (now lists) (now places) (now bounds) q × Sixteen (now bounds) ⌝ }
-    ensures { λ r. ⌜ Bounded scoring (now (file .entry)) (now (lists .entry)) q (now (places .entry)) (now (bounds .entry)) (now (places .exit)) (now (bounds .exit)) r ⌝ }
+    ensures { λ r. ⌜ Bounded scoring (before file) (before lists) q (before places) (before bounds) (after places) (after bounds) r ⌝ }
 {
     if places[q][BOUND] == KNOWN {
         return bounds[q];
@@ -175,7 +176,7 @@ pub fn known_block_max(
     bounds: &mut [f32; 16],
 ) -> f32
     requires { ⌜ (q < 16) × (norms ≡ normReader (now file)) × SlotIn (now file) (now lists) (held (now places) (now docs) (now freqs)) q × Weighed (now lists) (now weights) (now caches) q × BoundKept scoring (now file) (now lists) (now places) (now bounds) q × Sixteen (now bounds) ⌝ }
-    ensures { λ r. ⌜ Bounded scoring (now (file .entry)) (now (lists .entry)) q (now (places .entry)) (now (bounds .entry)) (now (places .exit)) (now (bounds .exit)) r ⌝ }
+    ensures { λ r. ⌜ Bounded scoring (before file) (before lists) q (before places) (before bounds) (after places) (after bounds) r ⌝ }
 {
     let state = places[q][BOUND];
     if state == KNOWN {

@@ -1,16 +1,4 @@
 // A scorer's moves by its slot. The other slots stay as they are.
-ghost use mathlib.Core.Path.{_≡_};
-ghost use mathlib.Core.List.{[]};
-ghost use Prim.Native.Nat.{_≤_, _<_};
-ghost use lib.ListN.{getD};
-ghost use lib.Dec.{ltb};
-ghost use Rattle.notefile.specs.Lists.{fullBlocks};
-ghost use Rattle.notefile.specs.declared.part.Part.{Part};
-ghost use Rattle.route.specs.Cursor.{advanceIn, seekBlockIn, seekIn};
-ghost use Rattle.route.specs.Postings.{start};
-ghost use Rattle.postings.specs.Decoded.{docIn, ListIn};
-ghost use Rattle.slot_rows.specs.Rows.{firstOf};
-ghost use Rattle.term_scorer.specs.Slots.{cursorAt, held, lastAt, listAt, partAt, MovedSlot, Opened, Shallowed, SlotIn, StandingIn, Sixteen};
 use notefile::part::Part;
 use slot_rows::place::BLOCK;
 use slot_rows::place::COUNT;
@@ -18,6 +6,19 @@ use slot_rows::place::CUR;
 use slot_rows::place::LAST;
 use slot_rows::place::keep_part;
 use slot_rows::row;
+ghost use mathlib.Core.Path.{_≡_};
+ghost use mathlib.Core.List.{[]};
+ghost use Prim.Native.Nat.{_≤_, _<_};
+ghost use lib.ListN.{getD};
+ghost use lib.Dec.{ltb};
+ghost use Rattle.arrays.specs.Lent.{before, after};
+ghost use Rattle.route.specs.Cursor.{advanceIn, seekBlockIn, seekIn};
+ghost use Rattle.route.specs.Postings.{start};
+ghost use Rattle.notefile.specs.Lists.{fullBlocks};
+ghost use Rattle.notefile.specs.declared.part.Part.{Part};
+ghost use Rattle.postings.specs.Inner.Decoded.{docIn, ListIn};
+ghost use Rattle.slot_rows.specs.Inner.Rows.{firstOf};
+ghost use Rattle.term_scorer.specs.Inner.Slots.{cursorAt, held, lastAt, listAt, partAt, MovedSlot, Opened, Shallowed, SlotIn, StandingIn, Sixteen};
 
 // A list's scorer in slot q, on the list's first posting.
 pub fn open(
@@ -30,7 +31,7 @@ pub fn open(
     freqs: &mut [[u32; 128]; 16],
 ) -> u32
     requires { ⌜ (q < 16) × ListIn (now file) x × Sixteen (now lists) × Sixteen (now places) × Sixteen (now docs) × Sixteen (now freqs) ⌝ }
-    ensures { λ r. ⌜ Opened (now (file .entry)) x q (now (lists .entry)) (now (lists .exit)) (held (now (places .entry)) (now (docs .entry)) (now (freqs .entry))) (held (now (places .exit)) (now (docs .exit)) (now (freqs .exit))) r ⌝ }
+    ensures { λ r. ⌜ Opened (before file) x q (before lists) (after lists) (held (before places) (before docs) (before freqs)) (held (after places) (after docs) (after freqs)) r ⌝ }
 {
     keep_part(x, &mut lists[q]);
     row::open(file, x, &mut places[q], &mut docs[q], &mut freqs[q])
@@ -39,7 +40,7 @@ pub fn open(
 // The document that slot q's scorer stands on.
 pub fn doc(q: usize, places: &[[usize; 8]; 16], docs: &[[u32; 128]; 16]) -> u32
     requires { ⌜ (q < 16) × (getD (getD (now places) q []) 6 0 < 128) ⌝ }
-    ensures { λ r. ⌜ r ≡ getD (getD (now (docs .entry)) q []) (getD (getD (now (places .entry)) q []) 6 0) 0 ⌝ }
+    ensures { λ r. ⌜ r ≡ getD (getD (before docs) q []) (getD (getD (before places) q []) 6 0) 0 ⌝ }
 {
     let cur = places[q][CUR];
     docs[q][cur]
@@ -48,7 +49,7 @@ pub fn doc(q: usize, places: &[[usize; 8]; 16], docs: &[[u32; 128]; 16]) -> u32
 // The last document of the block on which the skip reader stands.
 pub fn last_doc_in_block(q: usize, places: &[[usize; 8]; 16]) -> u32
     requires { ⌜ (q < 16) × (lastAt (now places) q < 4294967296) ⌝ }
-    ensures { λ r. ⌜ r ≡ lastAt (now (places .entry)) q ⌝ }
+    ensures { λ r. ⌜ r ≡ lastAt (before places) q ⌝ }
 {
     places[q][LAST] as u32
 }
@@ -61,7 +62,7 @@ pub fn has_remaining_docs(
     places: &[[usize; 8]; 16],
 ) -> bool
     requires { ⌜ (q < 16) × StandingIn (now file) (now lists) (now places) q ⌝ }
-    ensures { λ r. ⌜ r ≡ ltb (start 128 (cursorAt (now (places .entry)) q .blk)) (partAt (now (lists .entry)) q .count) ⌝ }
+    ensures { λ r. ⌜ r ≡ ltb (start 128 (cursorAt (before places) q .blk)) (partAt (before lists) q .count) ⌝ }
 {
     places[q][BLOCK] * 128 < lists[q][COUNT]
 }
@@ -75,7 +76,7 @@ pub fn seek_block(
     places: &mut [[usize; 8]; 16],
 )
     requires { ⌜ (q < 16) × StandingIn (now file) (now lists) (now places) q ⌝ }
-    ensures { λ _. ⌜ Shallowed (now (file .entry)) (now (lists .entry)) q (λ s. seekBlockIn (listAt s (now (file .entry)) (now (lists .entry)) q) 128 target (cursorAt (now (places .entry)) q)) (now (places .entry)) (now (places .exit)) ⌝ }
+    ensures { λ _. ⌜ Shallowed (before file) (before lists) q (λ s. seekBlockIn (listAt s (before file) (before lists) q) 128 target (cursorAt (before places) q)) (before places) (after places) ⌝ }
 {
     row::seek_block(file, &lists[q], target, &mut places[q]);
 }
@@ -89,7 +90,7 @@ pub fn shallow_seek(
     places: &mut [[usize; 8]; 16],
 )
     requires { ⌜ (q < 16) × StandingIn (now file) (now lists) (now places) q ⌝ }
-    ensures { λ _. ⌜ Shallowed (now (file .entry)) (now (lists .entry)) q (λ s. seekBlockIn (listAt s (now (file .entry)) (now (lists .entry)) q) 128 target (cursorAt (now (places .entry)) q)) (now (places .entry)) (now (places .exit)) ⌝ }
+    ensures { λ _. ⌜ Shallowed (before file) (before lists) q (λ s. seekBlockIn (listAt s (before file) (before lists) q) 128 target (cursorAt (before places) q)) (before places) (after places) ⌝ }
 {
     let last = places[q][LAST];
     if target as usize <= last {
@@ -110,7 +111,7 @@ pub fn seek(
     freqs: &mut [[u32; 128]; 16],
 ) -> u32
     requires { ⌜ (q < 16) × SlotIn (now file) (now lists) (held (now places) (now docs) (now freqs)) q × (doc ≡ docIn (now file) (partAt (now lists) q) (cursorAt (now places) q .at)) × (target ≤ 2147483647) ⌝ }
-    ensures { λ r. ⌜ MovedSlot (now (file .entry)) (now (lists .entry)) q (λ s. seekIn (listAt s (now (file .entry)) (now (lists .entry)) q) 128 target (cursorAt (now (places .entry)) q)) (held (now (places .entry)) (now (docs .entry)) (now (freqs .entry))) (held (now (places .exit)) (now (docs .exit)) (now (freqs .exit))) r ⌝ }
+    ensures { λ r. ⌜ MovedSlot (before file) (before lists) q (λ s. seekIn (listAt s (before file) (before lists) q) 128 target (cursorAt (before places) q)) (held (before places) (before docs) (before freqs)) (held (after places) (after docs) (after freqs)) r ⌝ }
 {
     row::seek(
         file,
@@ -133,7 +134,7 @@ pub fn advance(
     freqs: &mut [[u32; 128]; 16],
 ) -> u32
     requires { ⌜ (q < 16) × SlotIn (now file) (now lists) (held (now places) (now docs) (now freqs)) q × (cursorAt (now places) q .blk ≤ fullBlocks (partAt (now lists) q)) ⌝ }
-    ensures { λ r. ⌜ MovedSlot (now (file .entry)) (now (lists .entry)) q (λ s. advanceIn (listAt s (now (file .entry)) (now (lists .entry)) q) 128 (cursorAt (now (places .entry)) q)) (held (now (places .entry)) (now (docs .entry)) (now (freqs .entry))) (held (now (places .exit)) (now (docs .exit)) (now (freqs .exit))) r ⌝ }
+    ensures { λ r. ⌜ MovedSlot (before file) (before lists) q (λ s. advanceIn (listAt s (before file) (before lists) q) 128 (cursorAt (before places) q)) (held (before places) (before docs) (before freqs)) (held (after places) (after docs) (after freqs)) r ⌝ }
 {
     row::advance(file, &lists[q], &mut places[q], &mut docs[q], &mut freqs[q])
 }
@@ -148,7 +149,7 @@ pub fn load(
     freqs: &mut [[u32; 128]; 16],
 ) -> u32
     requires { ⌜ (q < 16) × SlotIn (now file) (now lists) (held (now places) (now docs) (now freqs)) q ⌝ }
-    ensures { λ r. ⌜ MovedSlot (now (file .entry)) (now (lists .entry)) q (λ _. firstOf (cursorAt (now (places .entry)) q)) (held (now (places .entry)) (now (docs .entry)) (now (freqs .entry))) (held (now (places .exit)) (now (docs .exit)) (now (freqs .exit))) r ⌝ }
+    ensures { λ r. ⌜ MovedSlot (before file) (before lists) q (λ _. firstOf (cursorAt (before places) q)) (held (before places) (before docs) (before freqs)) (held (after places) (after docs) (after freqs)) r ⌝ }
 {
     row::load(file, &lists[q], &mut places[q], &mut docs[q], &mut freqs[q])
 }

@@ -3,11 +3,11 @@ use mathlib.Core.List.{map}
 use mathlib.Core.Path.{_∙_}
 use lib.ListN.{take}
 use borrow.Author.Needs.{needs}
-use Rattle.notefile.specs.Header.{documents}
-use Rattle.route.proofs.UnionEnds.{unionCost}
 use Rattle.route.specs.F32.{f32}
-use Rattle.term_scorer.specs.Slots.{held}
-use Rattle.block_wand_union.specs.Seats.{scorerAt, terms}
+use Rattle.route.proofs.Union.Ends.{unionCost}
+use Rattle.notefile.specs.Header.{documents}
+use Rattle.term_scorer.specs.Inner.Slots.{held}
+use Rattle.block_wand_union.specs.Inner.Seats.{scorerAt, terms}
 use Rattle.block_wand_union.proofs.Runs.{Running, ends, filled, kept-on, lengths, less, quietly, reporting, row-left, running, whole-run}
 use Rattle.block_wand_union.proofs.block_wand.Statement.{statement}
 use Rattle.block_wand_union.proofs.block_wand.Tie as tie

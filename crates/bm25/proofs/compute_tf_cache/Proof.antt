@@ -4,8 +4,8 @@ use Prim.Native.Nat.{ℕ, _-_, _≤_}
 use native.Mathlib.Omega.{arith}
 use lib.Ieee.{nan}
 use borrow.Author.Needs.{needs}
-use Rattle.fieldnorm.specs.Code.{fieldnorm}
 use Rattle.arrays.proofs.Filling.{Filling, begun, goes-on, ended}
+use Rattle.fieldnorm.specs.Code.{fieldnorm}
 use Rattle.bm25.specs.Score.{normOf}
 use Rattle.bm25.proofs.compute_tf_cache.Statement.{statement}
 use Rattle.bm25.proofs.compute_tf_cache.Tie as tie

@@ -7,7 +7,7 @@ use borrow.Author.Tests.{le-leb, lt-leb}
 use borrow.Author.Needs.{needs}
 use Rattle.arrays.specs.Every.{every}
 use Rattle.arrays.proofs.Every.{stays, lowered}
-use Rattle.bm25_block.specs.Block.{exactAt, allExact}
+use Rattle.bm25_block.specs.Inner.Block.{exactAt, allExact}
 use Rattle.bm25_block.proofs.all_exact.Statement.{statement}
 use Rattle.bm25_block.proofs.all_exact.Tie as tie
 

@@ -9,7 +9,7 @@ use borrow.Author.Tests.{leb-true}
 use Rattle.arrays.proofs.Every.{each}
 use Rattle.arrays.proofs.Filling.{Filling, begun, goes-on, ended}
 use Rattle.floats.specs.Whole.{wholeF32}
-use Rattle.bm25_block.specs.Block.{exactAt, allExact}
+use Rattle.bm25_block.specs.Inner.Block.{exactAt, allExact}
 use Rattle.bm25_block.proofs.exact_tfs.Statement.{statement}
 use Rattle.bm25_block.proofs.exact_tfs.Tie as tie
 

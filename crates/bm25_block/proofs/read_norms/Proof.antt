@@ -5,8 +5,8 @@ use native.Mathlib.Omega.{arith}
 use lib.ListN.{getD}
 use lib.Ieee.{nan}
 use borrow.Author.Needs.{needs}
-use Rattle.fieldnorm.specs.Reader.{fieldnormId}
 use Rattle.arrays.proofs.Filling.{Filling, begun, goes-on, ended}
+use Rattle.fieldnorm.specs.Reader.{fieldnormId}
 use Rattle.bm25_block.proofs.read_norms.Statement.{statement}
 use Rattle.bm25_block.proofs.read_norms.Tie as tie
 

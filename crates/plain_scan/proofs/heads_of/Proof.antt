@@ -3,7 +3,7 @@ use mathlib.Core.Path.{_≡_, subst}
 use Prim.Native.Nat.{ℕ, _-_, _≤_}
 use native.Mathlib.Omega.{arith}
 use borrow.Author.Needs.{needs}
-use Rattle.plain_scan.specs.Heads.{HeadsOf}
+use Rattle.plain_scan.specs.Inner.Heads.{HeadsOf}
 use Rattle.plain_scan.proofs.Heading.{no-heads, one-more-head}
 use Rattle.plain_scan.proofs.heads_of.Statement.{statement}
 use Rattle.plain_scan.proofs.heads_of.Tie as tie

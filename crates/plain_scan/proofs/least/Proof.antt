@@ -3,7 +3,7 @@ use mathlib.Core.Path.{_≡_, refl, ap, _∙_}
 use Prim.Native.Nat.{_-_, _≤_}
 use native.Mathlib.Omega.{arith}
 use borrow.Author.Needs.{needs}
-use Rattle.plain_scan.specs.Heads.{leastIn}
+use Rattle.plain_scan.specs.Inner.Heads.{leastIn}
 use Rattle.plain_scan.proofs.Heading.{least-lower, least-stays}
 use Rattle.plain_scan.proofs.least.Statement.{statement}
 use Rattle.plain_scan.proofs.least.Tie as tie

@@ -4,8 +4,8 @@ use Prim.Native.Nat.{_-_}
 use native.Mathlib.Omega.{arith}
 use borrow.Author.Needs.{needs}
 use Rattle.reports.proofs.RowLaws.{documents-long, scores-long}
-use Rattle.term_scorer.specs.Slots.{held}
-use Rattle.plain_scan.specs.Heads.{leastIn}
+use Rattle.term_scorer.specs.Inner.Slots.{held}
+use Rattle.plain_scan.specs.Inner.Heads.{leastIn}
 use Rattle.plain_scan.proofs.Scanning.{Scanning, scanning-begun, scanning-ends, scanning-passes, scanning-reports, scanning-full, from-here, document, has-row, nearer}
 use Rattle.plain_scan.proofs.scan.Statement.{statement}
 use Rattle.plain_scan.proofs.scan.Tie as tie

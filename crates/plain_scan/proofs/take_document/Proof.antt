@@ -3,7 +3,7 @@ use Prim.Native.Nat.{_-_}
 use native.Mathlib.Omega.{arith}
 use lib.Ieee.{ofBits}
 use borrow.Author.Needs.{needs}
-use Rattle.term_scorer.specs.Slots.{held}
+use Rattle.term_scorer.specs.Inner.Slots.{held}
 use Rattle.plain_scan.proofs.Slots.{in-list}
 use Rattle.plain_scan.proofs.Taking.{Taking, taking-begun, taking-passes, taking-takes, taking-ends, few-found, this}
 use Rattle.plain_scan.proofs.take_document.Statement.{statement}

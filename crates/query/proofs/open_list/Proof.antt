@@ -2,9 +2,9 @@
 use mathlib.Core.Path.{sym, subst}
 use borrow.Author.Needs.{needs}
 use Rattle.bm25.proofs.Numbers.{weight-number, average-number}
-use Rattle.notefile.specs.Given.{HeaderIn, Limits}
+use Rattle.notefile.specs.Inner.Given.{HeaderIn, Limits}
 use Rattle.notefile.proofs.Accepted.{header-inside, list-limits}
-use Rattle.postings.specs.Decoded.{ListIn}
+use Rattle.postings.specs.Inner.Decoded.{ListIn}
 use Rattle.postings.proofs.AcceptedList.{list-in}
 use Rattle.query.proofs.Opening.{listed, one-opened}
 use Rattle.query.proofs.open_list.Statement.{statement}

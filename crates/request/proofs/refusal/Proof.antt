@@ -1,8 +1,8 @@
 -- `refusal` meets its contract: the file, then the query, then the rule.
 use mathlib.Core.Path.{_≡_, sym, ap, _∙_}
+use Prim.Native.Nat.{ℕ}
 use native.Mathlib.Omega.{arith}
 use borrow.Author.Needs.{needs}
-use Prim.Native.Nat.{ℕ}
 use Rattle.notefile.specs.Header.{listCount}
 use Rattle.notefile.specs.Refusal.{fileRefusal}
 use Rattle.notefile.proofs.Accepted.{header-inside}

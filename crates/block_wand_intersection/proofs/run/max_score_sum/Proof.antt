@@ -1,9 +1,9 @@
 -- `max_score_sum` meets its contract: the secondaries' list bounds are added from the first on, then the leader's before them.
-use borrow.Author.Needs.{needs}
-use native.Mathlib.Omega.{arith}
 use Prim.Native.Nat.{_-_, _<_}
+use native.Mathlib.Omega.{arith}
 use lib.ListN.{getD}
 use lib.Ieee.{ofBits}
+use borrow.Author.Needs.{needs}
 use Rattle.block_wand_intersection.proofs.Stepping.{Adding, adding, added, adds}
 use Rattle.block_wand_intersection.proofs.run.max_score_sum.Statement.{statement}
 use Rattle.block_wand_intersection.proofs.run.max_score_sum.Tie as tie

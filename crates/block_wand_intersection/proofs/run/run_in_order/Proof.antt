@@ -1,6 +1,6 @@
 -- `run_in_order` meets its contract: the early exit is the route's first turn, and the windows are the rest.
-use borrow.Author.Needs.{needs}
 use mathlib.Core.Path.{_∙_}
+use borrow.Author.Needs.{needs}
 use Rattle.intersection_window.proofs.Seats.{cur-small, doc-here, slot-small}
 use Rattle.block_wand_intersection.proofs.Running.{begun-there, doc-low, max-along, runs, runs-never}
 use Rattle.block_wand_intersection.proofs.run.run_in_order.Statement.{statement}

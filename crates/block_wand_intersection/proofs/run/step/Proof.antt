@@ -1,7 +1,7 @@
 -- `step` meets its contract: a window is left out, or its candidates are walked, and the next begins behind its end.
+use mathlib.Core.Path.{refl}
 use native.Mathlib.Omega.{arith}
 use borrow.Author.Needs.{needs}
-use mathlib.Core.Path.{refl}
 use Rattle.intersection_window.proofs.Seats.{slot-small}
 use Rattle.block_wand_intersection.proofs.Stepping.{low-of, open-of, step-low, step-open, step-over}
 use Rattle.block_wand_intersection.proofs.run.step.Statement.{statement}

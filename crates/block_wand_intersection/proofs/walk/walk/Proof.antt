@@ -1,11 +1,11 @@
 -- `walk` meets its contract: each turn goes on to the next candidate that is due, and reports it if there is a row.
-use native.Mathlib.Omega.{arith}
-use borrow.Author.Needs.{needs}
 use mathlib.Core.Path.{refl, sym, _∙_}
 use Prim.Native.Nat.{_-_}
+use native.Mathlib.Omega.{arith}
+use borrow.Author.Needs.{needs}
 use Rattle.postings.proofs.Blocks.{decoded-sorted}
-use Rattle.term_scorer.specs.Slots.{held}
-use Rattle.intersection_window.specs.Scorers.{query}
+use Rattle.term_scorer.specs.Inner.Slots.{held}
+use Rattle.intersection_window.specs.Inner.Scorers.{query}
 use Rattle.intersection_window.proofs.Seats.{slot-small}
 use Rattle.intersection_window.proofs.Hitting.{decoded}
 use Rattle.block_wand_intersection.proofs.Walking.{Walking, exits, full, further, goes-on, has-row, none-left, walking}

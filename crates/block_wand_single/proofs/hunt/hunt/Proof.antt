@@ -1,10 +1,10 @@
 -- `hunt::hunt` meets its contract: each block that it leaves out is a quiet turn of the route.
 use native.Mathlib.Omega.{arith}
 use Rattle.route.specs.Single.{hunt}
-use Rattle.route.proofs.SingleEnds.{singleCost}
+use Rattle.route.specs.Inner.Singles.{singleCost}
+use Rattle.reports.specs.Inner.Runs.{stays}
 use Rattle.decoded.specs.Lists.{listOf}
-use Rattle.postings.specs.Places.{cursorOf}
-use Rattle.reports.specs.Runs.{stays}
+use Rattle.postings.specs.Inner.Places.{cursorOf}
 use Rattle.block_wand_single.proofs.Hunting.{Hunting, last-small, hunt-found, hunt-ended, hunt-on, hunt-nearer}
 use Rattle.block_wand_single.proofs.hunt.hunt.Statement.{statement}
 use Rattle.block_wand_single.proofs.hunt.hunt.Tie as tie

@@ -1,9 +1,9 @@
 -- `scan::block_wand_single_scorer` meets its contract: it starts on the route's first place, and each block takes it along the route.
 use borrow.Author.Needs.{needs}
 use Rattle.route.specs.Single.{hunt}
-use Rattle.route.proofs.SingleEnds.{singleCost}
+use Rattle.route.specs.Inner.Singles.{singleCost}
 use Rattle.decoded.specs.Lists.{listOf}
-use Rattle.postings.specs.Places.{cursorOf}
+use Rattle.postings.specs.Inner.Places.{cursorOf}
 use Rattle.block_wand_single.proofs.Running.{Running, running-begun, hunting, has-begun, same-long, running-on, ran-over, ran-full}
 use Rattle.block_wand_single.proofs.scan.block_wand_single_scorer.Statement.{statement}
 use Rattle.block_wand_single.proofs.scan.block_wand_single_scorer.Tie as tie

@@ -5,9 +5,9 @@ use Prim.Native.Nat.{_-_, _≤_}
 use native.Mathlib.Omega.{arith}
 use lib.ListN.{getD, length}
 use borrow.Author.Needs.{needs}
-use Rattle.term_scorer.specs.Slots.{held}
-use Rattle.ordering.specs.Scorers.{noScorer}
-use Rattle.block_wand_union.specs.Seats.{Stand}
+use Rattle.ordering.specs.Inner.Scorers.{noScorer}
+use Rattle.term_scorer.specs.Inner.Slots.{held}
+use Rattle.block_wand_union.specs.Inner.Seats.{Stand}
 use Rattle.block_wand_union.proofs.Alignments.{Seeking, all-on, goes-past, seeking, seeks, stand-before}
 use Rattle.block_wand_union.proofs.align.align_scorers.Statement.{statement}
 use Rattle.block_wand_union.proofs.align.align_scorers.Tie as tie

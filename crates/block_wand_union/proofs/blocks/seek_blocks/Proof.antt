@@ -9,10 +9,10 @@ use lib.Seq.{take-take}
 use borrow.Author.Needs.{needs}
 use Rattle.route.specs.Cursor.{seekBlockIn}
 use Rattle.route.specs.Lists.{All}
-use Rattle.term_scorer.specs.Slots.{cursorAt, held, listAt, Sixteen}
-use Rattle.ordering.specs.Scorers.{Apart, noScorer}
+use Rattle.ordering.specs.Inner.Scorers.{Apart, noScorer}
 use Rattle.ordering.specs.declared.TermScorer.{TermScorer}
-use Rattle.block_wand_union.specs.Seats.{Seat, terms}
+use Rattle.term_scorer.specs.Inner.Slots.{cursorAt, held, listAt, Sixteen}
+use Rattle.block_wand_union.specs.Inner.Seats.{Seat, terms}
 use Rattle.block_wand_union.proofs.BlockBounds.{Bounding, bounded, bounding, bounds-next, first-same, seat-of}
 use Rattle.block_wand_union.proofs.Seats.{shallow-seat, standing-in}
 use Rattle.block_wand_union.proofs.blocks.seek_blocks.Statement.{statement}

@@ -4,12 +4,12 @@ use native.Mathlib.Omega.{arith}
 use lib.ListN.{drop, getD, length, take}
 use borrow.Author.Needs.{needs}
 use Rattle.route.proofs.Lists.{all-imp}
-use Rattle.route.proofs.Pivot.{behind-is}
-use Rattle.term_scorer.specs.Slots.{held}
+use Rattle.route.proofs.Union.Pivot.{behind-is}
+use Rattle.term_scorer.specs.Inner.Slots.{held}
 use Rattle.ordering.proofs.Places.{all-first}
-use Rattle.ordering.specs.Scorers.{noScorer}
-use Rattle.block_wand_union.specs.Moves.{LastRead}
-use Rattle.block_wand_union.specs.Seats.{Stand}
+use Rattle.ordering.specs.Inner.Scorers.{noScorer}
+use Rattle.block_wand_union.specs.Inner.Moves.{LastRead}
+use Rattle.block_wand_union.specs.Inner.Seats.{Stand}
 use Rattle.block_wand_union.proofs.Lowest.{last-read, least-low, lowest-low, seeks-inside, too-low}
 use Rattle.block_wand_union.proofs.Seats.{first-of}
 use Rattle.block_wand_union.proofs.low.block_max_was_too_low_advance_one_scorer.Statement.{

@@ -4,9 +4,9 @@ use Prim.Native.Nat.{_-_}
 use native.Mathlib.Omega.{arith}
 use lib.ListN.{getD, take}
 use borrow.Author.Needs.{needs}
+use Rattle.ordering.specs.Inner.Scorers.{noScorer}
 use Rattle.ordering.proofs.Places.{all-first}
-use Rattle.ordering.specs.Scorers.{noScorer}
-use Rattle.block_wand_union.specs.Moves.{LastRead, leastLastOf}
+use Rattle.block_wand_union.specs.Inner.Moves.{LastRead, leastLastOf}
 use Rattle.block_wand_union.proofs.Lowest.{Lowering, lowers, lowest}
 use Rattle.block_wand_union.proofs.low.least_last_doc.Statement.{statement}
 use Rattle.block_wand_union.proofs.low.least_last_doc.Tie as tie

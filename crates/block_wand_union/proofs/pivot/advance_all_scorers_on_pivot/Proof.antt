@@ -3,7 +3,7 @@ use Prim.Native.Nat.{_-_, _≤_}
 use native.Mathlib.Omega.{arith}
 use lib.ListN.{length}
 use borrow.Author.Needs.{needs}
-use Rattle.term_scorer.specs.Slots.{held}
+use Rattle.term_scorer.specs.Inner.Slots.{held}
 use Rattle.block_wand_union.proofs.Advances.{Advancing, advanced, advances, advancing, inside-at, stand-at}
 use Rattle.block_wand_union.proofs.pivot.advance_all_scorers_on_pivot.Statement.{statement}
 use Rattle.block_wand_union.proofs.pivot.advance_all_scorers_on_pivot.Tie as tie

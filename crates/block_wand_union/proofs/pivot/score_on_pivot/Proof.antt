@@ -9,10 +9,10 @@ use borrow.Author.Needs.{needs}
 use Rattle.route.specs.F32.{f32}
 use Rattle.route.specs.Score.{sum}
 use Rattle.route.specs.Scorer.{scoreHere}
-use Rattle.term_scorer.specs.Slots.{held}
+use Rattle.ordering.specs.Inner.Scorers.{noScorer}
 use Rattle.ordering.proofs.Places.{all-first}
-use Rattle.ordering.specs.Scorers.{noScorer}
-use Rattle.block_wand_union.specs.Seats.{Scorable, scorerAt}
+use Rattle.term_scorer.specs.Inner.Slots.{held}
+use Rattle.block_wand_union.specs.Inner.Seats.{Scorable, scorerAt}
 use Rattle.block_wand_union.proofs.Advances.{scored-next}
 use Rattle.block_wand_union.proofs.pivot.score_on_pivot.Statement.{statement}
 use Rattle.block_wand_union.proofs.pivot.score_on_pivot.Tie as tie

@@ -4,7 +4,7 @@ use native.Mathlib.Omega.{arith}
 use lib.ListN.{length-take, take}
 use lib.Seq.{take-take}
 use borrow.Author.Needs.{needs}
-use Rattle.block_wand_union.specs.Seats.{Seat}
+use Rattle.block_wand_union.specs.Inner.Seats.{Seat}
 use Rattle.block_wand_union.proofs.Seats.{first-apart, first-of}
 use Rattle.block_wand_union.proofs.Steps.{at-pivot, found, high, low, stands′}
 use Rattle.block_wand_union.proofs.turn.to_pivot.Statement.{statement}

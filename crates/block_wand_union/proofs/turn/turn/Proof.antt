@@ -1,7 +1,7 @@
 -- `turn::turn` meets its contract: the pivot's places are the route's, and with no pivot the loop ends.
 use mathlib.Core.Path.{refl, sym, _∙_}
 use borrow.Author.Needs.{needs}
-use Rattle.term_scorer.specs.Slots.{Sixteen}
+use Rattle.term_scorer.specs.Inner.Slots.{Sixteen}
 use Rattle.block_wand_union.proofs.Steps.{in-slots, nowhere}
 use Rattle.block_wand_union.proofs.turn.turn.Statement.{statement}
 use Rattle.block_wand_union.proofs.turn.turn.Tie as tie

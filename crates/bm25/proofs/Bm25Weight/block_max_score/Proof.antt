@@ -2,9 +2,9 @@
 use mathlib.Core.Path.{ap, _∙_}
 use Prim.Native.Nat.{ℕ}
 use borrow.Author.Needs.{needs}
-use Rattle.bm25.specs.Weight.{scoreIn}
 use Rattle.bm25.specs.Scoring.{scored}
-use Rattle.bm25.specs.Bound.{blockMaxScore}
+use Rattle.bm25.specs.Inner.Weight.{scoreIn}
+use Rattle.bm25.specs.Inner.Bound.{blockMaxScore}
 use Rattle.bm25.proofs.Bm25Weight.block_max_score.Statement.{statement}
 use Rattle.bm25.proofs.Bm25Weight.block_max_score.Tie as tie
 

@@ -1,6 +1,6 @@
 -- `Bm25Weight::max_score` meets its contract: it is the score of the definition's pair.
 use borrow.Author.Needs.{needs}
-use Rattle.bm25.specs.Bound.{maxScore}
+use Rattle.bm25.specs.Inner.Bound.{maxScore}
 use Rattle.bm25.proofs.Bm25Weight.max_score.Statement.{statement}
 use Rattle.bm25.proofs.Bm25Weight.max_score.Tie as tie
 

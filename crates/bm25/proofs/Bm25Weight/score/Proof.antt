@@ -1,8 +1,8 @@
 -- `Bm25Weight::score` meets its contract: the score at the cached norm, as the scoring has it.
 use mathlib.Core.Path.{ap, _∙_}
 use borrow.Author.Needs.{needs}
-use Rattle.bm25.specs.Weight.{scoreIn}
 use Rattle.bm25.specs.Scoring.{scored}
+use Rattle.bm25.specs.Inner.Weight.{scoreIn}
 use Rattle.bm25.proofs.Bm25Weight.score.Statement.{statement}
 use Rattle.bm25.proofs.Bm25Weight.score.Tie as tie
 

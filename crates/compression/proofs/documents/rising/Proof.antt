@@ -9,8 +9,8 @@ use lib.Dec.{ltb}
 use lib.ListN.{getD}
 use borrow.Author.Tests.{lt-ltb, le-ltb}
 use borrow.Author.Needs.{needs}
-use Rattle.arrays.proofs.Every.{stays, lowered}
 use Rattle.arrays.specs.Every.{every}
+use Rattle.arrays.proofs.Every.{stays, lowered}
 use Rattle.compression.proofs.documents.rising.Statement.{statement}
 use Rattle.compression.proofs.documents.rising.Tie as tie
 

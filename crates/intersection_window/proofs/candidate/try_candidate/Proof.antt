@@ -1,11 +1,11 @@
 -- `try_candidate` meets its contract: each turn asks one secondary as the route does, and what is left of them decides.
-use native.Mathlib.Omega.{arith}
-use borrow.Author.Needs.{needs}
 use mathlib.Core.Path.{sym, _∙_}
 use Prim.Native.Nat.{_-_, _<_}
+use native.Mathlib.Omega.{arith}
 use lib.ListN.{getD}
-use Rattle.term_scorer.specs.Slots.{held}
-use Rattle.intersection_window.specs.Scorers.{query, InOrder}
+use borrow.Author.Needs.{needs}
+use Rattle.term_scorer.specs.Inner.Slots.{held}
+use Rattle.intersection_window.specs.Inner.Scorers.{query, InOrder}
 use Rattle.intersection_window.proofs.Seats.{cur-small, doc-here, slot-small}
 use Rattle.intersection_window.proofs.Trying.{Trying, begun, due, goes-on, missed, not-above, past, seated-there, too-low}
 use Rattle.intersection_window.proofs.candidate.try_candidate.Statement.{statement}

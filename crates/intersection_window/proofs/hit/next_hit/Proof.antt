@@ -1,10 +1,10 @@
 -- `next_hit` meets its contract: each place of the leader's block is left out, or tried as the route tries it.
-use native.Mathlib.Omega.{arith}
-use borrow.Author.Needs.{needs}
 use mathlib.Core.Path.{refl}
 use Prim.Native.Nat.{_-_}
-use Rattle.term_scorer.specs.Slots.{held}
-use Rattle.intersection_window.specs.Scorers.{query}
+use native.Mathlib.Omega.{arith}
+use borrow.Author.Needs.{needs}
+use Rattle.term_scorer.specs.Inner.Slots.{held}
+use Rattle.intersection_window.specs.Inner.Scorers.{query}
 use Rattle.intersection_window.proofs.Seats.{slot-small}
 use Rattle.intersection_window.proofs.Hitting.{Hunting, begun, block-ends, doc-small, doc-there, ends, hits, leaves-out, list-ends, passes, same-block, skips, takes, window-ends}
 use Rattle.intersection_window.proofs.hit.next_hit.Statement.{statement}

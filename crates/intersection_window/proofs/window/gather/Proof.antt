@@ -1,9 +1,9 @@
 -- `gather` meets its contract: each turn takes one skip reader on, and adds its block's end and bound to those before.
-use borrow.Author.Needs.{needs}
 use Prim.Native.Nat.{_-_}
 use lib.Ieee.{ofBits}
-use Rattle.term_scorer.specs.Slots.{held}
-use Rattle.intersection_window.specs.Scorers.{query}
+use borrow.Author.Needs.{needs}
+use Rattle.term_scorer.specs.Inner.Slots.{held}
+use Rattle.intersection_window.specs.Inner.Scorers.{query}
 use Rattle.intersection_window.proofs.Seats.{last-fits, shallow-moves, slot-small, standing-in}
 use Rattle.intersection_window.proofs.Gathering.{Gathering, begun, ended, goes-on, kept-there, runs-out, seated-there}
 use Rattle.intersection_window.proofs.window.gather.Statement.{statement}

@@ -1,9 +1,9 @@
 -- `sum_suffixes` meets its contract: each turn writes the sum so far and adds one bound to it.
-use borrow.Author.Needs.{needs}
-use native.Mathlib.Omega.{arith}
 use Prim.Native.Nat.{_-_, _<_}
+use native.Mathlib.Omega.{arith}
 use lib.ListN.{getD}
 use lib.Ieee.{ofBits}
+use borrow.Author.Needs.{needs}
 use Rattle.intersection_window.proofs.Summing.{Summing, begun, ended, goes-on}
 use Rattle.intersection_window.proofs.window.sum_suffixes.Statement.{statement}
 use Rattle.intersection_window.proofs.window.sum_suffixes.Tie as tie

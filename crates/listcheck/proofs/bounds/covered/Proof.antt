@@ -8,7 +8,7 @@ use lib.ListN.{getD}
 use lib.Ieee.{nan, lt}
 use borrow.Author.Needs.{needs}
 use Rattle.arrays.proofs.Every.{stays, lowered}
-use Rattle.notefile.specs.Reads.{allCovered}
+use Rattle.notefile.specs.Inner.Reads.{allCovered}
 use Rattle.listcheck.proofs.bounds.covered.Statement.{statement}
 use Rattle.listcheck.proofs.bounds.covered.Tie as tie
 

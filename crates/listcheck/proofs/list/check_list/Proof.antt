@@ -2,10 +2,10 @@
 use native.Mathlib.Omega.{arith}
 use borrow.Author.Needs.{needs}
 use borrow.Author.Tests.{not-true, not-false}
+use Rattle.bm25.proofs.Numbers.{weight-number, average-number}
 use Rattle.notefile.specs.Lists.{fullBlocks}
 use Rattle.notefile.proofs.FullBlocks.{previous-same}
 use Rattle.notefile.proofs.Scores.{apart}
-use Rattle.bm25.proofs.Numbers.{weight-number, average-number}
 use Rattle.listcheck.proofs.ListOrder.{skips-wrong, tail-is, skipped, postings-wrong, blocks-in, full-seven, docs-before, with-tail, top-is}
 use Rattle.listcheck.proofs.list.check_list.Statement.{statement}
 use Rattle.listcheck.proofs.list.check_list.Tie as tie

@@ -3,7 +3,7 @@ use mathlib.Core.Path.{ap}
 use Prim.Native.Nat.{_+_, _*_}
 use borrow.Author.Needs.{needs}
 use Rattle.codec.proofs.BitFields.{bits-lt}
-use Rattle.notefile.specs.Header.{headerOf}
+use Rattle.notefile.specs.Inner.Structs.{headerOf}
 use Rattle.notefile.specs.declared.header.Header.{Header}
 use Rattle.notecheck.proofs.Entries.{weight-fits, weight-wrong}
 use Rattle.notecheck.proofs.entry.entry_right.Statement.{statement}

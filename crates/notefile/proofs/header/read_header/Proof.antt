@@ -2,7 +2,7 @@
 use mathlib.Core.Path.{refl}
 use native.Mathlib.Nat.{div-one}
 use borrow.Author.Needs.{needs}
-use Rattle.notefile.specs.Header.{headerOf}
+use Rattle.notefile.specs.Inner.Structs.{headerOf}
 use Rattle.notefile.proofs.Headers.{field}
 use Rattle.notefile.proofs.header.read_header.Statement.{statement}
 use Rattle.notefile.proofs.header.read_header.Tie as tie

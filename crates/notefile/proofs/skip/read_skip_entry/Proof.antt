@@ -1,6 +1,6 @@
 -- `skip::read_skip_entry` meets its contract: each field is read at its place in the entry.
 use borrow.Author.Needs.{needs}
-use Rattle.notefile.specs.Skips.{skipEntryOf}
+use Rattle.notefile.specs.Inner.Structs.{skipEntryOf}
 use Rattle.notefile.proofs.skip.read_skip_entry.Statement.{statement}
 use Rattle.notefile.proofs.skip.read_skip_entry.Tie as tie
 

@@ -1,4 +1,5 @@
 -- `skipping::run_accepted` meets its contract: each mode's run is over the route of the query.
+use mathlib.Core.Path.{refl}
 use native.Mathlib.Omega.{arith}
 use borrow.Author.Needs.{needs}
 use Rattle.rule.proofs.RightRules.{keeps}
@@ -6,7 +7,6 @@ use Rattle.request.proofs.Requests.{Let, let-through}
 use Rattle.ranking.proofs.Answering.{header-of}
 use Rattle.ranking.proofs.Unions.{same-route}
 use Rattle.ranking.proofs.Finishing.{listed-by, single-route, two-numbers, one-number}
-use mathlib.Core.Path.{refl}
 use Rattle.ranking.proofs.skipping.run_accepted.Statement.{statement}
 use Rattle.ranking.proofs.skipping.run_accepted.Tie as tie
 

@@ -1,9 +1,9 @@
 -- `skipping::run_union` meets its contract: behind the empty lists one is left to the single scan, or the pivots' loop runs.
-use native.Mathlib.Omega.{arith}
 use Prim.Native.Nat.{_<_}
+use native.Mathlib.Omega.{arith}
 use lib.ListN.{getD, length}
 use borrow.Author.Needs.{needs}
-use Rattle.ordering.specs.Scorers.{noScorer}
+use Rattle.ordering.specs.Inner.Scorers.{noScorer}
 use Rattle.ranking.proofs.Answering.{header-of}
 use Rattle.ranking.proofs.Unions.{left-seated, left-fresh, by-pivots, by-single, only-inside, same-route}
 use Rattle.ranking.proofs.skipping.run_union.Statement.{statement}

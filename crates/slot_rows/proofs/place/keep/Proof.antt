@@ -4,7 +4,7 @@ use mathlib.Core.List.{[], _∷_}
 use mathlib.Core.Logic.{⊎-elim}
 use Prim.Native.Nat.{ℕ}
 use native.Mathlib.Omega.{arith}
-use Rattle.slot_rows.specs.Rows.{flag}
+use Rattle.slot_rows.specs.Inner.Rows.{flag}
 use Rattle.slot_rows.proofs.place.keep.Statement.{statement}
 use Rattle.slot_rows.proofs.place.keep.Tie as tie
 

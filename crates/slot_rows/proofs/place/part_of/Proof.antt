@@ -1,6 +1,6 @@
 -- `place::part_of` meets its contract: each field is read off the row.
 use borrow.Author.Needs.{needs}
-use Rattle.slot_rows.specs.Rows.{partIn}
+use Rattle.slot_rows.specs.Inner.Rows.{partIn}
 use Rattle.slot_rows.proofs.place.part_of.Statement.{statement}
 use Rattle.slot_rows.proofs.place.part_of.Tie as tie
 

@@ -1,11 +1,11 @@
 -- `place::postings_of` meets its contract: the row's block, its place and its previous document make the skip reader.
-use borrow.Author.Needs.{needs}
 use mathlib.Core.Path.{ap}
 use native.Mathlib.Omega.{arith}
 use lib.Dec.{eqb}
 use lib.ListN.{getD}
+use borrow.Author.Needs.{needs}
 use Rattle.postings.specs.declared.skip.SkipReader.{SkipReader}
-use Rattle.slot_rows.specs.Rows.{postingsIn}
+use Rattle.slot_rows.specs.Inner.Rows.{postingsIn}
 use Rattle.slot_rows.proofs.Rows.{previous-small, offset-is, previous-is}
 use Rattle.slot_rows.proofs.place.postings_of.Statement.{statement}
 use Rattle.slot_rows.proofs.place.postings_of.Tie as tie

@@ -1,6 +1,6 @@
 -- `row::advance` meets its contract: the next place of the block, or the next block.
-use Prim.Native.Nat.{_+_, _<_}
 use mathlib.Core.Logic.{inl, inr}
+use Prim.Native.Nat.{_+_, _<_}
 use native.Mathlib.Omega.{arith}
 use lib.ListN.{getD}
 use borrow.Author.Needs.{needs}

@@ -1,9 +1,9 @@
 -- `row::seek_block` meets its contract: within the block the row stays, else the reader that moved is kept.
-use borrow.Author.Needs.{needs}
 use native.Mathlib.Omega.{arith}
+use borrow.Author.Needs.{needs}
 use Rattle.route.specs.Cursor.{seekBlockIn}
 use Rattle.decoded.specs.Lists.{listOf}
-use Rattle.slot_rows.specs.Rows.{cursorIn, partIn}
+use Rattle.slot_rows.specs.Inner.Rows.{cursorIn, partIn}
 use Rattle.slot_rows.proofs.Rows.{keeps-at, stays-shallow, moves-shallow, list-for, standing-for, stands-for, block-for}
 use Rattle.slot_rows.proofs.row.seek_block.Statement.{statement}
 use Rattle.slot_rows.proofs.row.seek_block.Tie as tie

@@ -1,11 +1,11 @@
 -- `score::score` meets its contract: the document's norm and the frequency at the scorer's place, by its list's weight and norms.
 use mathlib.Core.List.{[]}
-use borrow.Author.Needs.{needs}
-use Rattle.slot_rows.proofs.Rows.{cur-inside}
-use Rattle.term_scorer.proofs.Scores.{score-here}
-use Rattle.term_scorer.specs.Slots.{partAt}
 use lib.ListN.{getD}
 use lib.Ieee.{nan}
+use borrow.Author.Needs.{needs}
+use Rattle.slot_rows.proofs.Rows.{cur-inside}
+use Rattle.term_scorer.specs.Inner.Slots.{partAt}
+use Rattle.term_scorer.proofs.Scores.{score-here}
 use Rattle.term_scorer.proofs.score.score.Statement.{statement}
 use Rattle.term_scorer.proofs.score.score.Tie as tie
 

@@ -1,10 +1,10 @@
 -- `score::score_in_block` meets its contract: the document's norm and the frequency at the posting's place, by its list's weight and norms.
-use borrow.Author.Needs.{needs}
 use mathlib.Core.List.{[]}
 use mathlib.Core.Path.{refl}
 use lib.ListN.{getD}
 use lib.Ieee.{nan}
-use Rattle.term_scorer.specs.Slots.{partAt}
+use borrow.Author.Needs.{needs}
+use Rattle.term_scorer.specs.Inner.Slots.{partAt}
 use Rattle.term_scorer.proofs.Scores.{score-in-block}
 use Rattle.term_scorer.proofs.score.score_in_block.Statement.{statement}
 use Rattle.term_scorer.proofs.score.score_in_block.Tie as tie

@@ -1,8 +1,8 @@
 -- `slot::has_remaining_docs` meets its contract: the block's first place is compared with the list's length.
-use borrow.Author.Needs.{needs}
 use mathlib.Core.Path.{refl}
+use borrow.Author.Needs.{needs}
 use Rattle.route.specs.Postings.{start}
-use Rattle.slot_rows.specs.Rows.{cursorIn, partIn}
+use Rattle.slot_rows.specs.Inner.Rows.{cursorIn, partIn}
 use Rattle.term_scorer.proofs.slot.has_remaining_docs.Statement.{statement}
 use Rattle.term_scorer.proofs.slot.has_remaining_docs.Tie as tie
 

@@ -1,0 +1,90 @@
+-- The scorers of an intersection, each in its slot, and their order: the leader first, then the secondaries.
+use mathlib.Core.Path.{_≡_}
+use mathlib.Core.List.{List, [], map}
+use Prim.Native.Nat.{ℕ, _≤_, _<_}
+use lib.ListN.{getD, take, drop}
+use lib.Ieee.{Float}
+use Rattle.fieldnorm.specs.declared.FieldNormReader.{FieldNormReader}
+use Rattle.route.specs.Postings.{Postings}
+use Rattle.route.specs.Scorer.{Scorer}
+use Rattle.route.specs.Intersection.{Stage, InterPlace}
+use Rattle.bm25.specs.declared.Scoring.{Scoring}
+use Rattle.notefile.specs.Header.{normReader}
+use Rattle.term_scorer.specs.Inner.Slots.{Held, Sixteen, SlotIn, cursorAt, listAt}
+use Rattle.term_scorer.specs.Inner.Weights.{Weighed, BoundKept}
+
+-- what a run has of its query and does not change: the lists by slot, how many, and the slots in the scorers' order
+pub record Query : Type 0 where
+  pub scoring : Scoring
+  pub file : List ℕ
+  pub lists : List (List ℕ)
+  pub len : ℕ
+  pub order : List ℕ
+
+abbrev pub query : Scoring → List ℕ → List (List ℕ) → ℕ → List ℕ → Query
+query scoring file lists len order = record { scoring = scoring; file = file; lists = lists; len = len; order = order }
+
+-- the slot of the scorer at a place of the order
+abbrev pub slotAt : Query → ℕ → ℕ
+slotAt x i = getD (x .order) i 0
+
+module _ (x : Query) where
+  -- the route's list in slot q, and its scorer
+  abbrev pub listIn : ℕ → Postings Float
+  listIn q = listAt (x .scoring) (x .file) (x .lists) q
+
+  abbrev pub scorerAt : List (List ℕ) → ℕ → Scorer Float
+  scorerAt places q = record { ord = q; list = listIn q; cur = cursorAt places q }
+
+  -- those from place a of the order on, up to place b
+  abbrev pub scorersBetween : List (List ℕ) → ℕ → ℕ → List (Scorer Float)
+  scorersBetween places a b = map (scorerAt places) (drop a (take b (x .order)))
+
+  -- the Rust's `leader` and `secondaries`
+  abbrev pub leaderIn : List (List ℕ) → Scorer Float
+  leaderIn places = scorerAt places (slotAt x 0)
+
+  abbrev pub secondariesIn : List (List ℕ) → List (Scorer Float)
+  secondariesIn places = scorersBetween places 1 (x .len)
+
+  -- the route's place, at a stage and a document
+  abbrev pub placeAt : List (List ℕ) → Stage Float → ℕ → InterPlace Float
+  placeAt places stage d = record { stage = stage; doc = d; leader = leaderIn places; secs = secondariesIn places }
+
+  -- each of the slots stands at one place of the order
+  pub record InOrder : Type 0 where
+    pub long : Sixteen (x .order)
+    pub few : x .len ≤ 16
+    pub leader : 0 < x .len
+    pub below : (i : ℕ) → i < x .len → slotAt x i < x .len
+    pub apart : (i j : ℕ) → i < x .len → j < x .len → slotAt x i ≡ slotAt x j → i ≡ j
+
+  -- each slot has its list's weight and norms
+  pub record WeightsIn (norms : FieldNormReader) (weights : List Float) (caches : List (List Float)) : Type 0 where
+    pub norms-are : norms ≡ normReader (x .file)
+    pub weighed : (q : ℕ) → q < x .len → Weighed (x .lists) weights caches q
+
+  -- each slot's scorer stands in its list
+  pub record Seated (h : Held) : Type 0 where
+    pub sixteen : Sixteen (h .places) × Sixteen (h .docs) × Sixteen (h .freqs)
+    pub slot : (q : ℕ) → q < x .len → SlotIn (x .file) (x .lists) h q
+
+  -- block bounds that are known are kept
+  abbrev pub BoundsKept : List (List ℕ) → List Float → Type 0
+  BoundsKept places bounds = (q : ℕ) → q < x .len → BoundKept (x .scoring) (x .file) (x .lists) places bounds q
+
+  -- whatever bounds are kept stay so
+  abbrev pub StillKept : List (List ℕ) → List (List ℕ) → Type 0
+  StillKept places places′ = (bounds : List Float) → BoundsKept places bounds → BoundsKept places′ bounds
+
+-- a run's arrays between two of its steps
+pub record Ready (x : Query) (h : Held) (bounds : List Float) : Type 0 where
+  pub seated : Seated x h
+  pub kept : BoundsKept x (h .places) bounds
+  pub long : Sixteen bounds
+
+-- what stands in slot q is as it was
+pub record Unmoved (q : ℕ) (h h′ : Held) : Type 0 where
+  pub place : getD (h′ .places) q [] ≡ getD (h .places) q []
+  pub docs : getD (h′ .docs) q [] ≡ getD (h .docs) q []
+  pub freqs : getD (h′ .freqs) q [] ≡ getD (h .freqs) q []

@@ -1,0 +1,69 @@
+-- Where the scorers of a plain scan stand: none has passed a document that is still to be taken.
+use mathlib.Core.Path.{_≡_}
+use mathlib.Core.List.{List, [], _∷_}
+use Prim.Native.Nat.{ℕ, zero, suc, min, _≤_, _<_}
+use lib.ListN.{length, getD}
+use lib.Ieee.{Float}
+use Rattle.route.specs.Cursor.{fresh}
+use Rattle.route.specs.Plain.{present}
+use Rattle.route.specs.Postings.{Postings}
+use Rattle.route.specs.Inner.Cursors.{Wf, Past}
+use Rattle.bm25.specs.declared.Scoring.{Scoring}
+use Rattle.ordering.specs.Inner.Scorers.{noScorer}
+use Rattle.ordering.specs.declared.TermScorer.{TermScorer}
+use Rattle.notefile.specs.Parts.{partOf}
+use Rattle.postings.specs.Inner.Decoded.{docIn}
+use Rattle.term_scorer.specs.Inner.Slots.{Held, Sixteen, SlotIn, partAt, listAt, cursorAt}
+use Rattle.term_scorer.specs.Inner.Weights.{Weighed}
+use Rattle.plain_scan.specs.Inner.Found.{foundOf}
+use Rattle.plain_scan.specs.declared.Found.{Found}
+
+-- the least of the first n documents, or TERMINATED
+abbrev pub leastIn : List ℕ → ℕ → ℕ
+leastIn heads zero = 2147483647
+leastIn heads (suc n) = min (leastIn heads n) (getD heads n 0)
+
+-- the documents of the first n scorers
+pub record HeadsOf (scorers : List TermScorer) (n : ℕ) (heads : List ℕ) : Type 0 where
+  pub long : Sixteen heads
+  pub are : (q : ℕ) → q < n → getD heads q 0 ≡ getD scorers q noScorer .doc
+
+-- each of the first n slots has its list's weight and norms
+abbrev pub AllWeighed : List (List ℕ) → List Float → List (List Float) → ℕ → Type 0
+AllWeighed lists weights caches n = (q : ℕ) → q < n → Weighed lists weights caches q
+
+-- the lists of n slots from slot q on
+abbrev pub listsFrom : Scoring → List ℕ → List (List ℕ) → ℕ → ℕ → List (Postings Float)
+listsFrom scoring file lists q zero = []
+listsFrom scoring file lists q (suc n) = listAt scoring file lists q ∷ listsFrom scoring file lists (suc q) n
+
+module _ (scoring : Scoring) (file : List ℕ) (lists : List (List ℕ)) where
+  -- slot q's scorer has passed no document from d on, and stands on one from there on, which its head names
+  pub record StandsFrom (d : ℕ) (h : Held) (heads : List ℕ) (q : ℕ) : Type 0 where
+    pub slot : SlotIn file lists h q
+    pub wf : Wf 128 (listAt scoring file lists q) (cursorAt (h .places) q)
+    pub past : Past 128 (listAt scoring file lists q) (cursorAt (h .places) q) d
+    pub head-is : getD heads q 0 ≡ docIn file (partAt lists q) (cursorAt (h .places) q .at)
+    pub low : d ≤ getD heads q 0
+
+  -- and so do the first n
+  pub record Standing (n d : ℕ) (h : Held) (heads : List ℕ) : Type 0 where
+    pub long : Sixteen heads
+    pub each : (q : ℕ) → q < n → StandsFrom d h heads q
+
+  -- what `take_document` leaves: the document's scores in slot order, counted and summed, and every scorer behind it
+  pub record Taken (n d : ℕ) (found : Found) (h : Held) (heads : List ℕ) : Type 0 where
+    pub found-is : found ≡ foundOf (present d (listsFrom scoring file lists 0 n))
+    pub standing : Standing n (suc d) h heads
+
+-- slot q has list l of the file, on its first posting, with its weight and norms
+pub record ReadySlot (file : List ℕ) (lists : List (List ℕ)) (weights : List Float) (caches : List (List Float)) (h : Held) (l q : ℕ) : Type 0 where
+  pub slot : SlotIn file lists h q
+  pub part-is : partAt lists q ≡ partOf file l
+  pub cursor-is : cursorAt (h .places) q ≡ fresh
+  pub weighed : Weighed lists weights caches q
+
+-- the query's lists stand ready in their slots, with their scorers
+pub record Ready (file query : List ℕ) (lists : List (List ℕ)) (weights : List Float) (caches : List (List Float)) (h : Held) (scorers : List TermScorer) : Type 0 where
+  pub slots : (q : ℕ) → q < length query → ReadySlot file lists weights caches h (getD query q 0) q
+  pub docs-are : (q : ℕ) → q < length query → getD scorers q noScorer .doc ≡ docIn file (partOf file (getD query q 0)) 0

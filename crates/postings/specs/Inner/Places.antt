@@ -1,0 +1,38 @@
+-- A scorer's place in its list, and the route's cursor that it stands for.
+use mathlib.Core.Path.{_≡_}
+use mathlib.Core.Bool.{true}
+use mathlib.Core.List.{List}
+use Prim.Native.Nat.{ℕ, suc, _+_, _≤_, _<_}
+use Rattle.route.specs.Postings.{start}
+use Rattle.route.specs.Cursor.{Cursor, docHere}
+use Rattle.bm25.specs.declared.Scoring.{Scoring}
+use Rattle.notefile.specs.Lists.{fullBlocks}
+use Rattle.notefile.specs.declared.part.Part.{Part}
+use Rattle.decoded.specs.Lists.{listOf}
+use Rattle.postings.specs.Inner.Decoded.{Decoded}
+use Rattle.postings.specs.Inner.Reader.{Stands}
+use Rattle.postings.specs.declared.cursor.SegmentPostings.{SegmentPostings}
+
+unfoldable pub cursorOf : SegmentPostings → Cursor
+cursorOf p = record { blk = p .«skip_reader» .block; loaded = p .«block_loaded»; dec = p .decoded; at = start 128 (p .decoded) + p .cur }
+
+-- the skip reader stands on its block, and the arrays hold the block decoded last, which is the reader's where that is loaded
+pub record Placed (file : List ℕ) (x : Part) (p : SegmentPostings) (docs freqs : List ℕ) : Type 0 where
+  pub stands : Stands file x (p .«skip_reader»)
+  pub low : p .«skip_reader» .block ≤ suc (fullBlocks x)
+  pub holds : Decoded file x (p .decoded) docs freqs
+  pub inside : p .cur < 128
+  pub loaded-is : p .«block_loaded» ≡ true → p .decoded ≡ p .«skip_reader» .block
+
+-- a scorer's place after a move: where the route's cursor is, whatever the scoring
+pub record Moved (file : List ℕ) (x : Part) (to : Scoring → Cursor) (p : SegmentPostings) (docs freqs : List ℕ) : Type 0 where
+  pub cursor-is : (scoring : Scoring) → cursorOf p ≡ to scoring
+  pub placed : Placed file x p docs freqs
+
+-- the same of a move that leaves the decoded block as it is, whatever that is
+abbrev pub Shallow : List ℕ → Part → (Scoring → Cursor) → SegmentPostings → SegmentPostings → Type 0
+Shallow file x to p r = (docs freqs : List ℕ) → Placed file x p docs freqs → Moved file x to r docs freqs
+
+-- a document is the one on which the route's cursor stands, in whatever list and scoring the scorer is placed
+abbrev pub Here : SegmentPostings → List ℕ → ℕ → Type 0
+Here p docs doc = (file : List ℕ) (x : Part) (freqs : List ℕ) → Placed file x p docs freqs → (scoring : Scoring) → doc ≡ docHere (listOf scoring file x) (cursorOf p)

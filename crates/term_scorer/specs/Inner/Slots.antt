@@ -1,0 +1,74 @@
+-- The slots of a run: what the lent arrays hold of each scorer, and what a move of one leaves.
+use mathlib.Core.Path.{_≡_}
+use mathlib.Core.List.{List, []}
+use Prim.Native.Nat.{ℕ}
+use lib.ListN.{length, getD, set}
+use lib.Ieee.{Float}
+use Rattle.route.specs.Postings.{Postings}
+use Rattle.route.specs.Cursor.{Cursor, fresh}
+use Rattle.bm25.specs.declared.Scoring.{Scoring}
+use Rattle.notefile.specs.declared.part.Part.{Part}
+use Rattle.decoded.specs.Lists.{listOf}
+use Rattle.postings.specs.Inner.Decoded.{ListIn}
+use Rattle.slot_rows.specs.Inner.Rows.{partIn, partRow, PartRow, cursorIn, Standing, PlaceIn, MovedRow, ShallowRow}
+
+-- an array of 16 slots
+abbrev pub Sixteen : {A : Type 0} → List A → Type 0
+Sixteen xs = length xs ≡ 16
+
+-- the arrays that change as scorers move
+pub record Held : Type 0 where
+  pub places : List (List ℕ)
+  pub docs : List (List ℕ)
+  pub freqs : List (List ℕ)
+
+abbrev pub held : List (List ℕ) → List (List ℕ) → List (List ℕ) → Held
+held places docs freqs = record { places = places; docs = docs; freqs = freqs }
+
+-- the list of a slot, as the file's part and as the route has it
+abbrev pub partAt : List (List ℕ) → ℕ → Part
+partAt lists q = partIn (getD lists q [])
+
+abbrev pub listAt : Scoring → List ℕ → List (List ℕ) → ℕ → Postings Float
+listAt scoring file lists q = listOf scoring file (partAt lists q)
+
+-- the route's cursor in a slot, and the last document of its skip reader's block
+abbrev pub cursorAt : List (List ℕ) → ℕ → Cursor
+cursorAt places q = cursorIn (getD places q [])
+
+abbrev pub lastAt : List (List ℕ) → ℕ → ℕ
+lastAt places q = getD (getD places q []) 3 0
+
+module _ (file : List ℕ) (lists : List (List ℕ)) where
+  -- slot q's list is one of an accepted file, and its skip reader stands in it
+  pub record StandingIn (places : List (List ℕ)) (q : ℕ) : Type 0 where
+    pub sixteen : Sixteen places
+    pub part-row : PartRow (getD lists q [])
+    pub list : ListIn file (partAt lists q)
+    pub standing : Standing file (partAt lists q) (getD places q [])
+
+  -- and its arrays hold the block that it decoded last
+  pub record SlotIn (h : Held) (q : ℕ) : Type 0 where
+    pub sixteen : Sixteen (h .places) × Sixteen (h .docs) × Sixteen (h .freqs)
+    pub part-row : PartRow (getD lists q [])
+    pub list : ListIn file (partAt lists q)
+    pub place : PlaceIn file (partAt lists q) (getD (h .places) q []) (getD (h .docs) q []) (getD (h .freqs) q [])
+
+  -- slot q's scorer has moved, and the other slots are as before
+  pub record MovedSlot (q : ℕ) (to : Scoring → Cursor) (before after : Held) (doc : ℕ) : Type 0 where
+    pub places-only : after .places ≡ set (before .places) q (getD (after .places) q [])
+    pub docs-only : after .docs ≡ set (before .docs) q (getD (after .docs) q [])
+    pub freqs-only : after .freqs ≡ set (before .freqs) q (getD (after .freqs) q [])
+    pub moved : MovedRow file (partAt lists q) to (getD (before .places) q []) (getD (after .places) q []) (getD (after .docs) q []) (getD (after .freqs) q []) doc
+
+  -- slot q's skip reader has moved
+  pub record Shallowed (q : ℕ) (to : Scoring → Cursor) (before after : List (List ℕ)) : Type 0 where
+    pub only : after ≡ set before q (getD after q [])
+    pub moved : ShallowRow file (partAt lists q) to (getD before q []) (getD after q [])
+
+-- slot q has been given the list x
+pub record Opened (file : List ℕ) (x : Part) (q : ℕ) (lists lists′ : List (List ℕ)) (before after : Held) (doc : ℕ) : Type 0 where
+  pub lists-only : lists′ ≡ set lists q (partRow x)
+  pub part-row : PartRow (partRow x)
+  pub opened : MovedSlot file lists′ q (λ _. fresh) before after doc
+  pub unknown : getD (getD (after .places) q []) 7 0 ≡ 0
