@@ -29,18 +29,18 @@ use Rattle.notefile.specs.Refusal.{fileRefusal}
 use Rattle.notefile.specs.Small.{small}
 use Rattle.decoded.specs.Lists.{listOf, queried}
 use Rattle.decoded.specs.Inner.Bytes.{Bytes}
-use Rattle.request.specs.Request.{refusalOf}
+use Rattle.request.specs.Request.{asked, refusalOf}
 use Rattle.request.specs.declared.Mode.{Mode}
 use Rattle.ranking.specs.Answers.{answer, plainList, Answered}
 use Rattle.ranking.proofs.Demand.{run-plain}
 use Rattle.cases.specs.Table.{Runs, Holds, cases}
 
 -- an answer that is worked out is every run's
-runs : (file query : List ℕ) → Bytes file → (mode : Mode) (rule : Rule) (script : List Float) (rows : ℕ) (a : rules.Outcome Float)
-    → answer (refusalOf file query mode Stepped rule script) rows (plainList file query mode Stepped rule script) ≡ a → Runs file query mode rule script rows a
-runs file query bytes mode rule script rows a e documents₀ scores₀ r documents scores n =
-    let q = ap (λ (k : ℕ). answer (refusalOf file query mode Stepped rule script) k (plainList file query mode Stepped rule script)) n ∙ e in
-    let by = subst (λ (z : rules.Outcome Float). Answered z documents₀ scores₀ r documents scores) q in
+runs : (file query : List ℕ) → Bytes file → (mode : Mode) (rule : Rule) (script : List Float) (n : ℕ) (a : rules.Outcome Float)
+    → let q = asked file query mode Stepped rule script in answer (refusalOf q) n (plainList q) ≡ a → Runs q n a
+runs file query bytes mode rule script n a e old r new k =
+    let q = asked file query mode Stepped rule script in
+    let by = subst (λ (z : rules.Outcome Float). Answered z old r new) (ap (λ (z : ℕ). answer (refusalOf q) z (plainList q)) k ∙ e) in
     ((λ R. by (run-plain file query bytes mode rule script R)), (λ P. by P))
 
 -- a list of bytes

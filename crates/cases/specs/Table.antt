@@ -18,30 +18,30 @@ use Rattle.bm25.specs.declared.Scoring.the-variants.{Stepped}
 use Rattle.rule.specs.declared.Rule.{Rule}
 use Rattle.rule.specs.declared.Rule.the-variants.{Script, BestK}
 use Rattle.notefile.specs.Small.{small}
-use Rattle.reports.specs.Rows.{rowsOf}
+use Rattle.reports.specs.Rows.{Rows, rowsOf}
+use Rattle.request.specs.Request.{Request, asked}
 use Rattle.request.specs.declared.Mode.{Mode}
 use Rattle.request.specs.declared.Mode.the-variants.{Union, Intersection}
 use Rattle.ranking.specs.Answers.{Answered, RunIs, PlainIs}
 use Rattle.ranking.specs.declared.outcome.Outcome.{Outcome}
 
--- A stepped run with its rows and its answer; a maximum-frequency code and its frequency; the bytes of a VInt and its value; a whole number and
--- the f32 nearest to it, a whole number too.
+-- A request with its rows and its answer; a maximum-frequency code and its frequency; the bytes of a VInt and its value; a whole number and the
+-- f32 nearest to it, a whole number too.
 pub data Case : Type 0 where
-  run : (file query : List ℕ) (mode : Mode) (rule : Rule) (script : List Float) (rows : ℕ) (answer : rules.Outcome Float) → Case
+  run : (q : Request) (rows : ℕ) (answer : rules.Outcome Float) → Case
   code : (code frequency : ℕ) → Case
   vint : (bytes : List ℕ) (value : ℕ) → Case
   whole : (n nearest : ℕ) → Case
 
 -- every run of the request with so many rows, skipping or plain, has the answer
-abbrev pub Runs : List ℕ → List ℕ → Mode → Rule → List Float → ℕ → rules.Outcome Float → Type 0
-Runs file query mode rule script rows answer =
-    (documents₀ : List ℕ) (scores₀ : List Float) (r : Outcome) (documents : List ℕ) (scores : List Float) → rowsOf documents₀ scores₀ ≡ rows
-    → (RunIs file query mode Stepped rule script documents₀ scores₀ r documents scores → Answered answer documents₀ scores₀ r documents scores)
-    × (PlainIs file query mode Stepped rule script documents₀ scores₀ r documents scores → Answered answer documents₀ scores₀ r documents scores)
+abbrev pub Runs : Request → ℕ → rules.Outcome Float → Type 0
+Runs q n answer =
+    (old : Rows) (r : Outcome) (new : Rows) → rowsOf (old .documents) (old .scores) ≡ n
+    → (RunIs q old r new → Answered answer old r new) × (PlainIs q old r new → Answered answer old r new)
 
 -- what a case says
 abbrev pub Holds : Case → Type 0
-Holds (run file query mode rule script rows answer) = Runs file query mode rule script rows answer
+Holds (run q rows answer) = Runs q rows answer
 Holds (code c frequency) = maxTf c ≡ frequency
 Holds (vint bytes value) = vintAt bytes (length bytes) 0 ≡ Value value (length bytes)
 Holds (whole n nearest) = HasValue (wholeF32 n) false nearest 1
@@ -70,18 +70,22 @@ fixed n = Script (gridF n)
 abbrev best1 : Rule
 best1 = BestK (fin true 1 (pos 0)) 1
 
+-- a stepped request
+abbrev stepped : List ℕ → List ℕ → Mode → Rule → List Float → Request
+stepped file query mode rule script = asked file query mode Stepped rule script
+
 -- the table
 abbrev pub cases : List Case
 cases =
-    run small both Union (fixed 0) [] 4096 (list all)
-    ∷ run small both Union (fixed 362477) [] 4096 (list (row 1 724955 ∷ row 3 1262696 ∷ []))
-    ∷ run small both Intersection (fixed 0) [] 4096 (list (row 3 1262696 ∷ []))
-    ∷ run small both Union (fixed 0) (gridF 819200 ∷ []) 4096 (list (row 0 362477 ∷ row 3 1262696 ∷ []))
-    ∷ run small both Union best1 [] 4096 (list all)
-    ∷ run small [] Union (fixed 0) [] 4096 (list [])
-    ∷ run small (0 ∷ []) Intersection (fixed 0) [] 4096 (refused 10)
-    ∷ run small both Union (fixed 0) [] 2 (record { code = 12; rows = row 0 362477 ∷ row 1 724955 ∷ [] })
-    ∷ run (set small 38 0x84) both Union (fixed 0) [] 4096 (refused 9)
+    run (stepped small both Union (fixed 0) []) 4096 (list all)
+    ∷ run (stepped small both Union (fixed 362477) []) 4096 (list (row 1 724955 ∷ row 3 1262696 ∷ []))
+    ∷ run (stepped small both Intersection (fixed 0) []) 4096 (list (row 3 1262696 ∷ []))
+    ∷ run (stepped small both Union (fixed 0) (gridF 819200 ∷ [])) 4096 (list (row 0 362477 ∷ row 3 1262696 ∷ []))
+    ∷ run (stepped small both Union best1 []) 4096 (list all)
+    ∷ run (stepped small [] Union (fixed 0) []) 4096 (list [])
+    ∷ run (stepped small (0 ∷ []) Intersection (fixed 0) []) 4096 (refused 10)
+    ∷ run (stepped small both Union (fixed 0) []) 2 (record { code = 12; rows = row 0 362477 ∷ row 1 724955 ∷ [] })
+    ∷ run (stepped (set small 38 0x84) both Union (fixed 0) []) 4096 (refused 9)
     ∷ code 254 254 ∷ code 255 4294967295
     ∷ vint (0x00 ∷ 0x81 ∷ []) 128
     ∷ whole 16777217 16777216 ∷ whole 16777219 16777220

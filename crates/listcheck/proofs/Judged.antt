@@ -17,7 +17,7 @@ use Rattle.bm25.specs.Bound.{maxTf}
 use Rattle.notefile.specs.Skips.{maxNormCode}
 use Rattle.notefile.specs.Lists.{fullBlocks, blockSize, blockAt, blockScore, blockBound, listBound}
 use Rattle.notefile.specs.Conditions.{blockDocsRight, blockFreqsRight, covers, boundsRight}
-use Rattle.notefile.specs.Refusal.{firstOf, blocksRefusal}
+use Rattle.notefile.specs.Inner.Order.{firstOf, blocksRefusal}
 use Rattle.notefile.specs.Inner.Structs.{skipEntryOf}
 use Rattle.notefile.specs.Inner.Given.{Limits, WeighedIn}
 use Rattle.notefile.specs.Inner.Reads.{DocsRead, FreqsRead, allCovered, scoreAmong, blockRefusal, lower}

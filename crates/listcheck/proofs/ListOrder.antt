@@ -13,7 +13,8 @@ use Rattle.bm25.specs.declared.Bm25Weight.{Bm25Weight}
 use Rattle.bm25.proofs.WeightLaws.{max-score-is}
 use Rattle.notefile.specs.Lists.{fullBlocks, tailAt, scoreFor, listBound}
 use Rattle.notefile.specs.Conditions.{skipRight, skipsRight, postingsRight, blockDocsRight, blockFreqsRight, boundsRight}
-use Rattle.notefile.specs.Refusal.{unless, firstOf, blocksRefusal, listRefusal}
+use Rattle.notefile.specs.Refusal.{unless}
+use Rattle.notefile.specs.Inner.Order.{firstOf, blocksRefusal, listRefusal}
 use Rattle.notefile.specs.Inner.Given.{Parted, Skipped, BlocksIn, WeightIn}
 use Rattle.notefile.specs.Inner.Reads.{TailRead, blockRefusal, lower}
 use Rattle.notefile.specs.declared.part.Part.{Part}

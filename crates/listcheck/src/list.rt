@@ -18,7 +18,7 @@ ghost use Prim.Native.Nat.{_≤_};
 ghost use Rattle.arrays.specs.Lent.{before};
 ghost use Rattle.notefile.specs.Header.{documents, normReader};
 ghost use Rattle.notefile.specs.Lists.{fullBlocks, previousDoc};
-ghost use Rattle.notefile.specs.Refusal.{blocksRefusal, listRefusal};
+ghost use Rattle.notefile.specs.Inner.Order.{blocksRefusal, listRefusal};
 ghost use Rattle.notefile.specs.Inner.Structs.{lastBefore};
 ghost use Rattle.notefile.specs.Inner.Given.{Against, BlocksIn, Limits, PackedIn, Parted, Skipped};
 ghost use Rattle.notefile.specs.Inner.Reads.{TailValues, blockRefusal, lower};

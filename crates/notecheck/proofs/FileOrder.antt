@@ -16,9 +16,11 @@ use Rattle.bm25.specs.Limits.{averageOk}
 use Rattle.notefile.specs.Header.{listCount, documents, averageBits, normsAt}
 use Rattle.notefile.specs.Parts.{skipsAt, partOf}
 use Rattle.notefile.specs.Conditions.{headerRight, averageRight, lengthRight, entryRight}
-use Rattle.notefile.specs.Refusal.{unless, orElse, listRefusal, listsRefusal, fileRefusal}
+use Rattle.notefile.specs.Refusal.{unless, fileRefusal}
+use Rattle.notefile.specs.Inner.Order.{orElse, listRefusal, listsRefusal}
 use Rattle.notefile.specs.Inner.Structs.{headerOf}
 use Rattle.notefile.specs.declared.header.Header.{Header}
+use Rattle.notefile.proofs.Order.{lists-next}
 use Rattle.notefile.proofs.Accepted.{after1, after2, after3}
 use Rattle.notecheck.specs.Answers.{answerOf}
 use Rattle.notecheck.specs.declared.check.Checked.the-variants.{Accepted, Refused}
@@ -30,16 +32,14 @@ first-stays (suc m) n h = refl
 -- the lists one after another
 module _ (file : List ℕ) where
   pub list-refused : (l m : ℕ) {r : ℕ} → l < m → listsRefusal file l ≡ 0 → r ≡ listRefusal file (partOf file l) → (r ≡ 0 → ⊥) → r ≡ listsRefusal file m
-  unfolding listsRefusal
   list-refused l zero h z e n = absurd (not-suc-le-zero h)
   list-refused l (suc m) h z e n = elim (eq-or-lt-of-le (le-of-suc-le-suc h)) [
-    | inl q ↦ e ∙ sym (ap (λ (k : ℕ). orElse (listsRefusal file k) (listRefusal file (partOf file k))) (sym q) ∙ ap (λ (k : ℕ). orElse k (listRefusal file (partOf file l))) z)
-    | inr k ↦ let g = list-refused l m k z e n in g ∙ sym (first-stays (listsRefusal file m) (listRefusal file (partOf file m)) (λ q. n (g ∙ q)))
+    | inl q ↦ e ∙ sym (lists-next file m ∙ ap (λ (k : ℕ). orElse (listsRefusal file k) (listRefusal file (partOf file k))) (sym q) ∙ ap (λ (k : ℕ). orElse k (listRefusal file (partOf file l))) z)
+    | inr k ↦ let g = list-refused l m k z e n in g ∙ sym (lists-next file m ∙ first-stays (listsRefusal file m) (listRefusal file (partOf file m)) (λ q. n (g ∙ q)))
   ]
 
   pub list-clear : (l : ℕ) {r : ℕ} → listsRefusal file l ≡ 0 → r ≡ listRefusal file (partOf file l) → r ≡ 0 → listsRefusal file (l + 1) ≡ 0
-  unfolding listsRefusal
-  list-clear l z e q = rw add-one (ap (λ (k : ℕ). orElse k (listRefusal file (partOf file l))) z ∙ sym e ∙ q)
+  list-clear l z e q = rw add-one (lists-next file l ∙ ap (λ (k : ℕ). orElse k (listRefusal file (partOf file l))) z ∙ sym e ∙ q)
 
   pub average-is : {bits : ℕ} {r : Bool} → bits ≡ averageBits file 0 → r ≡ averageOk (ofBits binary32 bits) → r ≡ averageRight file
   unfolding averageRight
@@ -73,7 +73,7 @@ module _ (file : List ℕ) where
 -- the conditions in their order
 module _ (file : List ℕ) where
   start : fileRefusal file ≡ unless (headerRight file) 1 (after1 file)
-  unfolding fileRefusal
+  unfolding fileRefusal listsRefusal
   start = refl
 
   pub one : headerRight file ≡ false → 1 ≡ fileRefusal file

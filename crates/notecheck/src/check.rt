@@ -12,7 +12,8 @@ use notefile::part::read_part;
 use notefile::part::skips_at;
 ghost use mathlib.Core.Path.{_≡_};
 ghost use Rattle.arrays.specs.Lent.{before};
-ghost use Rattle.notefile.specs.Refusal.{fileRefusal, listsRefusal};
+ghost use Rattle.notefile.specs.Refusal.{fileRefusal};
+ghost use Rattle.notefile.specs.Inner.Order.{listsRefusal};
 ghost use Rattle.notefile.specs.Inner.Given.{FileIn};
 ghost use Rattle.notecheck.specs.Answers.{answerOf};
 

@@ -1,5 +1,5 @@
 -- What acceptance gives: each condition by itself, and what the readers ask.
-use mathlib.Core.Path.{_≡_, refl, ap, _∙_}
+use mathlib.Core.Path.{_≡_, refl, sym, ap, _∙_}
 use mathlib.Core.Bool.{Bool, true, false}
 use mathlib.Core.List.{List}
 use mathlib.Core.Logic.{inl, inr}
@@ -15,13 +15,15 @@ use Rattle.notefile.specs.Header.{listCount, normsAt}
 use Rattle.notefile.specs.Parts.{skipsAt, partOf}
 use Rattle.notefile.specs.Lists.{fullBlocks, tailAt}
 use Rattle.notefile.specs.Conditions.{headerRight, averageRight, lengthRight, entryRight, skipRight, skipsRight, postingsRight, blockDocsRight, blockFreqsRight, boundsRight}
-use Rattle.notefile.specs.Refusal.{unless, orElse, blocksRefusal, listRefusal, listsRefusal, fileRefusal}
+use Rattle.notefile.specs.Refusal.{unless, fileRefusal}
+use Rattle.notefile.specs.Inner.Order.{orElse, blocksRefusal, listRefusal, listsRefusal}
 use Rattle.notefile.specs.Inner.Structs.{headerOf, lastBefore}
 use Rattle.notefile.specs.Inner.Given.{ListRight, HeaderIn, Parted, BlocksIn, BlockRight, Limits}
 use Rattle.notefile.specs.declared.part.Part.{Part}
 use Rattle.notefile.proofs.Headers.{few-documents, header-in}
 use Rattle.notefile.proofs.Entries.{parted, limits}
 use Rattle.notefile.proofs.FullBlocks.{previous-same}
+use Rattle.notefile.proofs.Order.{lists-next}
 
 -- no number: the condition is clear, and so is what comes after it
 clear : (z : Bool) (n later : ℕ) → 0 < n → unless z n later ≡ 0 → z ≡ true
@@ -61,11 +63,10 @@ list-right file x e =
     }
 
 lists-none : (file : List ℕ) (n l : ℕ) → listsRefusal file n ≡ 0 → l < n → listRefusal file (partOf file l) ≡ 0
-unfolding listsRefusal
 lists-none file zero l e h = absurd (not-suc-le-zero h)
-lists-none file (suc n) l e h = elim (eq-or-lt-of-le (le-of-suc-le-suc h)) [
-  | inl q ↦ ap (λ (k : ℕ). listRefusal file (partOf file k)) q ∙ later-none (listsRefusal file n) (listRefusal file (partOf file n)) e
-  | inr k ↦ lists-none file n l (first-none (listsRefusal file n) (listRefusal file (partOf file n)) e) k
+lists-none file (suc n) l e h = let o = sym (lists-next file n) ∙ e in elim (eq-or-lt-of-le (le-of-suc-le-suc h)) [
+  | inl q ↦ ap (λ (k : ℕ). listRefusal file (partOf file k)) q ∙ later-none (listsRefusal file n) (listRefusal file (partOf file n)) o
+  | inr k ↦ lists-none file n l (first-none (listsRefusal file n) (listRefusal file (partOf file n)) o) k
 ]
 
 -- what is left after each condition
@@ -82,7 +83,7 @@ module _ (file : List ℕ) where
 -- an accepted file
 module _ (file : List ℕ) (accepted : fileRefusal file ≡ 0) where
   e1 : unless (headerRight file) 1 (after1 file) ≡ 0
-  unfolding fileRefusal
+  unfolding fileRefusal listsRefusal
   e1 = accepted
 
   e2 : after1 file ≡ 0

@@ -9,5 +9,6 @@ pub mod Decoded
 pub mod FullBlocks
 pub mod TailBlocks
 pub mod Tails
+pub mod Order
 pub mod Accepted
 pub mod ListLaws

@@ -10,7 +10,6 @@ use Rattle.route.specs.Lists.{All}
 use Rattle.route.specs.F32.{f32}
 use Rattle.route.specs.Report.{Report}
 use Rattle.route.specs.Rule as rules
-use Rattle.route.specs.Rule.{limited}
 use Rattle.route.specs.Route.{Route, Ends}
 use Rattle.route.specs.Single.{blockWandSingleScorer}
 use Rattle.route.specs.Plain.{single}
@@ -27,26 +26,24 @@ use Rattle.notefile.specs.Refusal.{fileRefusal}
 use Rattle.notefile.specs.declared.part.Part.{Part}
 use Rattle.notefile.proofs.Accepted.{list-accepted, header-right}
 use Rattle.notefile.proofs.Headers.{few-documents}
-use Rattle.reports.specs.Rows.{rowsOf}
-use Rattle.reports.specs.Inner.Runs.{callbackOf, runAfter, outcomeOf, Ran}
+use Rattle.reports.specs.Rows.{Rows}
+use Rattle.reports.specs.Inner.Runs.{callbackOf, runAfter, Ran}
 use Rattle.reports.proofs.RunLaws.{ran-limited}
 use Rattle.decoded.specs.Lists.{queried}
 use Rattle.decoded.proofs.AcceptedLists.{list-ok}
 use Rattle.block_wand_single.specs.Inner.Scans.{singleRoute}
-use Rattle.request.specs.Request.{modeOf}
+use Rattle.request.specs.Request.{Request, modeOf}
 use Rattle.request.specs.declared.Mode.{Mode}
 use Rattle.request.specs.declared.Mode.the-variants.{Intersection, Single}
 use Rattle.request.proofs.Requests.{Let}
-use Rattle.ranking.specs.Answers.{numberOf, countOf, finished, scorerOf, Answered, Finished, Listed}
+use Rattle.ranking.specs.Answers.{outcomeFor, Answered}
+use Rattle.ranking.specs.Inner.Runs.{finished, scorerOf, Finished, Limited, Listed}
 use Rattle.ranking.specs.declared.outcome.Outcome.{Outcome}
 
-pub number-of : (full : Bool) (count : ℕ) → numberOf (finished full count) ≡ cond full 12 0
-number-of true count = refl
-number-of false count = refl
-
-pub count-of : (full : Bool) (count : ℕ) → countOf (finished full count) ≡ count
-count-of true count = refl
-count-of false count = refl
+-- a run that was let through, as the table's outcome
+pub finished-for : (full : Bool) (count : ℕ) → finished full count ≡ outcomeFor (cond full 12 0) count
+finished-for true count = refl
+finished-for false count = refl
 
 -- every list that a query names has the laws that the route's end asks
 all-ok : (scoring : Scoring) (file : List ℕ) → fileRefusal file ≡ 0 → (query : List ℕ) → ((q : ℕ) → q < length query → getD query q 0 < listCount file) → All (ListOk 128 (documents file)) (queried scoring file query)
@@ -55,46 +52,43 @@ all-ok scoring file accepted [] named = tt
 all-ok scoring file accepted (l ∷ ls) named =
     (list-ok scoring file (partOf file l) (list-accepted file accepted l (named 0 (omega arith))) (few-documents file (header-right file accepted)), all-ok scoring file accepted ls (λ q h. named (suc q) (omega arith)))
 
-module _ (W : Route Float) (rule : Rule) (script : List Float) (documents₀ : List ℕ) (scores₀ : List Float) (still : Stays W) (list : List (Report Float)) (e : Ends (callbackOf rule script) W [] list) where
+module _ (W : Route Float) (rule : Rule) (script : List Float) (old : Rows) (still : Stays W) (list : List (Report Float)) (e : Ends (callbackOf rule script) W [] list) where
   -- whatever its rows, a run's outcome is its list's, cut to them
-  finished-answered : {r : Outcome} {documents : List ℕ} {scores : List Float} → Finished W rule script documents₀ scores₀ r documents scores → Answered (limited (rowsOf documents₀ scores₀) list) documents₀ scores₀ r documents scores
-  finished-answered {r} {documents} {scores} F =
+  finished-answered : {r : Outcome} {new : Rows} → Finished W rule script old r new → Limited list old r new
+  finished-answered {r} {new} F =
       let R = F .ran in
       let rs = runAfter W rule script (R .steps) .state in
-      let o : outcomeOf (F .full) rs ≡ limited (rowsOf documents₀ scores₀) list = ran-limited W rule script documents₀ scores₀ still R list e in
-      subst (λ (a : rules.Outcome Float). Answered a documents₀ scores₀ r documents scores) o
+      subst (λ (a : rules.Outcome Float). Answered a old r new) (ran-limited W rule script (old .documents) (old .scores) still R list e)
       (record {
-        number-is = ap numberOf (F .outcome-is) ∙ number-of (F .full) (F .count);
-        count-is = ap countOf (F .outcome-is) ∙ count-of (F .full) (F .count) ∙ R .count-is;
+        outcome-is = F .outcome-is ∙ finished-for (F .full) (F .count) ∙ ap (outcomeFor (cond (F .full) 12 0)) (R .count-is);
         written = R .written;
       })
 
 -- a run that was let through, over the route of its query
-pub finished-listed : (file query : List ℕ) (mode : Mode) (scoring : Scoring) (rule : Rule) (script : List Float) → fileRefusal file ≡ 0 → ((q : ℕ) → q < length query → getD query q 0 < listCount file)
-    → {documents₀ : List ℕ} {scores₀ : List Float} {r : Outcome} {documents′ : List ℕ} {scores′ : List Float}
-    → Finished (route 128 f32 (modeOf mode) (queried scoring file query)) rule script documents₀ scores₀ r documents′ scores′
-    → Listed file query mode scoring rule script documents₀ scores₀ r documents′ scores′
-finished-listed file query mode scoring rule script accepted named {documents₀} {scores₀} F =
-    let q = queried scoring file query in
-    let z = has-list 128 f32 (callbackOf rule script) [] (documents file) (modeOf mode) q (all-ok scoring file accepted query named) in
+finished-listed : (q : Request) → Let q → {old : Rows} {r : Outcome} {new : Rows}
+    → Finished (route 128 f32 (modeOf (q .mode)) (queried (q .scoring) (q .file) (q .query))) (q .rule) (q .script) old r new → Listed q old r new
+finished-listed q t {old} F =
+    let ls = queried (q .scoring) (q .file) (q .query) in
+    let ok = all-ok (q .scoring) (q .file) (t .accepted) (q .query) (t .named) in
+    let z = has-list 128 f32 (callbackOf (q .rule) (q .script)) [] (documents (q .file)) (modeOf (q .mode)) ls ok in
     record {
       list = z .0;
       by-route = z .1;
-      answered = finished-answered (route 128 f32 (modeOf mode) q) rule script documents₀ scores₀ (route-stays 128 f32 (modeOf mode) q) (z .0) (z .1) F;
+      answered = finished-answered (route 128 f32 (modeOf (q .mode)) ls) (q .rule) (q .script) old (route-stays 128 f32 (modeOf (q .mode)) ls) (z .0) (z .1) F;
     }
 
 -- the single scan over a list's part is the one over the list
 pub single-finished : (file : List ℕ) (l : ℕ) (scoring : Scoring) (rule : Rule) (script : List Float) {x : Part} → x ≡ partOf file l → (ord : ℕ)
-    → {documents₀ : List ℕ} {scores₀ : List Float} {full : Bool} {count : ℕ} {documents′ : List ℕ} {scores′ : List Float} {place : Rattle.route.specs.Single.SinglePlace}
-    → Ran (singleRoute scoring file x ord) rule script documents₀ scores₀ full count documents′ scores′ place
+    → {old new : Rows} {full : Bool} {count : ℕ} {place : Rattle.route.specs.Single.SinglePlace}
+    → Ran (singleRoute scoring file x ord) rule script (old .documents) (old .scores) full count (new .documents) (new .scores) place
     → {r : Outcome} → r ≡ finished full count
-    → Finished (blockWandSingleScorer 128 f32 (scorerOf scoring file l ord)) rule script documents₀ scores₀ r documents′ scores′
-single-finished file l scoring rule script {x} e ord {documents₀} {scores₀} {full} {count} {documents′} {scores′} {place} R f = record {
+    → Finished (blockWandSingleScorer 128 f32 (scorerOf scoring file l ord)) rule script old r new
+single-finished file l scoring rule script e ord {old} {new} {full} {count} {place} R f = record {
   full = full;
   count = count;
   place = place;
   outcome-is = f;
-  ran = subst (λ (z : Part). Ran (singleRoute scoring file z ord) rule script documents₀ scores₀ full count documents′ scores′ place) e R;
+  ran = subst (λ (z : Part). Ran (singleRoute scoring file z ord) rule script (old .documents) (old .scores) full count (new .documents) (new .scores) place) e R;
 }
 
 -- of a query of one number, the single scan is the route
@@ -105,13 +99,11 @@ single-route file scoring (l ∷ []) e = refl
 single-route file scoring (l ∷ m ∷ ls) e = absurd (omega (arith, e))
 
 -- by the mode that a request has: the run over its route is what it asks for
-pub listed-by : (file query : List ℕ) (mode : Mode) (scoring : Scoring) (rule : Rule) (script : List Float) → Let file query mode scoring rule script → {m : Mode} → mode ≡ m
-    → {documents₀ : List ℕ} {scores₀ : List Float} {r : Outcome} {documents′ : List ℕ} {scores′ : List Float}
-    → Finished (route 128 f32 (modeOf m) (queried scoring file query)) rule script documents₀ scores₀ r documents′ scores′
-    → Listed file query mode scoring rule script documents₀ scores₀ r documents′ scores′
-listed-by file query mode scoring rule script t e {documents₀} {scores₀} {r} {documents′} {scores′} F =
-    finished-listed file query mode scoring rule script (t .accepted) (t .named)
-    (subst (λ (z : Mode). Finished (route 128 f32 (modeOf z) (queried scoring file query)) rule script documents₀ scores₀ r documents′ scores′) (sym e) F)
+pub listed-by : (q : Request) → Let q → {m : Mode} → q .mode ≡ m → {old : Rows} {r : Outcome} {new : Rows}
+    → Finished (route 128 f32 (modeOf m) (queried (q .scoring) (q .file) (q .query))) (q .rule) (q .script) old r new → Listed q old r new
+listed-by q t e {old} {r} {new} F =
+    finished-listed q t
+    (subst (λ (z : Mode). Finished (route 128 f32 (modeOf z) (queried (q .scoring) (q .file) (q .query))) (q .rule) (q .script) old r new) (sym e) F)
 
 -- how many numbers a query has, by its mode
 pub two-numbers : {mode : Mode} {n : ℕ} → mode ≡ Intersection → Takes (modeOf mode) n → 2 ≤ n

@@ -18,6 +18,7 @@ use Rattle.rule.specs.declared.Rule.{Rule}
 use Rattle.notefile.specs.Header.{normReader}
 use Rattle.notefile.specs.Parts.{partOf}
 use Rattle.notefile.specs.declared.part.Part.{Part}
+use Rattle.reports.specs.Rows.{Rows}
 use Rattle.reports.specs.Inner.Runs.{Rests}
 use Rattle.decoded.specs.Lists.{listOf, postingsOf, queried}
 use Rattle.term_scorer.specs.Inner.Slots.{Sixteen, listAt, partAt}
@@ -25,7 +26,7 @@ use Rattle.query.specs.Inner.Fresh.{Arrays, QueryOpened}
 use Rattle.intersection_window.specs.Inner.Sizes.{slotsFrom}
 use Rattle.block_wand_intersection.specs.Inner.Queries.{Fresh, listsOf}
 use Rattle.block_wand_intersection.specs.declared.run.Ended.{Ended}
-use Rattle.ranking.specs.Answers.{finished, Finished}
+use Rattle.ranking.specs.Inner.Runs.{finished, Finished}
 use Rattle.ranking.specs.declared.outcome.Outcome.{Outcome}
 use Rattle.ranking.proofs.Unions.{same-route}
 
@@ -60,7 +61,8 @@ module _ (scoring : Scoring) (file query : List ℕ) (a : Arrays) (scorers : Lis
     first = λ q h. Q .fresh-slots q h .cursor-is;
   }
 
-  pub intersected : (rule : Rule) (script : List Float) {documents₀ : List ℕ} {scores₀ : List Float} (r : Ended) {cursor : ℕ → Cursor} {documents : List ℕ} {scores : List Float}
-      → Rests (route 128 f32 intersection (listsOf scoring file (a .lists) (length query))) rule script documents₀ scores₀ cursor (r .full) (r .count) documents scores → {o : Outcome} → o ≡ finished (r .full) (r .count)
-      → Finished (route 128 f32 intersection (queried scoring file query)) rule script documents₀ scores₀ o documents scores
-  intersected rule script r A e = same-route (ap (route 128 f32 intersection) lists-are) (record { full = r .full; count = r .count; place = A .place; outcome-is = e; ran = A .ran })
+  pub intersected : (rule : Rule) (script : List Float) {old new : Rows} (r : Ended) {cursor : ℕ → Cursor}
+      → Rests (route 128 f32 intersection (listsOf scoring file (a .lists) (length query))) rule script (old .documents) (old .scores) cursor (r .full) (r .count) (new .documents) (new .scores)
+      → {o : Outcome} → o ≡ finished (r .full) (r .count) → Finished (route 128 f32 intersection (queried scoring file query)) rule script old o new
+  intersected rule script r A e =
+      same-route (ap (route 128 f32 intersection) lists-are) (record { full = r .full; count = r .count; place = A .place; outcome-is = e; ran = A .ran })

@@ -26,6 +26,7 @@ use Rattle.ordering.proofs.OnRoute.{SameDoc, retained-on-route}
 use Rattle.rule.specs.declared.Rule.{Rule}
 use Rattle.notefile.specs.Parts.{partOf}
 use Rattle.notefile.specs.declared.part.Part.{Part}
+use Rattle.reports.specs.Rows.{Rows}
 use Rattle.decoded.specs.Lists.{listOf, queried}
 use Rattle.postings.specs.Inner.Decoded.{docIn, doc-is}
 use Rattle.term_scorer.specs.Inner.Slots.{Sixteen, cursorAt, partAt}
@@ -33,7 +34,7 @@ use Rattle.query.specs.Inner.Fresh.{Arrays, QueryOpened}
 use Rattle.query.proofs.Opening.{opened-scorers}
 use Rattle.block_wand_union.specs.Inner.Seats.{Seat, Seated, Topped, scorerAt, terms}
 use Rattle.block_wand_union.specs.Inner.Fresh.{Fresh}
-use Rattle.ranking.specs.Answers.{scorerOf, Finished}
+use Rattle.ranking.specs.Inner.Runs.{scorerOf, Finished}
 use Rattle.ranking.specs.declared.outcome.Outcome.{Outcome}
 
 -- what holds of each of the first n
@@ -169,6 +170,5 @@ module _ (scoring : Scoring) (file query : List ℕ) (few : length query ≤ 16)
         ap (blockWandSingleScorer 128 f32) (sym (only-opened e .scorer-is)) ∙ ap (blockWand 128 f32) (ap (map f) (sym (one-left e)) ∙ left-are)
 
 -- a run of a route is one of the same route by another name
-pub same-route : {Y W : Route Float} → Y ≡ W → {rule : Rule} {script : List Float} {documents₀ : List ℕ} {scores₀ : List Float} {r : Outcome} {documents : List ℕ} {scores : List Float}
-    → Finished Y rule script documents₀ scores₀ r documents scores → Finished W rule script documents₀ scores₀ r documents scores
-same-route e {rule} {script} {documents₀} {scores₀} {r} {documents} {scores} F = subst (λ (Z : Route Float). Finished Z rule script documents₀ scores₀ r documents scores) e F
+pub same-route : {Y W : Route Float} → Y ≡ W → {rule : Rule} {script : List Float} {old new : Rows} {r : Outcome} → Finished Y rule script old r new → Finished W rule script old r new
+same-route e {rule} {script} {old} {new} {r} F = subst (λ (Z : Route Float). Finished Z rule script old r new) e F

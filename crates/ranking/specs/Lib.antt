@@ -1,3 +1,4 @@
 -- What the public contracts cite: a run's answer, and demand 3 over the rows of two runs.
 pub mod Answers
-pub mod Rows
+pub mod Demand
+pub mod Inner

@@ -7,9 +7,10 @@ use request::Mode;
 use rule::Rule;
 ghost use mathlib.Core.Path.{_≡_};
 ghost use Rattle.arrays.specs.Lent.{before, after};
-ghost use Rattle.bm25.specs.declared.Scoring.the-variants.{Stepped};
+ghost use Rattle.reports.specs.Rows.{rows};
+ghost use Rattle.request.specs.Request.{asked};
 ghost use Rattle.ranking.specs.Answers.{PlainIs, RunIs};
-ghost use Rattle.ranking.specs.Rows.{from, Demand3};
+ghost use Rattle.ranking.specs.Demand.{startAt, from, resultOf, Demand3};
 
 // What each run returned.
 pub struct Pair {
@@ -19,7 +20,7 @@ pub struct Pair {
 
 // The same rule from another start.
 fn restart(rule: Rule, start: f32) -> Rule
-    ensures { λ r. ⌜ r ≡ from rule start ⌝ }
+    ensures { λ r. ⌜ r ≡ startAt rule start ⌝ }
 {
     match rule {
         Rule::Script(_) => Rule::Script(start),
@@ -41,7 +42,14 @@ pub fn both(
     plain_documents: &mut [u32],
     plain_scores: &mut [f32],
 ) -> Pair
-    ensures { λ r. ⌜ RunIs (before file) (before query) mode scoring rule (before script) (before documents) (before scores) (r .skipping) (after documents) (after scores) × PlainIs (before file) (before query) mode scoring (from rule «plain_start») (before script) (before «plain_documents») (before «plain_scores») (r .plain) (after «plain_documents») (after «plain_scores») × (scoring ≡ Stepped → Demand3 (before file) (before query) mode rule (before script) «plain_start» (r .skipping) (after documents) (after scores) (r .plain) (after «plain_documents») (after «plain_scores»)) ⌝ }
+    ensures { λ r.
+        let q = asked (before file) (before query) mode scoring rule (before script) in
+        let p = from q «plain_start» in
+        let new = rows (after documents) (after scores) in
+        let new′ = rows (after «plain_documents») (after «plain_scores») in
+        ⌜ RunIs q (rows (before documents) (before scores)) (r .skipping) new
+        × PlainIs p (rows (before «plain_documents») (before «plain_scores»)) (r .plain) new′
+        × Demand3 q p (resultOf (r .skipping) new) (resultOf (r .plain) new′) ⌝ }
 {
     let skipping = run(file, query, mode, scoring, rule, script, documents, scores);
     let other = restart(rule, plain_start);

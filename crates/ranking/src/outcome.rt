@@ -1,6 +1,6 @@
 // What a run returns.
 ghost use mathlib.Core.Path.{_≡_};
-ghost use Rattle.ranking.specs.Answers.{finished};
+ghost use Rattle.ranking.specs.Inner.Runs.{finished};
 
 // The list is whole, with its length; or a report was due and the rows were full, with their number; or the table's number from 1 to 11.
 pub enum Outcome {

@@ -11,8 +11,10 @@ use request::refusal;
 use rule::Rule;
 ghost use mathlib.Core.Path.{_≡_};
 ghost use Rattle.arrays.specs.Lent.{before, after};
-ghost use Rattle.request.specs.Request.{refusalOf};
-ghost use Rattle.ranking.specs.Answers.{needsAllOf, PlainIs, PlainListed};
+ghost use Rattle.reports.specs.Rows.{rows};
+ghost use Rattle.request.specs.Request.{asked, refusalOf};
+ghost use Rattle.ranking.specs.Answers.{PlainIs};
+ghost use Rattle.ranking.specs.Inner.Runs.{needsAllOf, PlainListed};
 
 // Whether a document must be in every list.
 fn needs_all(mode: Mode) -> bool
@@ -36,8 +38,10 @@ fn plain_accepted(
     documents: &mut [u32],
     scores: &mut [f32],
 ) -> Outcome
-    requires { ⌜ refusalOf (now file) (now query) mode scoring rule (now script) ≡ 0 ⌝ }
-    ensures { λ r. ⌜ PlainListed (before file) (before query) mode scoring rule (before script) (before documents) (before scores) r (after documents) (after scores) ⌝ }
+    requires { ⌜ refusalOf (asked (now file) (now query) mode scoring rule (now script)) ≡ 0 ⌝ }
+    ensures { λ r.
+        let q = asked (before file) (before query) mode scoring rule (before script) in
+        ⌜ PlainListed q (rows (before documents) (before scores)) r (rows (after documents) (after scores)) ⌝ }
 {
     let h = read_header(file);
     let norms = norm_reader(file, h);
@@ -94,7 +98,9 @@ pub fn plain(
     documents: &mut [u32],
     scores: &mut [f32],
 ) -> Outcome
-    ensures { λ r. ⌜ PlainIs (before file) (before query) mode scoring rule (before script) (before documents) (before scores) r (after documents) (after scores) ⌝ }
+    ensures { λ r.
+        let q = asked (before file) (before query) mode scoring rule (before script) in
+        ⌜ PlainIs q (rows (before documents) (before scores)) r (rows (after documents) (after scores)) ⌝ }
 {
     let number = refusal(file, query, mode, scoring, rule, script);
     if number != 0 {

@@ -27,10 +27,11 @@ ghost use Rattle.rule.specs.Inner.Follows.{Keeps};
 ghost use Rattle.notefile.specs.Header.{listCount};
 ghost use Rattle.notefile.specs.Refusal.{fileRefusal};
 ghost use Rattle.notefile.specs.Inner.Structs.{headerOf};
+ghost use Rattle.reports.specs.Rows.{rows};
 ghost use Rattle.decoded.specs.Lists.{queried};
-ghost use Rattle.query.specs.Inner.Fresh.{Named};
-ghost use Rattle.request.specs.Request.{refusalOf};
-ghost use Rattle.ranking.specs.Answers.{scorerOf, Finished, Listed, RunIs};
+ghost use Rattle.request.specs.Request.{asked, refusalOf};
+ghost use Rattle.ranking.specs.Answers.{RunIs};
+ghost use Rattle.ranking.specs.Inner.Runs.{scorerOf, Finished, Lets, Listed};
 
 // The single scan over list l.
 fn run_single(
@@ -44,7 +45,11 @@ fn run_single(
     scores: &mut [f32],
 ) -> Outcome
     requires { ⌜ (fileRefusal (now file) ≡ 0) × (h ≡ headerOf (now file)) × (l < listCount (now file)) × Keeps rule ⌝ }
-    ensures { λ r. ⌜ ((ord : ℕ) → Finished (blockWandSingleScorer 128 f32 (scorerOf scoring (before file) l ord)) rule (before script) (before documents) (before scores) r (after documents) (after scores)) ⌝ }
+    ensures { λ r.
+        let scorer = scorerOf scoring (before file) l in
+        let old = rows (before documents) (before scores) in
+        let new = rows (after documents) (after scores) in
+        ⌜ ((ord : ℕ) → Finished (blockWandSingleScorer 128 f32 (scorer ord)) rule (before script) old r new) ⌝ }
 {
     let norms = norm_reader(file, h);
     let x = read_part(file, h, l);
@@ -64,8 +69,10 @@ fn run_union(
     documents: &mut [u32],
     scores: &mut [f32],
 ) -> Outcome
-    requires { ⌜ (fileRefusal (now file) ≡ 0) × (h ≡ headerOf (now file)) × (length (now query) ≤ 16) × Named (now file) (now query) × Keeps rule ⌝ }
-    ensures { λ r. ⌜ Finished (route 128 f32 union (queried scoring (before file) (before query))) rule (before script) (before documents) (before scores) r (after documents) (after scores) ⌝ }
+    requires { ⌜ Lets (now file) h (now query) rule ⌝ }
+    ensures { λ r.
+        let path = route 128 f32 union (queried scoring (before file) (before query)) in
+        ⌜ Finished path rule (before script) (rows (before documents) (before scores)) r (rows (after documents) (after scores)) ⌝ }
 {
     let norms = norm_reader(file, h);
     let mut lists = [[0usize; 8]; 16];
@@ -130,8 +137,10 @@ fn run_intersection(
     documents: &mut [u32],
     scores: &mut [f32],
 ) -> Outcome
-    requires { ⌜ (fileRefusal (now file) ≡ 0) × (h ≡ headerOf (now file)) × (length (now query) ≤ 16) × (2 ≤ length (now query)) × Named (now file) (now query) × Keeps rule ⌝ }
-    ensures { λ r. ⌜ Finished (route 128 f32 intersection (queried scoring (before file) (before query))) rule (before script) (before documents) (before scores) r (after documents) (after scores) ⌝ }
+    requires { ⌜ Lets (now file) h (now query) rule × (2 ≤ length (now query)) ⌝ }
+    ensures { λ r.
+        let path = route 128 f32 intersection (queried scoring (before file) (before query)) in
+        ⌜ Finished path rule (before script) (rows (before documents) (before scores)) r (rows (after documents) (after scores)) ⌝ }
 {
     let norms = norm_reader(file, h);
     let mut lists = [[0usize; 8]; 16];
@@ -187,8 +196,10 @@ fn run_accepted(
     documents: &mut [u32],
     scores: &mut [f32],
 ) -> Outcome
-    requires { ⌜ refusalOf (now file) (now query) mode scoring rule (now script) ≡ 0 ⌝ }
-    ensures { λ r. ⌜ Listed (before file) (before query) mode scoring rule (before script) (before documents) (before scores) r (after documents) (after scores) ⌝ }
+    requires { ⌜ refusalOf (asked (now file) (now query) mode scoring rule (now script)) ≡ 0 ⌝ }
+    ensures { λ r.
+        let q = asked (before file) (before query) mode scoring rule (before script) in
+        ⌜ Listed q (rows (before documents) (before scores)) r (rows (after documents) (after scores)) ⌝ }
 {
     let h = read_header(file);
     match mode {
@@ -214,7 +225,9 @@ pub fn run(
     documents: &mut [u32],
     scores: &mut [f32],
 ) -> Outcome
-    ensures { λ r. ⌜ RunIs (before file) (before query) mode scoring rule (before script) (before documents) (before scores) r (after documents) (after scores) ⌝ }
+    ensures { λ r.
+        let q = asked (before file) (before query) mode scoring rule (before script) in
+        ⌜ RunIs q (rows (before documents) (before scores)) r (rows (after documents) (after scores)) ⌝ }
 {
     let number = refusal(file, query, mode, scoring, rule, script);
     if number != 0 {

@@ -1,4 +1,4 @@
--- Rows: where reports are written, and what is kept beside them.
+-- Rows: where reports are written.
 use mathlib.Core.Path.{_≡_}
 use mathlib.Core.List.{List, _++_, map}
 use Prim.Native.Nat.{ℕ, min, _≤_}
@@ -7,7 +7,15 @@ use lib.Ieee.{Float}
 use Rattle.route.specs.Report.{Report}
 use Rattle.route.specs.Rule.{scores}
 
--- two lent buffers are as many rows as the shorter has
+-- 01, on a run: two row buffers, documents and scores
+pub record Rows : Type 0 where
+  pub documents : List ℕ
+  pub scores : List Float
+
+abbrev pub rows : List ℕ → List Float → Rows
+rows documents scores = record { documents = documents; scores = scores }
+
+-- they are as many rows as the shorter has
 abbrev pub rowsOf : List ℕ → List Float → ℕ
 rowsOf documents scores = min (length documents) (length scores)
 

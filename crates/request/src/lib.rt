@@ -8,7 +8,8 @@ use rule::rule_right;
 ghost use mathlib.Core.Path.{_≡_};
 ghost use lib.ListN.{length};
 ghost use Rattle.arrays.specs.Lent.{before};
-ghost use Rattle.request.specs.Request.{numbersRight, countRight, queryRight, refusalOf};
+ghost use Rattle.notefile.specs.Refusal.{firstRefusal};
+ghost use Rattle.request.specs.Request.{asked, numbersRight, countRight, queryRight, queryTests, refusalOf};
 
 // Which documents match: those of any list of the query, of all its lists, or of its one list.
 pub enum Mode {
@@ -47,7 +48,7 @@ fn count_right(mode: Mode, n: usize) -> bool
     }
 }
 
-// Whether condition 10 is not met.
+// Whether row 10 lets the query through.
 fn query_right(lists: usize, mode: Mode, query: &[u32]) -> bool
     ensures { λ r. ⌜ r ≡ queryRight lists mode (before query) ⌝ }
 {
@@ -57,7 +58,23 @@ fn query_right(lists: usize, mode: Mode, query: &[u32]) -> bool
     false
 }
 
-// The number of the first of conditions 1 to 11 that is met, or 0.
+// The number of the first of rows 1 to 10 that refuses, or 0.
+pub fn query_refusal(file: &[u8], query: &[u32], mode: Mode) -> u32
+    ensures { λ r. ⌜ r ≡ firstRefusal (queryTests (before file) (before query) mode) ⌝ }
+{
+    match check(file) {
+        Checked::Refused(n) => n,
+        Checked::Accepted => {
+            let h = read_header(file);
+            if query_right(h.lists, mode, query) {
+                return 0;
+            }
+            10
+        }
+    }
+}
+
+// The number of the first of rows 1 to 11 that refuses, or 0.
 pub fn refusal(
     file: &[u8],
     query: &[u32],
@@ -66,19 +83,14 @@ pub fn refusal(
     rule: Rule,
     script: &[f32],
 ) -> u32
-    ensures { λ r. ⌜ r ≡ refusalOf (before file) (before query) mode scoring rule (before script) ⌝ }
+    ensures { λ r. ⌜ r ≡ refusalOf (asked (before file) (before query) mode scoring rule (before script)) ⌝ }
 {
-    match check(file) {
-        Checked::Refused(n) => n,
-        Checked::Accepted => {
-            let h = read_header(file);
-            if query_right(h.lists, mode, query) {
-                if rule_right(rule, scoring, script) {
-                    return 0;
-                }
-                return 11;
-            }
-            10
-        }
+    let number = query_refusal(file, query, mode);
+    if number != 0 {
+        return number;
     }
+    if rule_right(rule, scoring, script) {
+        return 0;
+    }
+    11
 }

@@ -10,7 +10,7 @@ use Rattle.arrays.specs.Every.{every}
 use Rattle.notefile.specs.Header.{normCodeOf}
 use Rattle.notefile.specs.Lists.{fullBlocks, tailSize, blockSize, docValue, freqValue, blockDoc, blockFreq, scoreFor}
 use Rattle.notefile.specs.Conditions.{postingsRight, blockDocsRight, blockFreqsRight, boundsRight}
-use Rattle.notefile.specs.Refusal.{firstOf}
+use Rattle.notefile.specs.Inner.Order.{firstOf}
 use Rattle.notefile.specs.declared.part.Part.{Part}
 
 -- whether a bound lies below none of n scores

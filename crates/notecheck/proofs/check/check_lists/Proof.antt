@@ -3,7 +3,7 @@ use mathlib.Core.Path.{_≡_, refl, sym, ap, _∙_}
 use Prim.Native.Nat.{_-_, _≤_}
 use native.Mathlib.Omega.{arith}
 use borrow.Author.Needs.{needs}
-use Rattle.notefile.specs.Refusal.{listRefusal, listsRefusal}
+use Rattle.notefile.specs.Inner.Order.{listRefusal, listsRefusal}
 use Rattle.notefile.proofs.Entries.{parted, limits}
 use Rattle.notecheck.proofs.FileOrder.{list-refused, list-clear, documents-is}
 use Rattle.notecheck.proofs.check.check_lists.Statement.{statement}

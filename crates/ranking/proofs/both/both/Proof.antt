@@ -1,6 +1,7 @@
 -- `both::both` meets its contract: each run has its own, and demand 3 follows from the two.
 use borrow.Author.Needs.{needs}
-use Rattle.ranking.proofs.Demand.{demand-3-by}
+use Rattle.request.specs.Request.{asked}
+use Rattle.ranking.proofs.Demand.{both-hold}
 use Rattle.ranking.proofs.both.both.Statement.{statement}
 use Rattle.ranking.proofs.both.both.Tie as tie
 
@@ -32,7 +33,8 @@ returns c =
     let r = s .before .before .before .before .before in
     let b = r .before .before .before .before .before .before .before .before .before in
     let a = b .before in
-    demand-3-by (a .args .file .now) (a .args .query .now) (λ k. b .shared-slice-known .given k .fits) (a .args .mode) (a .args .scoring) (a .args .rule) (a .args .script .now) (a .args .«plain-start») (r .run .ensures) (s .restart .ensures) (p .plain .ensures)
+    both-hold (asked (a .args .file .now) (a .args .query .now) (a .args .mode) (a .args .scoring) (a .args .rule) (a .args .script .now)) (λ k. b .shared-slice-known .given k .fits)
+    (a .args .«plain-start») (s .restart .ensures) (r .run .ensures) (p .plain .ensures)
 
 pub both-spec : {M : Type 1} → statement M
 both-spec =

@@ -1,12 +1,15 @@
 -- `plain::plain` meets its contract: refused with the first refusal's number, or the scan of a request that is not.
 use mathlib.Core.Path.{sym, _∙_}
 use borrow.Author.Needs.{needs}
-use Rattle.reports.specs.Rows.{rowsOf}
-use Rattle.request.specs.Request.{refusalOf}
-use Rattle.ranking.specs.Answers.{plainList}
-use Rattle.ranking.proofs.Answering.{refused, let-answered}
+use Rattle.reports.specs.Rows.{rows}
+use Rattle.request.specs.Request.{Request, asked}
+use Rattle.ranking.proofs.Answering.{refused-plain, let-plain}
 use Rattle.ranking.proofs.plain.plain.Statement.{statement}
 use Rattle.ranking.proofs.plain.plain.Tie as tie
+
+-- what was asked
+abbrev request : tie.Start → Request
+request a = asked (a .args .file .now) (a .args .query .now) (a .args .mode) (a .args .scoring) (a .args .rule) (a .args .script .now)
 
 refusal-requires : tie.Need-refusal-requires
 refusal-requires c κs = search needs
@@ -15,9 +18,7 @@ returns : tie.Need-returns
 returns c =
     let r = c .before in
     let a = r .before .before .before .before .before .before in
-    refused (a .args .documents .now) (a .args .scores .now) (rowsOf (a .args .documents .now) (a .args .scores .now))
-    (plainList (a .args .file .now) (a .args .query .now) (a .args .mode) (a .args .scoring) (a .args .rule) (a .args .script .now))
-    (refusalOf (a .args .file .now) (a .args .query .now) (a .args .mode) (a .args .scoring) (a .args .rule) (a .args .script .now)) (r .refusal .ensures) (c .if1 .taken)
+    refused-plain (request a) (rows (a .args .documents .now) (a .args .scores .now)) (r .refusal .ensures) (c .if1 .taken)
 
 plain-accepted-requires : tie.Need-plain-accepted-requires
 plain-accepted-requires c κs = let e = c .before .before in sym (e .before .refusal .ensures) ∙ e .if1 .left
@@ -34,8 +35,7 @@ returns-2 c =
     let e = p .before .before .before in
     let r = e .before in
     let a = r .before .before .before .before .before .before in
-    let-answered (refusalOf (a .args .file .now) (a .args .query .now) (a .args .mode) (a .args .scoring) (a .args .rule) (a .args .script .now)) (rowsOf (a .args .documents .now) (a .args .scores .now))
-    (plainList (a .args .file .now) (a .args .query .now) (a .args .mode) (a .args .scoring) (a .args .rule) (a .args .script .now)) (sym (r .refusal .ensures) ∙ e .if1 .left) (p .plain-accepted .ensures)
+    let-plain (request a) (sym (r .refusal .ensures) ∙ e .if1 .left) (p .plain-accepted .ensures)
 
 pub plain-spec : {M : Type 1} → statement M
 plain-spec =

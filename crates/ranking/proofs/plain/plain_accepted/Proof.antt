@@ -3,15 +3,19 @@ use mathlib.Core.Path.{refl, sym}
 use native.Mathlib.Omega.{arith}
 use borrow.Author.Needs.{needs}
 use Rattle.rule.proofs.RightRules.{keeps}
-use Rattle.request.specs.Request.{modeOf}
+use Rattle.request.specs.Request.{Request, asked, modeOf}
 use Rattle.request.proofs.Requests.{Let, let-through}
 use Rattle.ranking.specs.Answers.{plainList}
 use Rattle.ranking.proofs.Answering.{header-of, ready, plain-answered}
 use Rattle.ranking.proofs.plain.plain_accepted.Statement.{statement}
 use Rattle.ranking.proofs.plain.plain_accepted.Tie as tie
 
-through : (a : tie.Start) → Let (a .args .file .now) (a .args .query .now) (a .args .mode) (a .args .scoring) (a .args .rule) (a .args .script .now)
-through a = let-through (a .args .file .now) (a .args .query .now) (a .args .mode) (a .args .scoring) (a .args .rule) (a .args .script .now) (a .pre)
+-- what was asked
+abbrev request : tie.Start → Request
+request a = asked (a .args .file .now) (a .args .query .now) (a .args .mode) (a .args .scoring) (a .args .rule) (a .args .script .now)
+
+through : (a : tie.Start) → Let (request a)
+through a = let-through (request a) (a .pre)
 
 read-header-requires : tie.Need-read-header-requires
 read-header-requires c κs = let a = c .before .before .before .before .before in omega (arith, header-of (a .args .file .now) (through a .accepted) refl .entries)
@@ -57,7 +61,7 @@ returns c =
     let o = p .before .before .before .before .before .before .before .before .before in
     let m = o .before .before .before .before .before .before .before .before in
     let a = m .before .before .before .before .before .before .before .before in
-    plain-answered (plainList (a .args .file .now) (a .args .query .now) (a .args .mode) (a .args .scoring) (a .args .rule) (a .args .script .now)) (p .plain-scan .result)
+    plain-answered (plainList (request a)) (p .plain-scan .result)
     (p .plain-scan .ensures (modeOf (a .args .mode)) (sym (m .needs-all .ensures))) (c .finish .ensures)
 
 pub plain-accepted-spec : {M : Type 1} → statement M

@@ -1,9 +1,15 @@
 -- `skipping::run` meets its contract: refused with the first refusal's number, or the route's run of a request that is not.
 use mathlib.Core.Path.{sym, _∙_}
 use borrow.Author.Needs.{needs}
+use Rattle.reports.specs.Rows.{rows}
+use Rattle.request.specs.Request.{Request, asked}
 use Rattle.ranking.proofs.Answering.{refused-run, let-run}
 use Rattle.ranking.proofs.skipping.run.Statement.{statement}
 use Rattle.ranking.proofs.skipping.run.Tie as tie
+
+-- what was asked
+abbrev request : tie.Start → Request
+request a = asked (a .args .file .now) (a .args .query .now) (a .args .mode) (a .args .scoring) (a .args .rule) (a .args .script .now)
 
 refusal-requires : tie.Need-refusal-requires
 refusal-requires c κs = search needs
@@ -12,7 +18,7 @@ returns : tie.Need-returns
 returns c =
     let r = c .before in
     let a = r .before .before .before .before .before .before in
-    refused-run (a .args .file .now) (a .args .query .now) (a .args .mode) (a .args .scoring) (a .args .rule) (a .args .script .now) (a .args .documents .now) (a .args .scores .now) (r .refusal .ensures) (c .if1 .taken)
+    refused-run (request a) (rows (a .args .documents .now) (a .args .scores .now)) (r .refusal .ensures) (c .if1 .taken)
 
 run-accepted-requires : tie.Need-run-accepted-requires
 run-accepted-requires c κs = let e = c .before .before in sym (e .before .refusal .ensures) ∙ e .if1 .left
@@ -29,7 +35,7 @@ returns-2 c =
     let e = p .before .before .before in
     let r = e .before in
     let a = r .before .before .before .before .before .before in
-    let-run (a .args .file .now) (a .args .query .now) (a .args .mode) (a .args .scoring) (a .args .rule) (a .args .script .now) (sym (r .refusal .ensures) ∙ e .if1 .left) (p .run-accepted .ensures)
+    let-run (request a) (sym (r .refusal .ensures) ∙ e .if1 .left) (p .run-accepted .ensures)
 
 pub run-spec : {M : Type 1} → statement M
 run-spec = tie.close (tie.spec refusal-requires returns run-accepted-requires same-length same-length-2 returns-2)

@@ -6,15 +6,15 @@ use Rattle.ranking.proofs.skipping.run_intersection.Statement.{statemen
 use Rattle.ranking.proofs.skipping.run_intersection.Tie as tie
 
 norm-reader-requires : tie.Need-norm-reader-requires
-norm-reader-requires c κs = let a = c .before .before .before .before .before in header-of (a .args .file .now) (a .pre .0) (a .pre .1)
+norm-reader-requires c κs = let a = c .before .before .before .before .before in header-of (a .args .file .now) (a .pre .0 .accepted) (a .pre .0 .header-is)
 
 open-lists-requires : tie.Need-open-lists-requires
 open-lists-requires c κs =
     let a = c .before .before .before .before .before .before .before .before .before .before .before .before .before in (
-      a .pre .0,
-      a .pre .1,
-      a .pre .2,
-      a .pre .4,
+      a .pre .0 .accepted,
+      a .pre .0 .header-is,
+      a .pre .0 .few,
+      a .pre .0 .named,
       record { lists = search needs; places = search needs; docs = search needs; freqs = search needs; weights = search needs; caches = search needs; max-scores = search needs },
     )
 
@@ -23,7 +23,7 @@ block-wand-intersection-requires c κs =
     let o = c .before .before .before .before .before .before .before .before .before .before in
     let n = o .before .before .before .before .before .before .before .before in
     let a = n .before .before .before .before .before .before in
-    (fresh-for (a .args .scoring) (a .args .file .now) (a .args .query .now) _ _ (o .open-lists .ensures) (a .pre .3) (a .pre .2) (n .norm-reader .ensures) _ (search needs), a .pre .5)
+    (fresh-for (a .args .scoring) (a .args .file .now) (a .args .query .now) _ _ (o .open-lists .ensures) (a .pre .1) (a .pre .0 .few) (n .norm-reader .ensures) _ (search needs), a .pre .0 .keeps)
 
 finish-requires : tie.Need-finish-requires
 finish-requires c κs = search needs

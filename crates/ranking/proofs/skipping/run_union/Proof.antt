@@ -10,20 +10,20 @@ use Rattle.ranking.proofs.skipping.run_union.Statement.{statement}
 use Rattle.ranking.proofs.skipping.run_union.Tie as tie
 
 norm-reader-requires : tie.Need-norm-reader-requires
-norm-reader-requires c κs = let a = c .before .before .before .before .before in header-of (a .args .file .now) (a .pre .0) (a .pre .1)
+norm-reader-requires c κs = let a = c .before .before .before .before .before in header-of (a .args .file .now) (a .pre .accepted) (a .pre .header-is)
 
 open-lists-requires : tie.Need-open-lists-requires
 open-lists-requires c κs =
     let a = c .before .before .before .before .before .before .before .before .before .before .before .before .before in (
-      a .pre .0,
-      a .pre .1,
-      a .pre .2,
-      a .pre .3,
+      a .pre .accepted,
+      a .pre .header-is,
+      a .pre .few,
+      a .pre .named,
       record { lists = search needs; places = search needs; docs = search needs; freqs = search needs; weights = search needs; caches = search needs; max-scores = search needs },
     )
 
 retain-requires : tie.Need-retain-requires
-retain-requires c κs = let a = c .before .before .before .before .before .before .before .before .before .before .before .before .before .before in a .pre .2
+retain-requires c κs = let a = c .before .before .before .before .before .before .before .before .before .before .before .before .before .before in a .pre .few
 
 array-copy-out-only : tie.Need-array-copy-out-only
 array-copy-out-only c = search needs
@@ -37,10 +37,10 @@ slot-inside c =
     let r = c .before .before .before .before in
     let o = r .before in
     let a = o .before .before .before .before .before .before .before .before .before .before .before .before .before .before in
-    only-inside (a .args .scoring) (a .args .file .now) (a .args .query .now) (a .pre .2) _ _ (o .open-lists .ensures) (r .retain .result) (r .retain .ensures) (c .before .if1 .taken)
+    only-inside (a .args .scoring) (a .args .file .now) (a .args .query .now) (a .pre .few) _ _ (o .open-lists .ensures) (r .retain .result) (r .retain .ensures) (c .before .if1 .taken)
 
 mul-l : tie.Need-mul-l
-mul-l c = omega (arith, slot-inside (c .before), c .before .before .before .before .before .before .before .before .before .before .before .before .before .before .before .before .before .before .before .before .pre .2)
+mul-l c = omega (arith, slot-inside (c .before), c .before .before .before .before .before .before .before .before .before .before .before .before .before .before .before .before .before .before .before .before .pre .few)
 
 shared-slice-read-l : tie.Need-shared-slice-read-l
 shared-slice-read-l c = slot-inside (c .before .before)
@@ -52,7 +52,7 @@ run-single-requires : tie.Need-run-single-requires
 run-single-requires c κs =
     let k = c .before .before .before .before in
     let a = k .before .before .before .before .before .before .before .before .before .before .before .before .before .before .before .before .before .before .before in
-    (a .pre .0, a .pre .1, a .pre .3 _ (slot-inside k), a .pre .4)
+    (a .pre .accepted, a .pre .header-is, a .pre .named _ (slot-inside k), a .pre .keeps)
 
 same-length : tie.Need-same-length
 same-length c = search needs
@@ -67,7 +67,7 @@ returns c =
     let r = k .before .before .before .before in
     let o = r .before in
     let a = o .before .before .before .before .before .before .before .before .before .before .before .before .before .before in
-    same-route (by-single (a .args .scoring) (a .args .file .now) (a .args .query .now) (a .pre .2) _ _ (o .open-lists .ensures) (r .retain .result) (r .retain .ensures) (k .before .if1 .taken)) (s .run-single .ensures _)
+    same-route (by-single (a .args .scoring) (a .args .file .now) (a .args .query .now) (a .pre .few) _ _ (o .open-lists .ensures) (r .retain .result) (r .retain .ensures) (k .before .if1 .taken)) (s .run-single .ensures _)
 
 block-wand-requires : tie.Need-block-wand-requires
 block-wand-requires c κs =
@@ -75,11 +75,11 @@ block-wand-requires c κs =
     let r = e .before .before .before in
     let o = r .before in
     let a = o .before .before .before .before .before .before .before .before .before .before .before .before .before .before in (
-      omega (arith, r .retain .ensures .few, a .pre .2),
+      omega (arith, r .retain .ensures .few, a .pre .few),
       o .before .before .before .before .before .before .before .before .norm-reader .ensures,
-      a .pre .4,
-      left-seated (a .args .scoring) (a .args .file .now) (a .args .query .now) (a .pre .2) _ _ (o .open-lists .ensures) (r .retain .result) (r .retain .ensures) _ (search needs),
-      left-fresh (a .args .scoring) (a .args .file .now) (a .args .query .now) (a .pre .2) _ _ (o .open-lists .ensures) (r .retain .result) (r .retain .ensures),
+      a .pre .keeps,
+      left-seated (a .args .scoring) (a .args .file .now) (a .args .query .now) (a .pre .few) _ _ (o .open-lists .ensures) (r .retain .result) (r .retain .ensures) _ (search needs),
+      left-fresh (a .args .scoring) (a .args .file .now) (a .args .query .now) (a .pre .few) _ _ (o .open-lists .ensures) (r .retain .result) (r .retain .ensures),
     )
 
 finish-requires : tie.Need-finish-requires
@@ -99,7 +99,7 @@ returns-2 c =
     let o = r .before in
     let a = o .before .before .before .before .before .before .before .before .before .before .before .before .before .before in
     let R = b .block-wand .ensures in
-    same-route (by-pivots (a .args .scoring) (a .args .file .now) (a .args .query .now) (a .pre .2) _ _ (o .open-lists .ensures) (r .retain .result) (r .retain .ensures) (e .if1 .left))
+    same-route (by-pivots (a .args .scoring) (a .args .file .now) (a .args .query .now) (a .pre .few) _ _ (o .open-lists .ensures) (r .retain .result) (r .retain .ensures) (e .if1 .left))
     (record { full = b .block-wand .result .full; count = b .block-wand .result .count; place = R .place; outcome-is = c .finish .ensures; ran = R .ran })
 
 pub run-union-spec : {M : Type 1} → statement M
