@@ -17,10 +17,12 @@ pub mod Ordering
 pub mod Scorers
 pub mod Hits
 pub mod Ending
+pub mod Onward
 pub mod Single
 pub mod Union
 pub mod Intersection
 pub mod Agree
+pub mod Reports
 pub mod Rows
 pub mod Demand
 pub mod Stepped

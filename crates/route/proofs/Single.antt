@@ -1,3 +1,4 @@
 -- The single scan: it agrees with the plain scan, and ends.
 pub mod Agrees
 pub mod Ends
+pub mod Onward
