@@ -8,3 +8,4 @@ pub mod Hit
 pub mod Agrees
 pub mod Safe
 pub mod Ends
+pub mod Onward
