@@ -4,3 +4,4 @@ pub mod Window
 pub mod Query
 pub mod Agrees
 pub mod Ends
+pub mod Onward

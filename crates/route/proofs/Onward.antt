@@ -25,6 +25,11 @@ sum-has O P Z acc [] h a = h
 sum-has O P Z acc (x ∷ xs) h a = sum-has O P Z (O .add acc x) xs (Z .add-has acc x h (a .0)) (a .1)
 
 module _ {S : Type 0} where
+  -- a score, if there is one, has P
+  abbrev pub HasOf : (S → Type 0) → Option S → Type 0
+  HasOf P none = Unit {0}
+  HasOf P (some x) = P x
+
   -- the documents rise strictly, from a on and below n
   abbrev pub Upward : ℕ → ℕ → List (Report S) → Type 0
   Upward a n [] = a ≤ n
@@ -70,7 +75,7 @@ module _ {S : Type 0} where
     -- `Ahead f p`: no report from place p on is of a document before f
     pub record Onward (N : ℕ) (W : Route S) (Kept : W .Place → Type 0) (Ahead : ℕ → W .Place → Type 0) : Type 0 where
       pub starts : Ahead 0 (W .first)
-      pub goes : (t : S) (f : ℕ) (p : W .Place) → W .ended p ≡ false → Kept p → Kept (W .turn t p .next) → Ahead f p
+      pub goes : (t : S) (f : ℕ) (p : W .Place) → W .ended p ≡ false → Kept p → Ahead f p
           → Goes N Ahead f (W .turn t p .next) (W .turn t p .due)
 
 module _ (O : Ops) (P : O .S → Type 0) (N : ℕ) where
@@ -106,10 +111,9 @@ module _ (O : Ops) (P : O .S → Type 0) (N : ℕ) where
         on-test (W .ended (u .place))
         (λ e. subst (λ (z : Turn (W .Place) (O .S)). Along (record { place = z .next; state = reported K (z .due) (u .state) }))
         (sym (stays t (u .place) e)) a)
-        (λ e.
-        let k = near .nears t (u .place) e (a .kept) .0 in
-        turned (a .f) (u .state) (W .turn t (u .place) .next) (W .turn t (u .place) .due) (a .few) (a .list) k
-        (on .goes t (a .f) (u .place) e (a .kept) k (a .ahead)))
+        (λ e. turned (a .f) (u .state) (W .turn t (u .place) .next) (W .turn t (u .place) .due) (a .few) (a .list)
+        (near .nears t (u .place) e (a .kept) .0)
+        (on .goes t (a .f) (u .place) e (a .kept) (a .ahead)))
 
     -- A ROUTE THAT NEVER TURNS BACK REPORTS UPWARD, below N and with P
     pub reports-upward : (rows : List (Report (O .S))) → Ends K W [] rows → Listed P N rows

@@ -1,7 +1,7 @@
 -- For both scorings: the single route never turns back. Nothing is asked of scores.
 use mathlib.Core.Bool.{cond, false, true≢false}
 use mathlib.Core.Path.{_≡_}
-use Prim.Native.Nat.{suc, ℕ, _<_, _≤_}
+use Prim.Native.Nat.{suc, ℕ, _≤_}
 use native.Mathlib.Omega.{arith}
 use lib.Dec.{eqb}
 use Rattle.route.specs.Score.{Ops}
@@ -53,4 +53,4 @@ module _ (B N : ℕ) (O : Ops) (P : O .S → Type 0) (l : Postings (O .S)) (k : 
 
   pub single-onward : (ord : ℕ) → Onward P N (blockWandSingleScorer B O (record { ord = ord; list = l; cur = fresh }))
       (λ p. SingleKept B l (p .phase) (p .cur) (p .doc)) SingleAhead
-  single-onward ord = record { starts = omega arith; goes = λ t f p e i _ a. turn-goes t f (p .phase) (p .cur) (p .doc) e i a }
+  single-onward ord = record { starts = omega arith; goes = λ t f p e i a. turn-goes t f (p .phase) (p .cur) (p .doc) e i a }

@@ -1,5 +1,5 @@
 -- For both scorings: the union never turns back. Nothing is asked of scores.
-use mathlib.Core.Bool.{Bool, cond, false, not, true, true≢false}
+use mathlib.Core.Bool.{Bool, false, not, true, true≢false}
 use mathlib.Core.List.{List, [], append-assoc, map, _++_, _∷_}
 use mathlib.Core.Option.{Option, none, some}
 use mathlib.Core.Path.{ap, subst, sym, _∙_, _≡_}
@@ -14,7 +14,7 @@ use Rattle.route.specs.Postings.{Postings, TERMINATED}
 use Rattle.route.specs.Ordering.{retain, sortBy}
 use Rattle.route.specs.Scorer.{Scorer, advance, blockMaxScore, docOf, scoreHere, scorersFrom, seek, seekBlock}
 use Rattle.route.specs.Route.{Turn, quiet}
-use Rattle.route.specs.Union.{Aligned, Pivot, UnionPlace, advanceAllScorersOnPivot, afterAlign, afterPivot, alignScorers, aligned, behind, blockMaxWasTooLow, goOn, leastDoc, leastLastDoc, liveOnly, missed, missedOn, onPivot, pivotFrom, pivotRoute, scorerToSeek, unionTurn}
+use Rattle.route.specs.Union.{Aligned, Pivot, UnionPlace, advanceAllScorersOnPivot, afterAlign, afterPivot, alignScorers, aligned, behind, blockMaxWasTooLow, goOn, leastDoc, leastLastDoc, liveOnly, missed, onPivot, pivotFrom, pivotRoute, scorerToSeek, unionTurn}
 use Rattle.route.specs.Inner.Unions.{SafeS, UnionKept}
 use Rattle.route.specs.Inner.Lists.{ListOk}
 use Rattle.route.proofs.Cases.{by-test}
@@ -23,7 +23,7 @@ use Rattle.route.proofs.ListLaws.{Scored}
 use Rattle.route.proofs.Places.{docAt-in, docAt-le, docAt-lt, docAt-rises}
 use Rattle.route.proofs.Ordering.{map-keys, putBack-each, replace-all, sort-perm, swept-all}
 use Rattle.route.proofs.Onward.{Goes, Onward, Summed, due-goes, sum-has}
-use Rattle.route.proofs.Union.Pivot.{AlignIs, Missed, Shape, ShapeOf, align-is, head-all, head-on, pick-is, shape-is}
+use Rattle.route.proofs.Union.Pivot.{AlignIs, Shape, ShapeOf, align-is, head-all, head-on, pick-is, shape-is}
 use Rattle.route.proofs.Union.Safe.{safe-advance, safe-seek, safe-shallow}
 use Rattle.route.proofs.Union.Ends.{pivot-live, target-cap, union-nears}
 
@@ -162,5 +162,5 @@ module _ (B N : ℕ) (O : Ops) (P : O .S → Type 0) where
       record {
         starts = all-zip (SafeS B N) (λ s. Scored P (s .list)) (Fore 0) (λ s k h. record { safe = k; from = omega arith; has = h })
             (sortBy docOf live) (first .scs) (all-perm (λ s. Scored P (s .list)) (sort-perm docOf live) has);
-        goes = λ t f u e k _ a. turn-goes Z t f (u .more) (u .scorers) e k a;
+        goes = λ t f u e k a. turn-goes Z t f (u .more) (u .scorers) e k a;
       }
