@@ -117,4 +117,6 @@ module _ (O : Ops) (P : O .S → Type 0) (N : ℕ) where
 
     -- A ROUTE THAT NEVER TURNS BACK REPORTS UPWARD, below N and with P
     pub reports-upward : (rows : List (Report (O .S))) → Ends K W [] rows → Listed P N rows
-    reports-upward rows z = let a = along (z .steps) in subst (Listed P N) (z .leaves) (listed-below P (a .f) N (after K W [] (z .steps) .state) (a .few) (a .list))
+    reports-upward rows z =
+        let a = along (z .steps) in
+        subst (Listed P N) (z .leaves) (listed-below P (a .f) N (after K W [] (z .steps) .state) (a .few) (a .list))

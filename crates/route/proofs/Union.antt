@@ -1,4 +1,4 @@
--- The union: pivots, scorers left behind, each kind of turn; it agrees with the plain scan, and ends.
+-- The union: pivots, scorers left behind, each kind of turn; it agrees with the plain scan, ends, and never turns back.
 pub mod Pivot
 pub mod Lag
 pub mod State
