@@ -19,7 +19,7 @@ use Rattle.route.specs.Union.{goOn}
 use Rattle.route.specs.Route.{quiet}
 use Rattle.route.specs.Inner.Unions.{SafeS}
 use Rattle.route.proofs.Cases.{lt-of-ne, on-test}
-use Rattle.route.proofs.Lists.{all-append, all-imp, all-map}
+use Rattle.route.proofs.Lists.{all-append, all-imp, all-map, all-zip}
 use Rattle.route.proofs.Places.{docAt-cap, docAt-lt, start-suc}
 use Rattle.route.proofs.Union.Pivot.{AlignIs, align-is}
 use Rattle.route.proofs.Union.Safe.{inside, safe-seek}
@@ -44,10 +44,6 @@ use Rattle.block_wand_union.specs.declared.turn.Step.{Step}
 use Rattle.block_wand_union.proofs.Seats.{carried-trans, same-doc}
 
 module _ {A : Type 0} where
-  pub all-zip : (P Q R : A → Type 0) → ((x : A) → P x → Q x → R x) → (xs : List A) → All P xs → All Q xs → All R xs
-  all-zip P Q R f [] a b = tt
-  all-zip P Q R f (x ∷ xs) a b = (f x (a .0) (b .0), all-zip P Q R f xs (a .1) (b .1))
-
   all-unmap : {B : Type 0} (P : B → Type 0) (g : A → B) (xs : List A) → All P (map g xs) → All (λ x. P (g x)) xs
   all-unmap P g [] a = tt
   all-unmap P g (x ∷ xs) a = (a .0, all-unmap P g xs (a .1))

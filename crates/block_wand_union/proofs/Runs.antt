@@ -16,7 +16,7 @@ use Rattle.route.specs.Route.{Route}
 use Rattle.route.specs.Union.{UnionPlace, goOn, pivotRoute, unionTurn}
 use Rattle.route.specs.Inner.Unions.{Safe, SafeS, UnionKept}
 use Rattle.route.proofs.Cases.{lt-of-ne}
-use Rattle.route.proofs.Lists.{all-each, all-imp, all-map, all-perm}
+use Rattle.route.proofs.Lists.{all-each, all-imp, all-map, all-perm, all-zip}
 use Rattle.route.proofs.Ordering.{sort-perm, sort-sorted}
 use Rattle.route.proofs.Cursor.{fresh-is}
 use Rattle.route.proofs.Union.Ends.{union-nears, unionCost}
@@ -41,7 +41,6 @@ use Rattle.block_wand_union.specs.Inner.Fresh.{Fresh}
 use Rattle.block_wand_union.specs.Inner.Turns.{Turned, turnOf}
 use Rattle.block_wand_union.specs.declared.turn.Step.{Step}
 use Rattle.block_wand_union.proofs.Seats.{same-doc}
-use Rattle.block_wand_union.proofs.OnPivots.{all-zip}
 
 -- the loop's route from scorers that are in order
 abbrev pub routeFrom : List (Scorer Float) → Route Float

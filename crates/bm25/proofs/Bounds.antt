@@ -1,4 +1,4 @@
--- With an average and a weight within their limits, every norm is from 1/4 to 2 ^ 38, and every score is finite, of clear sign and at most 1,000.
+-- With an average and a weight within their limits, every norm is from 1/4 to 2 ^ 38, and every score is an f32, finite, of clear sign and at most 1,000.
 use mathlib.Core.Path.{_≡_, refl, sym}
 use mathlib.Core.Bool.{true, false}
 use Prim.Native.Nat.{ℕ, _^_, _≤_, _<_}
@@ -6,13 +6,13 @@ use native.Mathlib.Nat.{le-trans, le-of-eq, le-of-lt, mul-one}
 use native.Mathlib.Omega.{arith}
 use lib.IntN.{negsuc}
 use lib.Dec.{T, lit<, lit≤}
-use lib.Ieee.{Float, nan, inf, fin, binary32, round, ofInt, add, sub, mul, div, le}
-use lib.Ieee.Fits.{and-l}
+use lib.Ieee.{Float, nan, inf, fin, binary32, fits, round, ofInt, add, sub, mul, div, le}
+use lib.Ieee.Fits.{and-l, mul-fits}
 use lib.Ieee.Positive.{above-of-le}
 use Rattle.floats.specs.Whole.{wholeF32, f32Of}
 use Rattle.floats.specs.Step.{within}
 use Rattle.floats.proofs.Order.{le→cross}
-use Rattle.floats.proofs.Stepped.{step-within}
+use Rattle.floats.proofs.Stepped.{step-fits, step-within}
 use Rattle.floats.proofs.Range.{add-comm-high, High, Low, Exact, high-round, mul-high, mul-low, add-high, add-low, div-high, div-unit, le-add, high-not-inf, high-within, within-high}
 use Rattle.fieldnorm.specs.Code.{fieldnorm}
 use Rattle.fieldnorm.proofs.Rising.{fieldnorm-top}
@@ -123,3 +123,14 @@ score-within weight average code freq w a c f =
 pub scored-within : (scoring : Scoring) (x : Float) → T (within 1000 x) → T (within 1000 (scored scoring x))
 scored-within Unstepped x w = w
 scored-within Stepped x w = step-within 1000 x (lit≤ tt) w
+
+-- every score is an f32, whatever it is made of
+pub score-fits : (weight average : Float) (code freq : ℕ) → T (fits binary32 (scoreOf weight average code freq))
+unfolding scoreOf scoreAt
+score-fits weight average code freq =
+    let norm = normOf (fieldnorm code) average in
+    mul-fits binary32 weight (div binary32 (wholeF32 freq) (add binary32 (wholeF32 freq) norm))
+
+pub scored-fits : (scoring : Scoring) (x : Float) → T (fits binary32 x) → T (fits binary32 (scored scoring x))
+scored-fits Unstepped x h = h
+scored-fits Stepped x h = step-fits x

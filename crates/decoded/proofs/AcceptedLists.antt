@@ -1,14 +1,15 @@
 -- Every list of an accepted file meets the laws that the route's theorems ask of it: from condition 7 the documents, from 4 and 9 the scores and bounds.
 use mathlib.Core.Path.{_≡_, subst}
 use mathlib.Core.Bool.{false}
-use mathlib.Core.List.{List}
+use mathlib.Core.List.{List, [], _∷_}
 use Prim.Native.Nat.{ℕ, _/_, _≤_, _<_}
 use native.Mathlib.Omega.{arith}
 use lib.Dec.{T, lit<}
-use lib.Ieee.{lt}
+use lib.Ieee.{Float, lt}
 use Rattle.floats.specs.Step.{within}
+use Rattle.route.specs.Lists.{All}
 use Rattle.route.specs.F32.{f32}
-use Rattle.route.specs.Postings.{start}
+use Rattle.route.specs.Postings.{Postings, start}
 use Rattle.route.specs.Inner.Lists.{ListOk}
 use Rattle.route.proofs.ListLaws.{ScoresOk}
 use Rattle.route.proofs.Stepped.{stepped-order, PartOf, SteppedList}
@@ -24,7 +25,7 @@ use Rattle.notefile.proofs.Accepted.{list-accepted, list-limits, header-right}
 use Rattle.notefile.proofs.Headers.{few-documents, norm-code-small}
 use Rattle.notefile.proofs.Scores.{score-for-in, list-bound-in, block-bound-in}
 use Rattle.notefile.proofs.ListLaws.{list-docs-rise, list-doc-below, list-freq-right, list-score-covered, block-score-covered}
-use Rattle.decoded.specs.Lists.{listOf, postingsOf}
+use Rattle.decoded.specs.Lists.{listOf, postingsOf, queried}
 use Rattle.decoded.specs.Inner.Bytes.{Bytes}
 use Rattle.decoded.proofs.Scores.{step-part, covers-stepped}
 
@@ -40,11 +41,18 @@ list-ok scoring file x right d = record {
   tail = omega arith;
 }
 
+-- what each list of a file has, the lists that a query names have
+pub queried-all : (scoring : Scoring) (file : List ℕ) (P : Postings Float → Type 0) → ((l : ℕ) → l < listCount file → P (postingsOf scoring file l))
+    → (query : List ℕ) → All (λ l. l < listCount file) query → All P (queried scoring file query)
+unfolding queried
+queried-all scoring file P f [] a = tt
+queried-all scoring file P f (l ∷ ls) a = (f l (a .0), queried-all scoring file P f ls (a .1))
+
 module _ (file : List ℕ) (bytes : Bytes file) (accepted : fileRefusal file ≡ 0) (l : ℕ) (h : l < listCount file) where
   limits : Limits (partOf file l)
   limits = list-limits file accepted l h
 
-  list-score-in : (k : ℕ) → k < partOf file l .count → T (within 1000 (listScore file (partOf file l) k))
+  pub list-score-in : (k : ℕ) → k < partOf file l .count → T (within 1000 (listScore file (partOf file l) k))
   unfolding blockScore
   list-score-in k g = score-for-in (partOf file l) limits _ _ (norm-code-small file bytes _) (let r = list-freq-right file (partOf file l) (list-accepted file accepted l h) k g in omega (arith, r .1))
 

@@ -26,13 +26,11 @@ use Rattle.notefile.proofs.Accepted.{header-right}
 use Rattle.notefile.proofs.Headers.{few-documents}
 use Rattle.decoded.specs.Lists.{queried}
 use Rattle.decoded.specs.Inner.Bytes.{Bytes}
-use Rattle.decoded.proofs.AcceptedLists.{accepted-list}
+use Rattle.decoded.proofs.AcceptedLists.{accepted-list, queried-all}
 
 module _ (file : List ℕ) (bytes : Bytes file) (accepted : fileRefusal file ≡ 0) where
   all-accepted : (query : List ℕ) → All (λ l. l < listCount file) query → All (SteppedList 128 (documents file)) (queried Stepped file query)
-  unfolding queried
-  all-accepted [] a = tt
-  all-accepted (l ∷ ls) a = (accepted-list file bytes accepted l (a .0), all-accepted ls (a .1))
+  all-accepted = queried-all Stepped file (SteppedList 128 (documents file)) (accepted-list file bytes accepted)
 
   few : documents file ≤ TERMINATED
   few = let d = few-documents file (header-right file accepted) in omega arith

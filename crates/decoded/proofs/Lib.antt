@@ -2,3 +2,4 @@
 pub mod Scores
 pub mod AcceptedLists
 pub mod Files
+pub mod Reported

@@ -7,6 +7,7 @@ pub mod Grid
 pub mod Digits
 pub mod Order
 pub mod Range
+pub mod Number
 pub mod Step
 pub mod Stepped
 pub mod Pattern

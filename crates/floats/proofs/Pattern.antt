@@ -87,3 +87,11 @@ below-inf N b h w =
     let k0 : b < 2147483648 = subst (λ (z : ℕ). z < 2147483648) e (k .0) in
     let k1 : b / 8388608 < 255 = subst (λ (z : ℕ). z / 8388608 < 255) e (k .1) in
     omega arith
+
+-- ---- a value that is no NaN has one pattern, so that equal scores are equal patterns
+pub one-pattern : (n : ℕ) (x : Float) → n < 2 ^ 32 → ofBits binary32 n ≡ x → isNan x ≡ false → n ≡ toBits binary32 x
+one-pattern n x h e f =
+    sym (toBits-ofBits binary32 n h (subst (λ (b : Bool). T (not b)) (sym (ap isNan e ∙ f)) tt)) ∙ ap (toBits binary32) e
+
+pub same-bits : (x y : Float) → T (fits binary32 x) → T (fits binary32 y) → toBits binary32 x ≡ toBits binary32 y → x ≡ y
+same-bits x y p q e = sym (ofBits-toBits binary32 x p) ∙ ap (ofBits binary32) e ∙ ofBits-toBits binary32 y q

@@ -5,8 +5,8 @@ use Prim.Native.Nat.{ℕ, _*_, _/_, _≤_, _<_}
 use native.Mathlib.Nat.{le-trans, le-of-eq, mul-right-comm, mul-le-mul-right, mul-div-cancel, div-mul-le-self}
 use native.Mathlib.Omega.{arith}
 use lib.Dec.{T, leb→le, le→leb, lit<}
-use lib.Ieee.{Float, nan, inf, fin, up, down, le}
-use lib.Ieee.Fits.{down-pos}
+use lib.Ieee.{Float, nan, inf, fin, binary32, up, down, fits, le}
+use lib.Ieee.Fits.{down-pos, inf-fits, round-fits}
 use lib.Ieee.Nearest.{div-same, div-mono}
 use lib.Ieee.Exact.{HasValue}
 use lib.Ieee.Order.{le-of-values}
@@ -39,6 +39,13 @@ unfolding stepDown
 step-grid N nan w = absurd w
 step-grid N (inf s) w = absurd w
 step-grid N (fin s m e) w = refl
+
+pub step-fits : (x : Float) → T (fits binary32 (stepDown x))
+unfolding stepDown gridF
+step-fits nan = round-fits binary32 false 0 1024
+step-fits (inf true) = round-fits binary32 false 0 1024
+step-fits (inf false) = inf-fits binary32 false
+step-fits (fin s m e) = round-fits binary32 false (steps (fin s m e)) 1024
 
 pub step-steps : (N : ℕ) (x : Float) → N ≤ 16384 → T (within N x) → Steps (stepDown x) (steps x) 0
 step-steps N x h w = let s = steps-within N x w in rw (step-grid N x w) (grid-steps (steps x) (omega arith))

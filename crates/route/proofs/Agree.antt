@@ -46,18 +46,18 @@ pub record SteppedLaws (O : Ops) (M : ℕ) : Type 1 where
 
 module _ (B : ℕ) (O : Ops) where
   -- a fresh scorer of a list with P
-  abbrev Fresh : (Postings (O .S) → Type 0) → Scorer (O .S) → Type 0
+  abbrev pub Fresh : (Postings (O .S) → Type 0) → Scorer (O .S) → Type 0
   Fresh P s = P (s .list) × (s .cur ≡ fresh)
 
-  fresh-all : (P : Postings (O .S) → Type 0) (n : ℕ) (q : List (Postings (O .S))) → All P q → All (Fresh P) (scorersFrom n q)
+  pub fresh-all : (P : Postings (O .S) → Type 0) (n : ℕ) (q : List (Postings (O .S))) → All P q → All (Fresh P) (scorersFrom n q)
   fresh-all P n [] a = tt
   fresh-all P n (l ∷ ls) a = ((a .0, refl), fresh-all P (suc n) ls (a .1))
 
-  live-all : (P : Postings (O .S) → Type 0) (q : List (Postings (O .S))) → All P q → All (Fresh P) (retain docOf (scorersFrom 0 q))
+  pub live-all : (P : Postings (O .S) → Type 0) (q : List (Postings (O .S))) → All P q → All (Fresh P) (retain docOf (scorersFrom 0 q))
   live-all P q a = retain-all docOf (Fresh P) (scorersFrom 0 q) (fresh-all P 0 q a)
 
   -- by cases on what `retain` leaves: the single route over one scorer, else the loop over pivots
-  by-live : (P : Postings (O .S) → Type 0) (T : Route (O .S) → Type 0) (q : List (Postings (O .S))) → All P q
+  pub by-live : (P : Postings (O .S) → Type 0) (T : Route (O .S) → Type 0) (q : List (Postings (O .S))) → All P q
       → ((s : Scorer (O .S)) → retain docOf (scorersFrom 0 q) ≡ s ∷ [] → P (s .list) → T (blockWandSingleScorer B O (onCur s fresh)))
       → T (pivotRoute B O (retain docOf (scorersFrom 0 q))) → T (blockWand B O (retain docOf (scorersFrom 0 q)))
   by-live P T q a one more = go (retain docOf (scorersFrom 0 q)) (live-all P q a) one more
@@ -70,7 +70,7 @@ module _ (B : ℕ) (O : Ops) where
       go (x ∷ y ∷ ss) a one more = more
 
   -- by cases on the number of scorers of an intersection
-  by-two : (T : Route (O .S) → Type 0) (ss : List (Scorer (O .S)))
+  pub by-two : (T : Route (O .S) → Type 0) (ss : List (Scorer (O .S)))
       → ((ld : Scorer (O .S)) (rest : List (Scorer (O .S))) → ss ≡ ld ∷ rest → T (leaderRoute B O ld rest))
       → (length ss < 2 → T noRoute) → T (ofTwo B O ss)
   by-two T [] f g = g (omega arith)
@@ -78,7 +78,7 @@ module _ (B : ℕ) (O : Ops) where
   by-two T (x ∷ y ∷ ss) f g = f x (y ∷ ss) refl
 
   -- by cases on the number of lists of a single run
-  by-one : (T : Route (O .S) → Type 0) (q : List (Postings (O .S)))
+  pub by-one : (T : Route (O .S) → Type 0) (q : List (Postings (O .S)))
       → ((l : Postings (O .S)) → q ≡ l ∷ [] → T (blockWandSingleScorer B O (record { ord = 0; list = l; cur = fresh })))
       → ((length q ≡ 1 → ⊥) → T noRoute) → T (route B O single q)
   by-one T [] f g = g (λ e. omega (arith, e))

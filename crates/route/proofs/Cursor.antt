@@ -83,6 +83,19 @@ module _ (B : ℕ) where
         let ih = find-up t n (suc p) in
         by-test (λ z. p ≤ z) (ltb (docAt l p) t) (findIn l t n (suc p)) p (λ e. omega arith) (λ e. omega arith)
 
+    -- what stands before the place found is before t
+    pub find-below : (t n p i : ℕ) → p ≤ i → i < findIn l t n p → docAt l i < t
+    find-below t zero p i a b = absurd (omega arith)
+    find-below t (suc n) p i a b =
+        by-test (λ z. i < z → docAt l i < t) (ltb (docAt l p) t) (findIn l t n (suc p)) p
+        (λ e c.
+        on-test (ltb p i) (λ u. find-below t n (suc p) i (ltb-true p i u) c)
+        (λ u.
+        let w = ltb-false p i u in
+        let j : p ≡ i = omega arith in
+        omega (arith, ltb-true (docAt l p) t e, ap (docAt l) j)))
+        (λ e c. absurd (omega arith)) b
+
     pub find-hits : (t n p q : ℕ) → p ≤ q → q < p + n → t ≤ docAt l q → (findIn l t n p ≤ q) × (t ≤ docAt l (findIn l t n p))
     find-hits t zero p q a b c = absurd (omega arith)
     find-hits t (suc n) p q a b c =

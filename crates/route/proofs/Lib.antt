@@ -1,4 +1,4 @@
--- Laws from the bottom: order and rule, lists and cursors, sums, then each route agrees with the plain scan and ends, by mode, then all modes and demand 3.
+-- Laws from the bottom: order and rule, lists and cursors, sums, then each route agrees with the plain scan, ends and never turns back, by mode, then all modes, their reports and demand 3.
 pub mod Cases
 pub mod Lists
 pub mod Order
@@ -17,10 +17,12 @@ pub mod Ordering
 pub mod Scorers
 pub mod Hits
 pub mod Ending
+pub mod Onward
 pub mod Single
 pub mod Union
 pub mod Intersection
 pub mod Agree
+pub mod Reports
 pub mod Rows
 pub mod Demand
 pub mod Stepped

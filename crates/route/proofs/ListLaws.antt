@@ -5,9 +5,13 @@ use Rattle.route.specs.Postings.{Postings, start}
 use Rattle.route.specs.Inner.Lists.{ListOk}
 use Rattle.route.proofs.Order.{Ordered}
 
+-- each score has P
+abbrev pub Scored : {S : Type 0} → (S → Type 0) → Postings S → Type 0
+Scored P l = (i : ℕ) → i < l .len → P (l .score i)
+
 -- condition 9: scores and bounds are values of the scoring, and each bound covers the scores of its block or list
 pub record ScoresOk (B : ℕ) (O : Ops) (L : Ordered O) (P : O .S → Type 0) (l : Postings (O .S)) : Type 0 where
-  pub score-ok : (i : ℕ) → i < l .len → P (l .score i)
+  pub score-ok : Scored P l
   pub bound-ok : (b : ℕ) → b < l .full → P (l .bound b)
   pub top-ok : P (l .top)
   pub bound-covers : (b i : ℕ) → b < l .full → start B b ≤ i → i < start B b + B → L .rank (l .score i) ≤ L .rank (l .bound b)

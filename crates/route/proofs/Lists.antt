@@ -62,6 +62,10 @@ module _ {A : Type 0} where
   all-imp P Q [] f a = tt
   all-imp P Q (x ∷ xs) f a = (f x (a .0), all-imp P Q xs f (a .1))
 
+  pub all-zip : (P Q R : A → Type 0) → ((x : A) → P x → Q x → R x) → (xs : List A) → All P xs → All Q xs → All R xs
+  all-zip P Q R f [] a b = tt
+  all-zip P Q R f (x ∷ xs) a b = (f x (a .0) (b .0), all-zip P Q R f xs (a .1) (b .1))
+
 module _ {A B : Type 0} where
   pub all-each : (Q : B → Type 0) (g : A → B) (xs : List A) → ((x : A) → Q (g x)) → All Q (map g xs)
   all-each Q g [] f = tt

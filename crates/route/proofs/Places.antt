@@ -112,3 +112,11 @@ module _ (B : ℕ) where
         let f = ltb-true j (l .len) e in
         rw (docAt-in i (omega arith), docAt-in j f) (doc-le i j h f))
         (λ e. rw (docAt-out j (ltb-false j (l .len) e)) (docAt-cap i))
+
+    -- behind a document stands a later one, or the end
+    pub docAt-rises : (i j : ℕ) → i < j → docAt l i < TERMINATED → docAt l i < docAt l j
+    docAt-rises i j h lv =
+        let m = docAt-lt i lv in
+        on-test (ltb j (l .len))
+        (λ e. let f = ltb-true j (l .len) e in omega (arith, k .rises i j h f, docAt-in i m, docAt-in j f))
+        (λ e. omega (arith, docAt-out j (ltb-false j (l .len) e)))

@@ -4,9 +4,7 @@ use mathlib.Core.Option.{Option, none, some}
 use mathlib.Core.Path.{ap, refl, subst, sym, _∙_, _≡_}
 use Prim.Native.Nat.{suc, ℕ, _<_, _≤_}
 use native.Mathlib.Omega.{arith}
-use lib.Dec.{ltb}
 use lib.ListN.{length}
-use borrow.Author.Tests.{ltb-false, ltb-true}
 use Rattle.route.specs.Lists.{All}
 use Rattle.route.specs.Score.{Ops}
 use Rattle.route.specs.Postings.{Postings, TERMINATED, docAt, scoreOf}
@@ -14,11 +12,10 @@ use Rattle.route.specs.Plain.{optList, present}
 use Rattle.route.specs.Cursor.{Cursor, seekIn}
 use Rattle.route.specs.Scorer.{Scorer, advance, blockMaxScore, docOf, lastDocInBlock, maxScore, onCur, scoreHere, scorersFrom, seek, seekBlock}
 use Rattle.route.specs.Inner.Cursors.{Past, Wf}
-use Rattle.route.proofs.Cases.{on-test}
 use Rattle.route.proofs.Lists.{Perm, all-imp, all-map, p-cons, p-nil, p-swap, p-trans, perm-left, perm-map, perm-refl}
 use Rattle.route.proofs.Order.{LowOf, Ordered}
-use Rattle.route.proofs.ListLaws.{Accepted}
-use Rattle.route.proofs.Places.{docAt-in, docAt-le, docAt-lt, docAt-out, last-le}
+use Rattle.route.proofs.ListLaws.{Accepted, Scored}
+use Rattle.route.proofs.Places.{docAt-in, docAt-le, docAt-lt, docAt-rises, last-le}
 use Rattle.route.proofs.Cursor.{advance-is, fresh-is, on-block, past-up, seek-is, seekBlock-is}
 use Rattle.route.proofs.Bounds.{block-covers, block-fin}
 use Rattle.route.proofs.Looking.{score-all, score-at}
@@ -51,6 +48,12 @@ module _ {S : Type 0} where
   present-perm d (p-cons x p) = perm-left (optList (scoreOf x d)) (present-perm d p)
   present-perm d (p-swap x y xs) = opt-swap (scoreOf x d) (scoreOf y d) (present d xs)
   present-perm d (p-trans p q) = p-trans (present-perm d p) (present-perm d q)
+
+  pub present-has : (P : S → Type 0) (d : ℕ) (q : List (Postings S)) → All (Scored P) q → All P (present d q)
+  present-has P d [] a = tt
+  present-has P d (l ∷ ls) a =
+      let ih = present-has P d ls (a .1) in
+      score-all l (λ o. All P (optList o ++ present d ls)) d ih (λ i m e. (a .0 i m, ih))
 
   pub contrib-perm : (d : ℕ) {xs ys : List (Scorer S)} → Perm xs ys → Perm (contrib d xs) (contrib d ys)
   contrib-perm d p = present-perm d (perm-map (λ s. s .list) p)
@@ -145,11 +148,7 @@ module _ (B N : ℕ) {O : Ops} {L : Ordered O} {M : ℕ} (Z : Sums O L M) where
   -- ---- values that sums are right about
 
   pub present-ok : (d : ℕ) (q : List (Postings (O .S))) → All (Accepted B N O L (Z .Ok)) q → All (Z .Ok) (present d q)
-  present-ok d [] a = tt
-  present-ok d (l ∷ ls) a =
-      let g = a .0 in
-      score-all l (λ o. All (Z .Ok) (optList o ++ present d ls)) d
-      (present-ok d ls (a .1)) (λ i m e. (g .vals .score-ok i m, present-ok d ls (a .1)))
+  present-ok d q a = present-has (Z .Ok) d q (all-imp (Accepted B N O L (Z .Ok)) (Scored (Z .Ok)) q (λ l k. k .vals .score-ok) a)
 
   pub contrib-ok : (f d : ℕ) (ss : List (Scorer (O .S))) → All (Sc f) ss → All (Z .Ok) (contrib d ss)
   contrib-ok f d ss a = present-ok d (lists ss) (all-map (Sc f) (Accepted B N O L (Z .Ok)) (λ s. s .list) ss (λ s c. c .good) a)
@@ -200,15 +199,9 @@ module _ (B N : ℕ) {O : Ops} {L : Ordered O} {M : ℕ} (Z : Sums O L M) where
       let l = s .list in
       let o = on-block B N l k (s .cur) p (c .wf) (c .past) (omega arith) (omega arith) in
       let a = advance-is B N l k (s .cur) (c .wf) o (omega arith) in
-      let i = docAt-lt B N l k (s .cur .at) (omega arith) in
-      let nx = ap (docAt l) (a .next) in
-      let at = s .cur .at in (
+      let nx = a .next in (
         record { good = c .good; wf = a .wf; past = a .past (suc p) (omega arith) (past-up B N l k (s .cur) p (suc p) (omega arith) (c .past)) },
-        on-test (ltb (suc at) (l .len))
-            (λ u.
-            let m = ltb-true (suc at) (l .len) u in
-            omega (arith, k .rises at (suc at) (omega arith) m, docAt-in B N l k (suc at) m, docAt-in B N l k at i))
-            (λ u. omega (arith, docAt-out B N l k (suc at) (ltb-false (suc at) (l .len) u))),
+        omega (arith, docAt-rises B N l k (s .cur .at) (advance B s .cur .at) (omega arith) (omega arith)),
       )
 
   pub fresh-fit : (n : ℕ) (ls : List (Postings (O .S))) → All (Accepted B N O L (Z .Ok)) ls → All (Sc 0) (scorersFrom n ls)

@@ -1,3 +1,4 @@
--- The single scan: it agrees with the plain scan, and ends.
+-- The single scan: it agrees with the plain scan, ends, and never turns back.
 pub mod Agrees
 pub mod Ends
+pub mod Onward

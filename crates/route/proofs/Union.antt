@@ -1,4 +1,4 @@
--- The union: pivots, scorers left behind, each kind of turn; it agrees with the plain scan, and ends.
+-- The union: pivots, scorers left behind, each kind of turn; it agrees with the plain scan, ends, and never turns back.
 pub mod Pivot
 pub mod Lag
 pub mod State
@@ -8,3 +8,4 @@ pub mod Hit
 pub mod Agrees
 pub mod Safe
 pub mod Ends
+pub mod Onward

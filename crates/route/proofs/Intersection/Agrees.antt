@@ -26,7 +26,7 @@ use Rattle.route.proofs.Lists.{Perm, all-imp, all-map, all-perm, perm-m
 use Rattle.route.proofs.Order.{FinOf, LowOf, NeverFalls, Ordered, above-false}
 use Rattle.route.proofs.Scan.{offer-good, offer-rise, pass-all, pass-to, rest, rest-end, rest-turn}
 use Rattle.route.proofs.Places.{docAt-in, docAt-le, last-le}
-use Rattle.route.proofs.Cursor.{block-hits, find-misses, find-up}
+use Rattle.route.proofs.Cursor.{block-hits, find-below, find-misses, find-up}
 use Rattle.route.proofs.Looking.{score-at}
 use Rattle.route.proofs.Sums.{Exact, Sums, dom-opt}
 use Rattle.route.proofs.Ordering.{sort-perm}
@@ -34,7 +34,7 @@ use Rattle.route.proofs.Scorers.{QueryOk, Sc, absent, block-low, blocks
 use Rattle.route.proofs.Union.Pivot.{leastLast-ge, leastLast-le}
 use Rattle.route.proofs.Hits.{hit-fin}
 use Rattle.route.proofs.Intersection.Candidate.{Bnd, Found, TryOk, bnd-dom, bnd-of, one-sum, try-is}
-use Rattle.route.proofs.Intersection.Window.{front-fit, lists-shallow, none-left, pos-below, pos-passes, shallow-all}
+use Rattle.route.proofs.Intersection.Window.{front-fit, lists-shallow, none-left, pos-passes, shallow-all}
 use Rattle.route.proofs.Intersection.Query.{CandsOk, all-low, all-some, gather, parts-few, parts-ok, range-low, scoresAt, top-fin, top-sum, tops-low}
 
 module _ {B N : ℕ} {O : Ops} {L : Ordered O} {K : Callback (O .S)} (G : NeverFalls O L K) {M : ℕ} {Z : Sums O L M} (E : Exact O L M Z)
@@ -191,7 +191,7 @@ module _ {B N : ℕ} {O : Ops} {L : Ordered O} {K : Callback (O .S)} (G : NeverF
             (λ u.
             let v = leb-false i j u in
             let up = find-up B N ll k (suc e) B (start B b) in
-            let m = pos-below B N Z ll k d B (start B b) j up v in
+            let m = find-below B N ll k d B (start B b) j up v in
             absurd (omega (arith, pos-passes B N Z ll k (suc e) B (start B b) j up (omega arith) (omega (arith, leastLast-ge′ cv))))) in
             let from : (x : ℕ) → x < ll .len → d ≤ ll .doc x → i ≤ x = λ x m h. find-misses B N ll k d B (start B b) x m h (past x m h .1) in
             let lsl = ap length (a .is-sl) in
@@ -213,7 +213,7 @@ module _ {B N : ℕ} {O : Ops} {L : Ordered O} {K : Callback (O .S)} (G : NeverF
             (λ x p z.
             let m : x < ll .len = omega arith in (
               omega (arith, docAt-le B N ll k i x p, docAt-in B N ll k x m),
-              omega (arith, pos-below B N Z ll k (suc e) B (start B b) x (omega arith) (omega arith), docAt-in B N ll k x m),
+              omega (arith, find-below B N ll k (suc e) B (start B b) x (omega arith) (omega arith), docAt-in B N ll k x m),
             ))
           where
             leastLast-ge′ : d ≤ lastDoc ll B (ld .cur .blk) → d ≤ leastLastDoc B ld ss

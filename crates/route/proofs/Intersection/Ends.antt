@@ -8,7 +8,7 @@ use native.Mathlib.Nat.{mul-le-mul-right, suc-mul}
 use native.Mathlib.Omega.{arith}
 use lib.Dec.{eqb, leb, ltb}
 use lib.ListN.{length}
-use borrow.Author.Tests.{leb-false, leb-true, ltb-true}
+use borrow.Author.Tests.{eqb-true, leb-false, leb-true, ltb-true}
 use Rattle.route.specs.Lists.{All}
 use Rattle.route.specs.Score.{Ops, sum, sumBack}
 use Rattle.route.specs.Report.{Report}
@@ -37,7 +37,7 @@ module _ (B N : ℕ) (O : Ops) where
   abbrev Ts : Type 0
   Ts = List (Scorer (O .S))
 
-  wf-shallow : (d : ℕ) (s : Scorer (O .S)) → d ≤ TERMINATED → WfS s → WfS (seekBlock B d s) × (d ≤ lastDocInBlock B (seekBlock B d s))
+  pub wf-shallow : (d : ℕ) (s : Scorer (O .S)) → d ≤ TERMINATED → WfS s → WfS (seekBlock B d s) × (d ≤ lastDocInBlock B (seekBlock B d s))
   wf-shallow d s h k = let m = seekBlock-is B N (s .list) (k .ok) d (s .cur) h (k .wf) in (record { ok = k .ok; wf = m .moved .wf }, m .covers)
 
   wf-seek : (d : ℕ) (s : Scorer (O .S)) → d ≤ TERMINATED → WfS s → WfS (seek B d s)
@@ -46,49 +46,72 @@ module _ (B N : ℕ) (O : Ops) where
   wf-front : (s : Scorer (O .S)) → WfS s → WfS (loadLeader B s)
   wf-front s k = record { ok = k .ok; wf = first-wf B N (s .list) (k .ok) (s .cur) (k .wf) }
 
-  wf-all : (d : ℕ) (ss : Ts) → d ≤ TERMINATED → All WfS ss
-      → All WfS (seekBlockAll B d ss) × (allRemain B d ss ≡ true → All (λ s. d ≤ lastDocInBlock B s) (seekBlockAll B d ss))
-  wf-all d [] h a = (tt, λ _. tt)
-  wf-all d (s ∷ ss) h a = go (hasRemainingDocs B (seekBlock B d s)) (wf-all d ss h (a .1))
+  pub shallow-each : (Q : Scorer (O .S) → Type 0) (d : ℕ) (ss : Ts) → ((s : Scorer (O .S)) → Q s → Q (seekBlock B d s)) → All Q ss
+      → All Q (seekBlockAll B d ss)
+  shallow-each Q d [] f a = tt
+  shallow-each Q d (s ∷ ss) f a =
+      let ih = shallow-each Q d ss f (a .1) in
+      by-test (All Q) (hasRemainingDocs B (seekBlock B d s)) (seekBlock B d s ∷ seekBlockAll B d ss) (seekBlock B d s ∷ ss)
+      (λ _. (f s (a .0), ih)) (λ _. (f s (a .0), a .1))
+
+  covers-all : (d : ℕ) (ss : Ts) → d ≤ TERMINATED → All WfS ss → allRemain B d ss ≡ true → All (λ s. d ≤ lastDocInBlock B s) (seekBlockAll B d ss)
+  covers-all d [] h a e = tt
+  covers-all d (s ∷ ss) h a e = go (hasRemainingDocs B (seekBlock B d s)) e (covers-all d ss h (a .1))
     where
-      w : WfS (seekBlock B d s) × (d ≤ lastDocInBlock B (seekBlock B d s))
-      w = wf-shallow d s h (a .0)
+      go : (b : Bool) → cond b (allRemain B d ss) false ≡ true
+          → (allRemain B d ss ≡ true → All (λ s. d ≤ lastDocInBlock B s) (seekBlockAll B d ss))
+          → All (λ s. d ≤ lastDocInBlock B s) (cond b (seekBlock B d s ∷ seekBlockAll B d ss) (seekBlock B d s ∷ ss))
+      go true e f = (wf-shallow d s h (a .0) .1, f e)
+      go false e f = absurd (false≢true e)
 
-      go : (b : Bool) → All WfS (seekBlockAll B d ss) × (allRemain B d ss ≡ true → All (λ s. d ≤ lastDocInBlock B s) (seekBlockAll B d ss))
-          → All WfS (cond b (seekBlock B d s ∷ seekBlockAll B d ss) (seekBlock B d s ∷ ss))
-          × (cond b (allRemain B d ss) false ≡ true → All (λ s. d ≤ lastDocInBlock B s)
-          (cond b (seekBlock B d s ∷ seekBlockAll B d ss) (seekBlock B d s ∷ ss)))
-      go true r = ((w .0, r .0), λ e. (w .1, r .1 e))
-      go false r = ((w .0, a .1), λ e. absurd (false≢true e))
+  -- a window ends at its first document or behind it
+  pub window-wide : (d : ℕ) (ld : Scorer (O .S)) (ss : Ts) → d ≤ TERMINATED → All WfS (ld ∷ ss) → allRemain B d ss ≡ true
+      → d ≤ leastLastDoc B (seekBlock B d ld) (seekBlockAll B d ss)
+  window-wide d ld ss h a e = leastLast-ge B d (seekBlock B d ld) (seekBlockAll B d ss) (wf-shallow d ld h (a .0) .1, covers-all d ss h (a .1) e)
 
-  wf-try : (c : ℕ) (t tot : O .S) (ss : Ts) (bs : List (O .S)) → c ≤ TERMINATED → All WfS ss → All WfS (tryCandidate B O c t tot ss bs .secs)
-  wf-try c t tot [] bs h a = tt
-  wf-try c t tot (s ∷ ss) bs h a =
+  -- by cases on a secondary: already past the candidate, on it with enough to come, or neither
+  pub try-by : (T : Tried (O .S) → Type 0) (c : ℕ) (t tot : O .S) (s : Scorer (O .S)) (ss : Ts) (bs : List (O .S)) → T (dropped (s ∷ ss))
+      → (docOf (seek B c s) ≡ c → T (pushSec (seek B c s) (tryCandidate B O c t (O .add tot (scoreHere (seek B c s))) ss (tailOf bs))))
+      → T (dropped (seek B c s ∷ ss)) → T (tryCandidate B O c t tot (s ∷ ss) bs)
+  try-by T c t tot s ss bs past on off =
       let s′ = seek B c s in
       let tot′ : O .S = O .add tot (scoreHere s′) in
-      let on = tryCandidate B O c t tot′ ss (tailOf bs) in
-      let ih = wf-try c t tot′ ss (tailOf bs) h (a .1) in
-      let f = wf-seek c s h (a .0) in
-      by-test (λ (r : Tried (O .S)). All WfS (r .secs)) (ltb c (docOf s)) (dropped (s ∷ ss))
-      (cond (eqb (docOf s′) c) (cond (O .above (O .add tot′ (sumBack O (tailOf bs))) t) (pushSec s′ on) (dropped (s′ ∷ ss))) (dropped (s′ ∷ ss)))
-      (λ _. a)
+      let next = tryCandidate B O c t tot′ ss (tailOf bs) in
+      by-test T (ltb c (docOf s)) (dropped (s ∷ ss))
+      (cond (eqb (docOf s′) c) (cond (O .above (O .add tot′ (sumBack O (tailOf bs))) t) (pushSec s′ next) (dropped (s′ ∷ ss))) (dropped (s′ ∷ ss)))
+      (λ _. past)
       (λ _.
-      by-test (λ (r : Tried (O .S)). All WfS (r .secs)) (eqb (docOf s′) c)
-      (cond (O .above (O .add tot′ (sumBack O (tailOf bs))) t) (pushSec s′ on) (dropped (s′ ∷ ss))) (dropped (s′ ∷ ss))
-      (λ _. by-test (λ (r : Tried (O .S)). All WfS (r .secs)) (O .above (O .add tot′ (sumBack O (tailOf bs))) t) (pushSec s′ on) (dropped (s′ ∷ ss))
-      (λ _. (f, ih)) (λ _. (f, a .1)))
-      (λ _. (f, a .1)))
+      by-test T (eqb (docOf s′) c)
+      (cond (O .above (O .add tot′ (sumBack O (tailOf bs))) t) (pushSec s′ next) (dropped (s′ ∷ ss))) (dropped (s′ ∷ ss))
+      (λ e. by-test T (O .above (O .add tot′ (sumBack O (tailOf bs))) t) (pushSec s′ next) (dropped (s′ ∷ ss))
+      (λ _. on (eqb-true (docOf s′) c e)) (λ _. off))
+      (λ _. off))
 
-  -- candidates: few, and documents of the list
-  cands-few : (l : Postings (O .S)) (t : O .S) (n p : ℕ) → ListOk B N l → p + n ≤ l .len
-      → (length (candidatesFrom O l t n p) ≤ n) × All (λ r. r .doc ≤ TERMINATED) (candidatesFrom O l t n p)
-  cands-few l t zero p k h = (omega arith, tt)
-  cands-few l t (suc n) p k h =
-      let ih = cands-few l t n (suc p) k (omega arith) in
-      let i0 = ih .0 in
-      by-test (λ z. (length z ≤ suc n) × All (λ r. r .doc ≤ TERMINATED) z) (O .above (l .score p) t)
+  pub try-each : (Q : Scorer (O .S) → Type 0) (c : ℕ) (t tot : O .S) (ss : Ts) (bs : List (O .S)) → ((s : Scorer (O .S)) → Q s → Q (seek B c s))
+      → All Q ss → All Q (tryCandidate B O c t tot ss bs .secs)
+  try-each Q c t tot [] bs f a = tt
+  try-each Q c t tot (s ∷ ss) bs f a =
+      let g = f s (a .0) in
+      try-by (λ (r : Tried (O .S)). All Q (r .secs)) c t tot s ss bs a
+      (λ _. (g, try-each Q c t (O .add tot (scoreHere (seek B c s))) ss (tailOf bs) f (a .1))) (g, a .1)
+
+  -- candidates: few, and each a place of the list
+  cands-few : (l : Postings (O .S)) (t : O .S) (n p : ℕ) → length (candidatesFrom O l t n p) ≤ n
+  cands-few l t zero p = omega arith
+  cands-few l t (suc n) p =
+      let ih = cands-few l t n (suc p) in
+      by-test (λ z. length z ≤ suc n) (O .above (l .score p) t)
       (record { doc = l .doc p; score = l .score p } ∷ candidatesFrom O l t n (suc p)) (candidatesFrom O l t n (suc p))
-      (λ _. (omega arith, (omega (arith, k .below p (omega arith), k .few), ih .1))) (λ _. (omega arith, ih .1))
+      (λ _. omega arith) (λ _. omega arith)
+
+  pub cands-each : (Q : Report (O .S) → Type 0) (l : Postings (O .S)) (t : O .S) (n p : ℕ)
+      → ((i : ℕ) → i < l .len → Q (record { doc = l .doc i; score = l .score i })) → p + n ≤ l .len → All Q (candidatesFrom O l t n p)
+  cands-each Q l t zero p f h = tt
+  cands-each Q l t (suc n) p f h =
+      let ih = cands-each Q l t n (suc p) f (omega arith) in
+      by-test (All Q) (O .above (l .score p) t)
+      (record { doc = l .doc p; score = l .score p } ∷ candidatesFrom O l t n (suc p)) (candidatesFrom O l t n (suc p))
+      (λ _. (f p (omega arith), ih)) (λ _. ih)
 
   find-le : (l : Postings (O .S)) (t n p : ℕ) → findIn l t n p ≤ p + n
   find-le l t zero p = omega arith
@@ -96,23 +119,31 @@ module _ (B N : ℕ) (O : Ops) where
       let ih = find-le l t n (suc p) in
       by-test (λ z. z ≤ p + suc n) (ltb (docAt l p) t) (findIn l t n (suc p)) p (λ _. omega arith) (λ _. omega arith)
 
+  -- the candidates of a window are those of n places of the list, or none
+  pub cands-by : (T : List (Report (O .S)) → Type 0) (l : Postings (O .S)) (t : O .S) (b d e : ℕ) → T []
+      → ((n : ℕ) → findIn l d B (start B b) + n ≤ min (findIn l (suc e) B (start B b)) (l .len) → T (candidatesFrom O l t n (findIn l d B (start B b))))
+      → T (candidatesIn B O l t b d e)
+  cands-by T l t b d e z f =
+      let i = findIn l d B (start B b) in
+      let j = min (findIn l (suc e) B (start B b)) (l .len) in
+      on-test (leb i j)
+      (λ u. let v = leb-true i j u in f (j - i) (omega arith))
+      (λ u.
+      let v = leb-false i j u in
+      let n : j - i ≡ 0 = omega arith in
+      subst (λ y. T (candidatesFrom O l t y i)) (sym n) z)
+
   cands-in : (l : Postings (O .S)) (t : O .S) (b d e : ℕ) → ListOk B N l
       → (length (candidatesIn B O l t b d e) ≤ B) × All (λ r. r .doc ≤ TERMINATED) (candidatesIn B O l t b d e)
   cands-in l t b d e k =
       let i = findIn l d B (start B b) in
-      let j = findIn l (suc e) B (start B b) in
-      let n = min j (l .len) - i in
       let up = find-up B N l k d B (start B b) in
       let le = find-le l (suc e) B (start B b) in
-      on-test (leb i (min j (l .len)))
-      (λ u.
-      let v = leb-true i (min j (l .len)) u in
-      let c = cands-few l t n i k (omega arith) in
-      (omega (arith, c .0), c .1))
-      (λ u.
-      let v = leb-false i (min j (l .len)) u in
-      let z : n ≡ 0 = omega arith in
-      subst (λ y. (length (candidatesFrom O l t y i) ≤ B) × All (λ r. r .doc ≤ TERMINATED) (candidatesFrom O l t y i)) (sym z) (omega arith, tt))
+      cands-by (λ cs. (length cs ≤ B) × All (λ r. r .doc ≤ TERMINATED) cs) l t b d e (omega arith, tt)
+      (λ n h. (
+        omega (arith, cands-few l t n i),
+        cands-each (λ r. r .doc ≤ TERMINATED) l t n i (λ p m. omega (arith, k .below p m, k .few)) (omega arith),
+      ))
 
   -- ---- the route ends
 
@@ -128,10 +159,10 @@ module _ (B N : ℕ) (O : Ops) where
   interCost over d = 0
 
   -- in a window d is at most its end e, and the candidates are of one block
-  InWindow : List (Report (O .S)) → ℕ → ℕ → Scorer (O .S) → Ts → Type 0
+  unfoldable pub InWindow : List (Report (O .S)) → ℕ → ℕ → Scorer (O .S) → Ts → Type 0
   InWindow cs e d ld ss = All WfS (ld ∷ ss) × (d ≤ e) × (e ≤ TERMINATED) × (length cs ≤ B) × All (λ r. r .doc ≤ TERMINATED) cs
 
-  pub InterKept : Stage (O .S) → ℕ → Scorer (O .S) → Ts → Type 0
+  unfoldable pub InterKept : Stage (O .S) → ℕ → Scorer (O .S) → Ts → Type 0
   InterKept early d ld ss = All WfS (ld ∷ ss) × (d ≤ 2147483648)
   InterKept window d ld ss = All WfS (ld ∷ ss) × (d ≤ 2147483648)
   InterKept (within cs e bs) d ld ss = InWindow cs e d ld ss
@@ -148,6 +179,33 @@ module _ (B N : ℕ) (O : Ops) where
   unfolding row
   rows-suc a = suc-mul a (B + (B + 2))
 
+  -- by cases on what a window leaves: candidates, the next window, or the end
+  pub window-by : (T : InterPlace (O .S) → Type 0) (t : O .S) (d : ℕ) (ld : Scorer (O .S)) (ss : Ts)
+      → (let ld′ = seekBlock B d ld in
+      let ss′ = seekBlockAll B d ss in
+      let bs = map (blockMaxScore B O) ss′ in
+      let e = leastLastDoc B ld′ ss′ in
+      let cs = candidatesIn B O (ld .list) (O .sub t (sum O bs)) (ld′ .cur .blk) d e in
+      (d < TERMINATED → allRemain B d ss ≡ true → T (record { stage = within cs e bs; doc = d; leader = loadLeader B ld′; secs = ss′ }))
+      → (d < TERMINATED → allRemain B d ss ≡ true → T (record { stage = window; doc = suc e; leader = ld′; secs = ss′ }))
+      → T (record { stage = over; doc = d; leader = ld′; secs = ss′ }) → T (record { stage = over; doc = d; leader = ld; secs = ss })
+      → T (windowTurn B O t d ld ss))
+  window-by T t d ld ss cands next out end =
+      let ld′ = seekBlock B d ld in
+      let ss′ = seekBlockAll B d ss in
+      let bs = map (blockMaxScore B O) ss′ in
+      let e = leastLastDoc B ld′ ss′ in
+      let cs = candidatesIn B O (ld .list) (O .sub t (sum O bs)) (ld′ .cur .blk) d e in
+      let u-in : InterPlace (O .S) = record { stage = within cs e bs; doc = d; leader = loadLeader B ld′; secs = ss′ } in
+      let u-next : InterPlace (O .S) = record { stage = window; doc = suc e; leader = ld′; secs = ss′ } in
+      let u-out : InterPlace (O .S) = record { stage = over; doc = d; leader = ld′; secs = ss′ } in
+      let b = O .above (O .add (blockMaxScore B O ld′) (sum O bs)) t in
+      by-test T (ltb d TERMINATED) (cond (allRemain B d ss) (cond b u-in u-next) u-out) (record { stage = over; doc = d; leader = ld; secs = ss })
+      (λ u.
+      let lv = ltb-true d TERMINATED u in
+      by-test T (allRemain B d ss) (cond b u-in u-next) u-out (λ h. by-test T b u-in u-next (λ _. cands lv h) (λ _. next lv h)) (λ _. out))
+      (λ _. end)
+
   window-less : (t : O .S) (d : ℕ) (ld : Scorer (O .S)) (ss : Ts) → InterKept window d ld ss → Less (interCost window d) (windowTurn B O t d ld ss)
   unfolding Less InterKept InWindow interCost
   window-less t d ld ss (a, cap) =
@@ -158,54 +216,20 @@ module _ (B N : ℕ) (O : Ops) where
       let m = (2147483649 - d) * row in
       let dd : 2147483649 - d ≡ suc (2147483648 - d) = omega arith in
       let mm : m ≡ (2147483648 - d) * row + (B + (B + 2)) = ap (λ z. z * row) dd ∙ rows-suc (2147483648 - d) in
-      by-test (Less m) (ltb d TERMINATED)
-      (cond (allRemain B d ss)
-      (cond (O .above (O .add (blockMaxScore B O ld′) (sum O bs)) t)
-      (record {
-        stage = within (candidatesIn B O (ld .list) (O .sub t (sum O bs))
-            (ld′ .cur .blk) d e) e bs;
-        doc = d;
-        leader = loadLeader B ld′;
-        secs = ss′;
-      })
-      (record { stage = window; doc = suc e; leader = ld′; secs = ss′ }))
-      (record { stage = over; doc = d; leader = ld′; secs = ss′ }))
-      (record { stage = over; doc = d; leader = ld; secs = ss })
-      (λ u.
-      let lv = ltb-true d TERMINATED u in
-      let w = wf-shallow d ld (omega arith) (a .0) in
-      let ws = wf-all d ss (omega arith) (a .1) in
-      by-test (Less m) (allRemain B d ss)
-      (cond (O .above (O .add (blockMaxScore B O ld′) (sum O bs)) t)
-      (record {
-        stage = within (candidatesIn B O (ld .list) (O .sub t (sum O bs))
-            (ld′ .cur .blk) d e) e bs;
-        doc = d;
-        leader = loadLeader B ld′;
-        secs = ss′;
-      })
-      (record { stage = window; doc = suc e; leader = ld′; secs = ss′ }))
-      (record { stage = over; doc = d; leader = ld′; secs = ss′ })
-      (λ h.
-      let cv = ws .1 h in
-      let de : d ≤ e = leastLast-ge B d ld′ ss′ (w .1, cv) in
       let ecap : e ≤ TERMINATED = omega (arith, leastLast-le B ld′ ss′ .0, last-cap B N (ld .list) (a .0 .ok) (ld′ .cur .blk)) in
-      by-test (Less m) (O .above (O .add (blockMaxScore B O ld′) (sum O bs)) t)
-      (record {
-        stage = within (candidatesIn B O (ld .list) (O .sub t (sum O bs))
-            (ld′ .cur .blk) d e) e bs;
-        doc = d;
-        leader = loadLeader B ld′;
-        secs = ss′;
-      })
-      (record { stage = window; doc = suc e; leader = ld′; secs = ss′ })
-      (λ _.
+      window-by (Less m) t d ld ss
+      (λ lv h.
+      let w = moved lv in
       let c = cands-in (ld .list) (O .sub t (sum O bs)) (ld′ .cur .blk) d e (a .0 .ok) in
       let c0 = c .0 in
-      (((wf-front ld′ (w .0), ws .0), de, ecap, c .0, c .1), omega arith))
-      (λ _. (((w .0, ws .0), omega arith), omega (arith, rows-le (2147483649 - suc e) (2147483648 - d) (omega arith)))))
-      (λ _. (tt, omega arith)))
-      (λ _. (tt, omega arith))
+      (((wf-front ld′ (w .0), w .1), window-wide d ld ss (omega arith) a h, ecap, c .0, c .1), omega arith))
+      (λ lv h.
+      let de = window-wide d ld ss (omega arith) a h in
+      ((moved lv, omega arith), omega (arith, rows-le (2147483649 - suc e) (2147483648 - d) (omega arith))))
+      (tt, omega arith) (tt, omega arith)
+    where
+      moved : d < TERMINATED → WfS (seekBlock B d ld) × All WfS (seekBlockAll B d ss)
+      moved lv = (wf-shallow d ld (omega arith) (a .0) .0, shallow-each WfS d ss (λ s k. wf-shallow d s (omega arith) k .0) (a .1))
 
   found-less : (t : O .S) (o : Option (O .S)) (c : ℕ) (cs : List (Report (O .S))) (e : ℕ) (bs : List (O .S)) (d : ℕ) (ld : Scorer (O .S)) (ss : Ts) (m : ℕ)
       → InWindow cs e d ld ss → interCost (called cs e bs) d < m → Less m (foundTurn B O t o c cs e bs d ld ss .next)
@@ -222,7 +246,7 @@ module _ (B N : ℕ) (O : Ops) where
   within-less t (c ∷ cs) e bs d ld ss (a, de, ec, ln, docs) =
       let x = tryCandidate B O (c .doc) t (c .score) ss bs in
       found-less t (x .found) (c .doc) cs e bs d ld (x .secs) ((2147483648 - d) * row + suc (suc (length cs) + suc (length cs)))
-      ((a .0, wf-try (c .doc) t (c .score) ss bs (docs .0) (a .1)), de, ec, omega arith, docs .1) (omega arith)
+      ((a .0, try-each WfS (c .doc) t (c .score) ss bs (λ s k. wf-seek (c .doc) s (docs .0) k) (a .1)), de, ec, omega arith, docs .1) (omega arith)
 
   -- a stage that may end
   or-over : (b : Bool) (st : Stage (O .S)) (d m : ℕ) (ld : Scorer (O .S)) (ss : Ts) → InterKept st d ld ss → interCost st d < m

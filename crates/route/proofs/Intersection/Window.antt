@@ -34,18 +34,6 @@ module _ (B N : ℕ) {O : Ops} {L : Ordered O} {M : ℕ} (Z : Sums O L M) where
   abbrev Fit : ℕ → T → Type 0
   Fit f s = Sc B N Z f s
 
-  pub pos-below : (l : Pl) (k : ListOk B N l) (t n p i : ℕ) → p ≤ i → i < findIn l t n p → docAt l i < t
-  pos-below l k t zero p i a b = absurd (omega arith)
-  pos-below l k t (suc n) p i a b =
-      by-test (λ z. i < z → docAt l i < t) (ltb (docAt l p) t) (findIn l t n (suc p)) p
-      (λ e c.
-      on-test (ltb p i) (λ u. pos-below l k t n (suc p) i (ltb-true p i u) c)
-      (λ u.
-      let w = ltb-false p i u in
-      let j : p ≡ i = omega arith in
-      omega (arith, ltb-true (docAt l p) t e, ap (docAt l) j)))
-      (λ e c. absurd (omega arith)) b
-
   pub pos-passes : (l : Pl) (k : ListOk B N l) (t n p i : ℕ) → p ≤ i → i < p + n → docAt l i < t → i < findIn l t n p
   pos-passes l k t zero p i a b c = absurd (omega arith)
   pos-passes l k t (suc n) p i a b c =

@@ -20,7 +20,7 @@ use Rattle.route.proofs.Cases.{by-test, lt-of-ne, on-test}
 use Rattle.route.proofs.Order.{FinOf, LowOf, NeverFalls, Ordered, Values, above-false}
 use Rattle.route.proofs.Scan.{offer-good, pass-all, pass-to, rest, rest-turn}
 use Rattle.route.proofs.ListLaws.{ScoresOk}
-use Rattle.route.proofs.Places.{docAt-cap, docAt-in, docAt-le, docAt-lt, docAt-out, last-cap, last-le, last-out, le-last, start-le, start-suc}
+use Rattle.route.proofs.Places.{docAt-cap, docAt-in, docAt-le, docAt-lt, docAt-rises, last-cap, last-le, last-out, le-last, start-le, start-suc}
 use Rattle.route.proofs.Cursor.{advance-is, fresh-is, on-block, past-up, seek-is, seekBlock-is}
 use Rattle.route.proofs.Bounds.{block-covers, block-fin}
 use Rattle.route.proofs.Looking.{score-all, score-at}
@@ -136,12 +136,7 @@ module _ (B N : ℕ) {O : Ops} {L : Ordered O} {K : Callback (O .S)} (G : NeverF
         let o = on-block B N l k c d w p (omega arith) (omega arith) in
         let a = advance-is B N l k c w o (omega arith) in
         let nx = a .next in
-        let up : suc d ≤ docHere l (advanceIn l B c) =
-        on-test (ltb (suc (c .at)) (l .len))
-        (λ u.
-        let m = ltb-true (suc (c .at)) (l .len) u in
-        omega (arith, k .rises (c .at) (suc (c .at)) (omega arith) m, docAt-in B N l k (suc (c .at)) m, ap (docAt l) nx))
-        (λ u. omega (arith, docAt-out B N l k (suc (c .at)) (ltb-false (suc (c .at)) (l .len) u), ap (docAt l) nx)) in
+        let up : suc d ≤ docHere l (advanceIn l B c) = omega (arith, docAt-rises B N l k (c .at) (advanceIn l B c .at) (omega arith) (omega arith)) in
         landed-inv (advanceIn l B c) (suc d) s (a .wf) (a .past (suc d) (omega arith) (past-up B N l k c d (suc d) (omega arith) p)) up turned g′)
 
     step-inv : (ph : Phase) (c : Cursor) (d : ℕ) (r : K .State) → InvBy ph c d r

@@ -15,7 +15,7 @@ use Rattle.route.specs.Inner.Singles.{edge, singleCost, SingleKept}
 use Rattle.route.specs.Inner.Lists.{ListOk}
 use Rattle.route.specs.Inner.Cursors.{Past, Wf}
 use Rattle.route.proofs.Cases.{by-test, lt-of-ne, on-test}
-use Rattle.route.proofs.Places.{docAt-cap, docAt-in, docAt-lt, docAt-out, last-cap, last-out, le-last, start-le, start-suc}
+use Rattle.route.proofs.Places.{docAt-cap, docAt-in, docAt-lt, docAt-rises, last-cap, last-out, le-last, start-le, start-suc}
 use Rattle.route.proofs.Cursor.{advance-is, fresh-is, on-block, past-up, seek-is, seekBlock-is}
 use Rattle.route.proofs.Ending.{Nears}
 
@@ -103,7 +103,6 @@ module _ (B N : ℕ) (O : Ops) (l : Postings (O .S)) (k : ListOk B N l) where
   walk-less t c d (w, p, q, h) =
       let be = below-edge c w in
       let b0 = be .0 in
-      let i = docAt-lt B N l k (c .at) (omega arith) in
       let o = on-block B N l k c d w p (omega arith) (omega arith) in
       let m = 2 * (edge B l - c .at) in
       let hi = w .hi in
@@ -120,12 +119,7 @@ module _ (B N : ℕ) (O : Ops) (l : Postings (O .S)) (k : ListOk B N l) where
       (λ t.
       let a = advance-is B N l k c w o (omega arith) in
       let nx = a .next in
-      let up : suc d ≤ docHere l (advanceIn l B c) =
-      on-test (ltb (suc (c .at)) (l .len))
-      (λ u.
-      let v = ltb-true (suc (c .at)) (l .len) u in
-      omega (arith, k .rises (c .at) (suc (c .at)) (omega arith) v, docAt-in B N l k (suc (c .at)) v, docAt-in B N l k (c .at) i, ap (docAt l) nx))
-      (λ u. omega (arith, docAt-out B N l k (suc (c .at)) (ltb-false (suc (c .at)) (l .len) u), ap (docAt l) nx)) in
+      let up : suc d ≤ docHere l (advanceIn l B c) = omega (arith, docAt-rises B N l k (c .at) (advanceIn l B c .at) (omega arith) (omega arith)) in
       landed-less (advanceIn l B c) (suc d) m (a .wf) (a .past (suc d) (omega arith) (past-up B N l k c d (suc d) (omega arith) p)) up
       (λ _. omega arith) (omega arith))
     where

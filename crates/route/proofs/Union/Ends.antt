@@ -22,14 +22,22 @@ use Rattle.route.proofs.Cases.{by-test, lt-of-ne, on-test}
 use Rattle.route.proofs.Lists.{all-append, all-back, all-front, all-imp, all-map, all-perm}
 use Rattle.route.proofs.Places.{docAt-cap, docAt-le, last-cap}
 use Rattle.route.proofs.Cursor.{fresh-is}
-use Rattle.route.proofs.Ordering.{end-sorted, level-sorted, map-keys, map-sorted, putBack-all, putBack-sorted, retain-all, sort-perm, sort-sorted, sorted-back, sweep-all}
-use Rattle.route.proofs.Union.Pivot.{AlignIs, Missed, Shape, ShapeOf, align-is, behind-gt, behind-is, leastDoc-gt, leastDoc-le, leastLast-ge, leastLast-le, pick-is, shape-is}
+use Rattle.route.proofs.Ordering.{end-sorted, level-sorted, map-keys, map-sorted, putBack-all, putBack-each, putBack-sorted, retain-all, sort-perm, sort-sorted, sorted-back, swept-all}
+use Rattle.route.proofs.Union.Pivot.{AlignIs, Missed, Shape, ShapeOf, align-is, behind-gt, behind-is, head-all, head-on, leastDoc-gt, leastDoc-le, leastLast-ge, leastLast-le, pick-is, shape-is}
 use Rattle.route.proofs.Ending.{Nears}
 use Rattle.route.proofs.Union.Safe.{USafe, adv-less, left-all, left-app, left-map, left-of, left-perm, left-shallow, left-sweep, move-safe, safe-advance, safe-seek, safe-shallow, seek-left, seek-less}
 
 module _ (B N : ℕ) (O : Ops) where
   abbrev Ts : Type 0
   Ts = List (Scorer (O .S))
+
+  -- the document to seek past blocks too low
+  pub target-cap : (x : Scorer (O .S)) (xs post : Ts) → SafeS B N x → leastDoc (behind (leastLastDoc B x xs)) post ≤ TERMINATED
+  target-cap x xs post k =
+      let ll = leastLastDoc B x xs in
+      let lc = last-cap B N (x .list) (k .ok) (x .cur .blk) in
+      let llc : ll ≤ TERMINATED = omega (arith, leastLast-le B x xs .0) in
+      omega (arith, leastDoc-le (behind ll) post .0, behind-is ll llc .0)
 
   low-safe : (m p : ℕ) (ps post : Ts) → 0 < length ps → p < TERMINATED → All (SafeS B N) (ps ++ post) → Sorted docOf (ps ++ post)
       → All (λ s. p ≤ lastDocInBlock B s) ps → All (λ s. docOf s ≤ p) ps
@@ -40,15 +48,11 @@ module _ (B N : ℕ) (O : Ops) where
       let sp = pick-is O x xs in
       let ll = leastLastDoc B x xs in
       let t = leastDoc (behind ll) post in
-      let lc = last-cap B N (x .list) (a .0 .ok) (x .cur .blk) in
-      let llc : ll ≤ TERMINATED = omega (arith, leastLast-le B x xs .0) in
-      let ld = leastDoc-le (behind ll) post .0 in
-      let bh = behind-is ll llc .0 in
       let g = leastDoc-gt p (behind ll) post (behind-gt p ll (leastLast-ge B p x xs cov) lv) gt in
       let re : (x ∷ xs) ++ post ≡ k .left ++ (k .one ∷ (k .right ++ post)) = ap (λ z. z ++ post) sp ∙ append-assoc (k .left)
       (k .one ∷ k .right) post in
       let lo = all-back (λ s. docOf s ≤ p) (k .left) (k .one ∷ k .right) (subst (All (λ s. docOf s ≤ p)) sp le) .0 in
-      move-safe B N m t (k .left) (k .right ++ post) (k .one) (omega arith) (subst (All (SafeS B N)) re a) (subst (Sorted docOf) re o) (omega arith)
+      move-safe B N m t (k .left) (k .right ++ post) (k .one) (target-cap x xs post (a .0)) (subst (All (SafeS B N)) re a) (subst (Sorted docOf) re o) (omega arith)
       (subst (λ z. left-all B N z ≤ m) re e)
 
   miss-safe : (m p : ℕ) (pre piv post : Ts) (k : Around (O .S)) → p < TERMINATED → All (SafeS B N) (pre ++ (piv ++ post))
@@ -111,9 +115,7 @@ module _ (B N : ℕ) (O : Ops) where
       let m0 : left-all B N (left ++ (old ∷ (more ++ tail))) ≤ m = subst (λ z. left-all B N z ≤ m) re e in
       let m1 = left-app B N left (old ∷ (more ++ tail)) in
       record {
-        scs = putBack-all docOf (λ zs. All (SafeS B N) (left ++ zs)) one R
-            (λ zs _ pm. all-append (SafeS B N) left zs al (all-perm (SafeS B N) pm sR))
-            (λ zs pm. all-append (SafeS B N) left zs al (all-perm (SafeS B N) pm (sone, sR)));
+        scs = putBack-each docOf (SafeS B N) left one R sone al sR;
         order = putBack-sorted docOf left old one R ups o2;
         less = putBack-all docOf (λ zs. left-all B N (left ++ zs) < m) one R
             (λ zs _ pm. omega (arith, left-app B N left zs, left-perm B N pm))
@@ -151,8 +153,7 @@ module _ (B N : ℕ) (O : Ops) where
       ) in
       let drop = adv .1 (omega arith) in
       record {
-        scs = all-perm (SafeS B N) (sort-perm docOf sw) (sweep-all docOf (SafeS B N) (length all) all
-            (all-append (SafeS B N) (map (advance B) H) post (adv .0) apost));
+        scs = swept-all docOf (SafeS B N) (length all) all (all-append (SafeS B N) (map (advance B) H) post (adv .0) apost);
         order = sort-sorted docOf sw;
         less = omega (
           arith,
@@ -234,6 +235,12 @@ module _ (B N : ℕ) (O : Ops) where
       (λ _. low-safe (left-all B N ss) p (pre ++ piv) (c .post) (omega arith) lv all ord cov
       (all-append (λ s. docOf s ≤ p) pre piv le-pre (all-imp (λ s. docOf s ≡ p) (λ s. docOf s ≤ p) piv (λ s e. omega arith) on-piv)) (k .post-gt) m1)
 
+  pub pivot-live : (ss : Ts) (c : Pivot (O .S)) → All (SafeS B N) ss → Shape O ss c → eqb (c .doc) TERMINATED ≡ false → c .doc < TERMINATED
+  pivot-live ss c a k e =
+      let d = head-on O ss c k in
+      lt-of-ne (omega (arith, docAt-cap B N (k .head .list) (head-all O (SafeS B N) ss c k a .ok) (k .head .cur .at)))
+      (eqb-false (c .doc) TERMINATED e)
+
   -- a turn for each place that is left, and one that finds no pivot
   pub unionCost : UnionPlace (O .S) → ℕ
   unionCost u = cond (u .more) (suc (left-all B N (u .scorers))) 0
@@ -249,11 +256,7 @@ module _ (B N : ℕ) (O : Ops) where
       by-test (λ p. Next (left-all B N ss) (afterPivot B O t p ss)) (eqb (c .doc) TERMINATED) none (some c)
       (λ _. (record { scs = a; order = o }, omega arith))
       (λ e.
-      let ap1 = subst (All (SafeS B N)) (k .piv-is) (all-front (SafeS B N) (c .piv) (c .post)
-      (all-back (SafeS B N) (c .pre) (c .piv ++ c .post) (subst (All (SafeS B N)) (k .split) a))) .0 in
-      let d = subst (All (λ s. docOf s ≡ c .doc)) (k .piv-is) (k .on) .0 in
-      let cp = docAt-cap B N (k .head .list) (ap1 .ok) (k .head .cur .at) in
-      let s = pivot-safe t ss c a o k (lt-of-ne (omega arith) (eqb-false (c .doc) TERMINATED e)) in
+      let s = pivot-safe t ss c a o k (pivot-live ss c a k e) in
       (record { scs = s .scs; order = s .order }, by-more (onPivot B O t c .next .more) (s .less)))
     where
       by-more : {m n : ℕ} (b : Bool) → m < n → cond b (suc m) 0 < suc n

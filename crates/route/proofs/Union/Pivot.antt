@@ -125,6 +125,14 @@ module _ (O : Ops) where
   ShapeOf ss none = Unit {0}
   ShapeOf ss (some c) = Shape ss c
 
+  -- the first scorer on the pivot
+  pub head-all : (P : Scorer (O .S) → Type 0) (ss : List (Scorer (O .S))) (c : Pivot (O .S)) (k : Shape ss c) → All P ss → P (k .head)
+  head-all P ss c k a =
+      subst (All P) (k .piv-is) (all-front P (c .piv) (c .post) (all-back P (c .pre) (c .piv ++ c .post) (subst (All P) (k .split) a))) .0
+
+  pub head-on : (ss : List (Scorer (O .S))) (c : Pivot (O .S)) (k : Shape ss c) → docOf (k .head) ≡ c .doc
+  head-on ss c k = subst (All (λ s. docOf s ≡ c .doc)) (k .piv-is) (k .on) .0
+
   on-off : (d : ℕ) (ss : List (Scorer (O .S))) → ss ≡ onDoc d ss ++ offDoc d ss
   on-off d [] = refl
   on-off d (s ∷ ss) = go (eqb (docOf s) d) (on-off d ss)
@@ -154,9 +162,8 @@ module _ (O : Ops) where
       → ShapeOf (s ∷ ss) (pushPre s o)
   push-shape s ss none f k = tt
   push-shape s ss (some c) f k =
-      let g = all-back (λ y. docOf s ≤ docOf y) (c .pre) (c .piv ++ c .post) (subst (All (λ y. docOf s ≤ docOf y)) (k .split) f) in
-      let hd = subst (All (λ y. docOf s ≤ docOf y)) (k .piv-is) (all-front (λ y. docOf s ≤ docOf y) (c .piv) (c .post) g) .0 in
-      let on = subst (All (λ y. docOf y ≡ c .doc)) (k .piv-is) (k .on) .0 in
+      let hd = head-all (λ y. docOf s ≤ docOf y) ss c k f in
+      let on = head-on ss c k in
       record {
         split = ap (λ z. s ∷ z)
             (k .split);

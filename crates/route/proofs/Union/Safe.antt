@@ -15,10 +15,10 @@ use Rattle.route.specs.Inner.Unions.{Safe, SafeS}
 use Rattle.route.specs.Inner.Lists.{ListOk}
 use Rattle.route.specs.Inner.Orders.{Sorted}
 use Rattle.route.proofs.Cases.{by-test, lt-of-ne, on-test}
-use Rattle.route.proofs.Lists.{Perm, all-append, all-back, all-front, all-perm, p-cons, p-nil, p-swap, p-trans}
+use Rattle.route.proofs.Lists.{Perm, all-back, p-cons, p-nil, p-swap, p-trans}
 use Rattle.route.proofs.Places.{docAt-le, docAt-lt, last-out, start-le, start-suc}
 use Rattle.route.proofs.Cursor.{block-hits, skipped}
-use Rattle.route.proofs.Ordering.{bubble-perm, replace-sorted, rotate-perm}
+use Rattle.route.proofs.Ordering.{bubble-perm, replace-all, replace-sorted, rotate-perm}
 
 module _ (B N : ℕ) {S : Type 0} where
   -- on a document, the skip reader is in the list
@@ -234,20 +234,18 @@ module _ (B N : ℕ) {S : Type 0} where
       → left-all (left ++ (one ∷ ys)) ≤ m → USafe m (left ++ restoreOrdering docOf (seek B t one) ys)
   unfolding left-all
   move-safe m t left ys one h a o g e =
-      let b = all-back (SafeS B N) left (one ∷ ys) a in
-      let sk = safe-seek t one h (b .0) in
+      let b = all-back (SafeS B N) left (one ∷ ys) a .0 in
+      let sk = safe-seek t one h b in
       let pm = bubble-perm docOf (seek B t one) ys in
       record {
-        scs = all-append (SafeS B N) left (restoreOrdering docOf (seek B t one) ys) (all-front (SafeS B N) left (one ∷ ys) a)
-            (all-perm (SafeS B N) pm (sk .safe, b .1));
+        scs = replace-all docOf (SafeS B N) left one (seek B t one) ys (sk .safe) a;
         order = replace-sorted docOf left one (seek B t one) ys
-            (docAt-le B N (one .list) (b .0 .ok) (one .cur .at) (seek B t one .cur .at) (sk .on)) o;
+            (docAt-le B N (one .list) (b .ok) (one .cur .at) (seek B t one .cur .at) (sk .on)) o;
         less = omega (
           arith,
           left-app left (restoreOrdering docOf (seek B t one) ys),
           left-app left (one ∷ ys),
           left-perm pm,
-          seek-less t one h
-              (b .0) g,
+          seek-less t one h b g,
         );
       }
