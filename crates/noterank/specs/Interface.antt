@@ -1,25 +1,24 @@
--- The C interface: each argument's numbers, and an answer as a number, a count and rows.
+-- The C interface: what each argument's numbers stand for, and an answer as a number, a count and rows.
 use mathlib.Core.Path.{_≡_}
-use mathlib.Core.Bool.{_&&_, cond}
-use mathlib.Core.List.{List}
-use Prim.Native.Nat.{ℕ, zero, suc, min}
+use mathlib.Core.Bool.{_&&_}
+use mathlib.Core.List.{List, [], _∷_, _++_}
+use Prim.Native.Nat.{ℕ, zero, suc}
 use lib.Dec.{leb}
-use lib.ListN.{length}
 use lib.Ieee.{Float}
 use Rattle.route.specs.Report.{Report}
-use Rattle.route.specs.Rule as rules
 use Rattle.bm25.specs.declared.Scoring.{Scoring}
 use Rattle.bm25.specs.declared.Scoring.the-variants.{Unstepped, Stepped}
+use Rattle.rule.specs.Right.{ruleRight}
 use Rattle.rule.specs.declared.Rule.{Rule}
 use Rattle.rule.specs.declared.Rule.the-variants.{Script, BestK}
 use Rattle.notefile.specs.Header.{listCount}
-use Rattle.notefile.specs.Refusal.{fileRefusal}
-use Rattle.reports.specs.Rows.{rowsOf, Written}
-use Rattle.request.specs.Request.{orElse, queryRight, refusalOf}
+use Rattle.notefile.specs.Refusal.{Test, test, firstRefusal, fileTests}
+use Rattle.reports.specs.Rows.{Rows, rowsOf}
+use Rattle.request.specs.Request.{Request, asked, queryRight}
 use Rattle.request.specs.declared.Mode.{Mode}
 use Rattle.request.specs.declared.Mode.the-variants.{Union, Intersection, Single}
-use Rattle.ranking.specs.Answers.{answer, plainList, PlainIs, RunIs, SkippingList}
-use Rattle.ranking.specs.declared.outcome.Outcome.{Outcome}
+use Rattle.ranking.specs.Answers.{answer, plainList, SkippingList}
+use Rattle.ranking.specs.Demand.{Given, Result}
 
 -- the numbers of modes, scorings and rules; those past the last stand for it, and are refused
 abbrev pub modeAt : ℕ → Mode
@@ -35,36 +34,56 @@ abbrev pub ruleAt : ℕ → Float → ℕ → Rule
 ruleAt zero start k = Script start
 ruleAt (suc n) start k = BestK start k
 
--- a walk or a mode outside its numbers is 10, a scoring or a rule outside its numbers 11, in the table's order; 0 where all are numbers
-abbrev pub numbersRefusal : List ℕ → List ℕ → ℕ → ℕ → ℕ → ℕ → ℕ
-numbersRefusal file query walk mode scoring rule =
-    cond (leb walk 1 && leb mode 2)
-    (cond (leb scoring 1 && leb rule 1) 0 (orElse (fileRefusal file) (cond (queryRight (listCount file) (modeAt mode) query) 11 10)))
-    (orElse (fileRefusal file) 10)
+-- the arguments of `noterank_run` but for its buffers
+pub record Call : Type 0 where
+  pub file : List ℕ
+  pub query : List ℕ
+  pub walk : ℕ
+  pub mode : ℕ
+  pub scoring : ℕ
+  pub rule : ℕ
+  pub start : Float
+  pub k : ℕ
+  pub script : List Float
 
--- then the table's, up to row 11
-abbrev pub numberedRefusal : List ℕ → List ℕ → ℕ → ℕ → ℕ → ℕ → Float → ℕ → List Float → ℕ
-numberedRefusal file query walk mode scoring rule start k script =
-    orElse (numbersRefusal file query walk mode scoring rule) (refusalOf file query (modeAt mode) (scoringAt scoring) (ruleAt rule start k) script)
+abbrev pub called : List ℕ → List ℕ → ℕ → ℕ → ℕ → ℕ → Float → ℕ → List Float → Call
+called file query walk mode scoring rule start k script = record {
+  file = file;
+  query = query;
+  walk = walk;
+  mode = mode;
+  scoring = scoring;
+  rule = rule;
+  start = start;
+  k = k;
+  script = script;
+}
 
--- the list of a walk: the route's, or the plain scan's
-abbrev pub ListBy : ℕ → List ℕ → List ℕ → Mode → Scoring → Rule → List Float → List (Report Float) → Type 0
-ListBy zero file query mode scoring rule script list = SkippingList file query mode scoring rule script list
-ListBy (suc n) file query mode scoring rule script list = list ≡ plainList file query mode scoring rule script
+-- what they ask for
+abbrev pub requestOf : Call → Request
+requestOf c = asked (c .file) (c .query) (modeAt (c .mode)) (scoringAt (c .scoring)) (ruleAt (c .rule) (c .start) (c .k)) (c .script)
 
--- an answer as number, count and rows; a count is at most a file's 1,048,576 documents, and would stop at the last that 32 bits hold
-pub record Given (a : rules.Outcome Float) (documents₀ : List ℕ) (scores₀ : List Float) (number count : ℕ) (documents : List ℕ) (scores : List Float) : Type 0 where
-  pub number-is : number ≡ a .code
-  pub count-is : count ≡ min (length (a .rows)) 4294967295
-  pub written : Written (a .rows) documents₀ scores₀ documents scores
+-- rows 1 to 11 in the table's order: a walk or a mode outside its numbers is 10, a scoring or a rule outside its numbers 11
+unfoldable pub callTests : Call → List Test
+callTests c =
+    fileTests (c .file)
+    ++ (test 10 (leb (c .walk) 1 && leb (c .mode) 2)
+    ∷ test 10 (queryRight (listCount (c .file)) (modeAt (c .mode)) (c .query))
+    ∷ test 11 (leb (c .scoring) 1 && leb (c .rule) 1)
+    ∷ test 11 (ruleRight (ruleAt (c .rule) (c .start) (c .k)) (scoringAt (c .scoring)) (c .script))
+    ∷ [])
+
+unfoldable pub callRefusal : Call → ℕ
+unfolding callTests
+callRefusal c = firstRefusal (callTests c)
+
+-- the list of a walk: 0 the route's, 1 the plain scan's
+abbrev pub ListBy : ℕ → Request → List (Report Float) → Type 0
+ListBy zero q list = SkippingList q list
+ListBy (suc n) q list = list ≡ plainList q
 
 -- what `noterank_run` gives
-pub record Ranked (file query : List ℕ) (walk mode scoring rule : ℕ) (start : Float) (k : ℕ) (script : List Float) (documents₀ : List ℕ) (scores₀ : List Float) (number count : ℕ) (documents : List ℕ) (scores : List Float) : Type 0 where
+pub record Ranked (c : Call) (old : Rows) (x : Result) : Type 0 where
   pub list : List (Report Float)
-  pub list-is : numberedRefusal file query walk mode scoring rule start k script ≡ 0 → ListBy walk file query (modeAt mode) (scoringAt scoring) (ruleAt rule start k) script list
-  pub given : Given (answer (numberedRefusal file query walk mode scoring rule start k script) (rowsOf documents₀ scores₀) list) documents₀ scores₀ number count documents scores
-
--- the run of a walk
-abbrev pub OutcomeBy : ℕ → List ℕ → List ℕ → Mode → Scoring → Rule → List Float → List ℕ → List Float → Outcome → List ℕ → List Float → Type 0
-OutcomeBy zero file query mode scoring rule script documents₀ scores₀ r documents scores = RunIs file query mode scoring rule script documents₀ scores₀ r documents scores
-OutcomeBy (suc n) file query mode scoring rule script documents₀ scores₀ r documents scores = PlainIs file query mode scoring rule script documents₀ scores₀ r documents scores
+  pub list-is : callRefusal c ≡ 0 → ListBy (c .walk) (requestOf c) list
+  pub given : Given (answer (callRefusal c) (rowsOf (old .documents) (old .scores)) list) old x

@@ -1,2 +1,3 @@
 -- What the C interface promises.
 pub mod Interface
+pub mod Inner

@@ -6,14 +6,19 @@ use ranking::outcome::Outcome;
 use ranking::plain::plain;
 use ranking::skipping::run;
 use request::Mode;
-use request::refusal;
+use request::query_refusal;
 use rule::Rule;
 ghost use mathlib.Core.Path.{_≡_};
-ghost use Prim.Native.Nat.{min};
+ghost use Prim.Native.Nat.{_<_};
 ghost use Rattle.arrays.specs.Lent.{before, after};
 ghost use Rattle.notefile.specs.Refusal.{fileRefusal};
+ghost use Rattle.notefile.specs.Inner.Order.{orElse};
+ghost use Rattle.reports.specs.Rows.{rows};
+ghost use Rattle.request.specs.Request.{asked};
 ghost use Rattle.ranking.specs.Answers.{countOf, numberOf};
-ghost use Rattle.noterank.specs.Interface.{modeAt, numbersRefusal, ruleAt, scoringAt, OutcomeBy, Ranked};
+ghost use Rattle.ranking.specs.Demand.{result};
+ghost use Rattle.noterank.specs.Interface.{called, modeAt, ruleAt, scoringAt, Ranked};
+ghost use Rattle.noterank.specs.Inner.Calls.{numbersRefusal, OutcomeBy};
 
 // 0 for an accepted file, or the number of its refusal.
 #[no_mangle]
@@ -26,6 +31,7 @@ pub extern "C" fn noterank_check(file: &[u8]) -> u32
     }
 }
 
+// The mode, the scoring and the rule of a number.
 fn mode_at(mode: u32) -> Mode
     ensures { λ r. ⌜ r ≡ modeAt mode ⌝ }
 {
@@ -56,8 +62,17 @@ fn rule_at(rule: u32, start: f32, k: u32) -> Rule
     Rule::BestK(start, k)
 }
 
-// The refusal of a walk, a mode, a scoring or a rule outside its numbers, or 0. No query is right for a single run over no list, and no rule
-// with a k of 0, so `refusal` gives the file's refusal first and then 10 or 11.
+// The first of two refusals, 0 being none.
+fn or_else(first: u32, later: u32) -> u32
+    ensures { λ r. ⌜ r ≡ orElse first later ⌝ }
+{
+    if first != 0 {
+        return first;
+    }
+    later
+}
+
+// The refusal of a walk, a mode, a scoring or a rule outside its numbers, in the table's order, or 0.
 fn numbers_refusal(
     file: &[u8],
     query: &[u32],
@@ -65,11 +80,9 @@ fn numbers_refusal(
     mode: u32,
     scoring: u32,
     rule: u32,
-    script: &[f32],
 ) -> u32
     ensures { λ r. ⌜ r ≡ numbersRefusal (before file) (before query) walk mode scoring rule ⌝ }
 {
-    let wrong = Rule::BestK(0.0, 0);
     if walk <= 1 {
         if mode <= 2 {
             if scoring <= 1 {
@@ -77,24 +90,10 @@ fn numbers_refusal(
                     return 0;
                 }
             }
-            return refusal(
-                file,
-                query,
-                mode_at(mode),
-                Scoring::Unstepped,
-                wrong,
-                script,
-            );
+            return or_else(query_refusal(file, query, mode_at(mode)), 11);
         }
     }
-    refusal(
-        file,
-        &query[..0],
-        Mode::Single,
-        Scoring::Unstepped,
-        wrong,
-        script,
-    )
+    or_else(noterank_check(file), 10)
 }
 
 // A run by its walk.
@@ -109,7 +108,9 @@ fn by_walk(
     documents: &mut [u32],
     scores: &mut [f32],
 ) -> Outcome
-    ensures { λ r. ⌜ OutcomeBy walk (before file) (before query) mode scoring rule (before script) (before documents) (before scores) r (after documents) (after scores) ⌝ }
+    ensures { λ r.
+        let q = asked (before file) (before query) mode scoring rule (before script) in
+        ⌜ OutcomeBy walk q (rows (before documents) (before scores)) r (rows (after documents) (after scores)) ⌝ }
 {
     if walk == 0 {
         return run(file, query, mode, scoring, rule, script, documents, scores);
@@ -127,21 +128,14 @@ fn number_of(outcome: Outcome) -> u32
     }
 }
 
-fn low_32_bits(count: usize) -> u32
-    ensures { λ r. ⌜ r ≡ min count 4294967295 ⌝ }
-{
-    if count < 4294967295 {
-        return count as u32;
-    }
-    4294967295
-}
-
+// A list has at most a file's 1,048,576 documents, so its count fits.
 fn count_of(outcome: Outcome) -> u32
-    ensures { λ r. ⌜ r ≡ min (countOf outcome) 4294967295 ⌝ }
+    requires { ⌜ countOf outcome < 4294967296 ⌝ }
+    ensures { λ r. ⌜ r ≡ countOf outcome ⌝ }
 {
     match outcome {
-        Outcome::Done(count) => low_32_bits(count),
-        Outcome::Full(count) => low_32_bits(count),
+        Outcome::Done(count) => count as u32,
+        Outcome::Full(count) => count as u32,
         Outcome::Refused(_) => 0,
     }
 }
@@ -162,9 +156,12 @@ pub extern "C" fn noterank_run(
     scores: &mut [f32],
     count: &mut u32,
 ) -> u32
-    ensures { λ r. ⌜ Ranked (before file) (before query) walk mode scoring rule start k (before script) (before documents) (before scores) r (after count) (after documents) (after scores) ⌝ }
+    ensures { λ r.
+        let c = called (before file) (before query) walk mode scoring rule start k (before script) in
+        let new = rows (after documents) (after scores) in
+        ⌜ Ranked c (rows (before documents) (before scores)) (result r (after count) new) ⌝ }
 {
-    let number = numbers_refusal(file, query, walk, mode, scoring, rule, script);
+    let number = numbers_refusal(file, query, walk, mode, scoring, rule);
     if number != 0 {
         *count = 0;
         return number;

@@ -66,7 +66,7 @@ rows-there : (rs : List (Report Float)) (ds : List ℕ) (ss : List Float) → ro
 rows-there [] ds ss = refl
 rows-there (r ∷ rs) ds ss = ap (λ (xs : List (Report Float)). r ∷ xs) (rows-there rs ds ss)
 
-rows-are : (a : rules.Outcome Float) (old : Rows) (x : Result) → Given a old x → listOf x ≡ a .rows
+pub rows-are : (a : rules.Outcome Float) (old : Rows) (x : Result) → Given a old x → listOf x ≡ a .rows
 rows-are a old x G =
     let W = G .written in
     ap (λ (n : ℕ). rowsIn n (x .rows .documents) (x .rows .scores)) (G .count-is)
@@ -95,7 +95,7 @@ pub one-rule-from : (rule : Rule) (script : List Float) (t : Float) → OneRule 
 one-rule-from (Script start) script t = refl
 one-rule-from (BestK start k) script t = refl
 
-all-named : (n : ℕ) (query : List ℕ) → ((q : ℕ) → q < length query → getD query q 0 < n) → All (λ l. l < n) query
+pub all-named : (n : ℕ) (query : List ℕ) → ((q : ℕ) → q < length query → getD query q 0 < n) → All (λ l. l < n) query
 all-named n [] h = tt
 all-named n (l ∷ ls) h = (h 0 (omega arith), all-named n ls (λ q k. h (suc q) (omega arith)))
 

@@ -4,3 +4,4 @@ pub mod Unions
 pub mod Intersections
 pub mod Answering
 pub mod Demand
+pub mod Counts

@@ -5,7 +5,7 @@ use mathlib.Core.List.{List, [], _∷_}
 use mathlib.Core.Logic.{_↔_}
 use Prim.Native.Nat.{ℕ, zero, suc}
 use lib.ListN.{length}
-use lib.Ieee.{Float, lt}
+use lib.Ieee.{Float, binary32, lt, toBits}
 use Rattle.route.specs.Lists.{All}
 use Rattle.route.specs.Score.{larger, smaller}
 use Rattle.route.specs.F32.{f32}
@@ -26,8 +26,11 @@ pub record Result : Type 0 where
   pub count : ℕ
   pub rows : Rows
 
+abbrev pub result : ℕ → ℕ → Rows → Result
+result number count rows = record { number = number; count = count; rows = rows }
+
 abbrev pub resultOf : Outcome → Rows → Result
-resultOf r rows = record { number = numberOf r; count = countOf r; rows = rows }
+resultOf r rows = result (numberOf r) (countOf r) rows
 
 -- a run has an answer, by its number, its count and its rows
 pub record Given (a : rules.Outcome Float) (old : Rows) (x : Result) : Type 0 where
@@ -41,6 +44,10 @@ rowsIn zero documents scores = []
 rowsIn (suc n) [] scores = []
 rowsIn (suc n) (d ∷ documents) [] = []
 rowsIn (suc n) (d ∷ documents) (s ∷ scores) = record { doc = d; score = s } ∷ rowsIn n documents scores
+
+-- a row by its score's bits; no score written is a NaN, so rows are the same exactly if these are
+abbrev pub bitsOf : Report Float → Report ℕ
+bitsOf r = record { doc = r .doc; score = toBits binary32 (r .score) }
 
 abbrev pub listOf : Result → List (Report Float)
 listOf x = rowsIn (x .count) (x .rows .documents) (x .rows .scores)

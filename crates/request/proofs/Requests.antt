@@ -114,7 +114,7 @@ lists-are file e = ap (λ (h : Header). h .lists) e
 
 module _ (q : Request) where
   -- what rows 1 to 10 refuse, or else the rule's
-  request-or : refusalOf q ≡ orElse (firstRefusal (queryTests (q .file) (q .query) (q .mode))) (unless (ruleRight (q .rule) (q .scoring) (q .script)) 11 0)
+  pub request-or : refusalOf q ≡ orElse (firstRefusal (queryTests (q .file) (q .query) (q .mode))) (unless (ruleRight (q .rule) (q .scoring) (q .script)) 11 0)
   unfolding refusalOf
   request-or = first-append 11 (queryTests (q .file) (q .query) (q .mode)) (test 11 (ruleRight (q .rule) (q .scoring) (q .script)) ∷ []) (query-numbered (q .file) (q .query) (q .mode))
 

@@ -1,5 +1,6 @@
 -- `by_walk` meets its contract: by the walk's number.
 use borrow.Author.Needs.{needs}
+use Rattle.request.specs.Request.{asked}
 use Rattle.noterank.proofs.Numbers.{skipping-by, plain-by}
 use Rattle.noterank.proofs.by_walk.Statement.{statement}
 use Rattle.noterank.proofs.by_walk.Tie as tie
@@ -18,7 +19,7 @@ returns c =
     let r = c .before .before .before .before in
     let t = r .before .before .before in
     let a = t .before .before .before .before .before .before in
-    skipping-by (a .args .file .now) (a .args .query .now) (a .args .mode) (a .args .scoring) (a .args .rule) (a .args .script .now) (a .args .documents .now) (a .args .scores .now) (r .run .result) _ _ (a .args .walk) (t .if1 .taken) (r .run .ensures)
+    skipping-by (asked (a .args .file .now) (a .args .query .now) (a .args .mode) (a .args .scoring) (a .args .rule) (a .args .script .now)) _ _ (r .run .result) (a .args .walk) (t .if1 .taken) (r .run .ensures)
 
 plain-requires : tie.Need-plain-requires
 plain-requires c κs = search needs
@@ -34,7 +35,7 @@ returns-2 c =
     let r = c .before .before .before .before in
     let t = r .before .before .before in
     let a = t .before .before .before .before .before .before in
-    plain-by (a .args .file .now) (a .args .query .now) (a .args .mode) (a .args .scoring) (a .args .rule) (a .args .script .now) (a .args .documents .now) (a .args .scores .now) (r .plain .result) _ _ (a .args .walk) (t .if1 .left) (r .plain .ensures)
+    plain-by (asked (a .args .file .now) (a .args .query .now) (a .args .mode) (a .args .scoring) (a .args .rule) (a .args .script .now)) _ _ (r .plain .result) (a .args .walk) (t .if1 .left) (r .plain .ensures)
 
 pub by-walk-spec : {M : Type 1} → statement M
 by-walk-spec =
