@@ -78,6 +78,7 @@ module _ (O : Ops) (P : O .S → Type 0) (Z : Summed O P) (q : List (Postings (O
   -- ---- skipping runs
 
   module _ (B N : ℕ) (ok : All (ListOk B N) q) where
+    -- the list that a run over W leaves rises below N, and has P
     abbrev Lists : Route (O .S) → Type 0
     Lists W = (rows : List (Report (O .S))) → Ends K W [] rows → Listed P N rows
 
