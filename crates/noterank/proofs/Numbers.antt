@@ -107,10 +107,16 @@ module _ (c : Call) where
   abbrev f : ℕ
   f = fileRefusal (c .file)
 
-  abbrev walk-in mode-right scoring-in rule-in : Bool
+  abbrev walk-in : Bool
   walk-in = leb (c .walk) 1 && leb (c .mode) 2
+
+  abbrev mode-right : Bool
   mode-right = queryRight (listCount (c .file)) (modeAt (c .mode)) (c .query)
+
+  abbrev scoring-in : Bool
   scoring-in = leb (c .scoring) 1 && leb (c .rule) 1
+
+  abbrev rule-in : Bool
   rule-in = ruleRight (ruleAt (c .rule) (c .start) (c .k)) (scoringAt (c .scoring)) (c .script)
 
   abbrev numbers : ℕ

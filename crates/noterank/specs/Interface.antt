@@ -46,19 +46,6 @@ pub record Call : Type 0 where
   pub k : ℕ
   pub script : List Float
 
-abbrev pub called : List ℕ → List ℕ → ℕ → ℕ → ℕ → ℕ → Float → ℕ → List Float → Call
-called file query walk mode scoring rule start k script = record {
-  file = file;
-  query = query;
-  walk = walk;
-  mode = mode;
-  scoring = scoring;
-  rule = rule;
-  start = start;
-  k = k;
-  script = script;
-}
-
 -- what they ask for
 abbrev pub requestOf : Call → Request
 requestOf c = asked (c .file) (c .query) (modeAt (c .mode)) (scoringAt (c .scoring)) (ruleAt (c .rule) (c .start) (c .k)) (c .script)

@@ -17,7 +17,7 @@ ghost use Rattle.reports.specs.Rows.{rows};
 ghost use Rattle.request.specs.Request.{asked};
 ghost use Rattle.ranking.specs.Answers.{countOf, numberOf};
 ghost use Rattle.ranking.specs.Demand.{result};
-ghost use Rattle.noterank.specs.Interface.{called, modeAt, ruleAt, scoringAt, Ranked};
+ghost use Rattle.noterank.specs.Interface.{modeAt, ruleAt, scoringAt, Ranked};
 ghost use Rattle.noterank.specs.Inner.Calls.{numbersRefusal, OutcomeBy};
 
 // 0 for an accepted file, or the number of its refusal.
@@ -157,9 +157,13 @@ pub extern "C" fn noterank_run(
     count: &mut u32,
 ) -> u32
     ensures { λ r.
-        let c = called (before file) (before query) walk mode scoring rule start k (before script) in
+        let old = rows (before documents) (before scores) in
         let new = rows (after documents) (after scores) in
-        ⌜ Ranked c (rows (before documents) (before scores)) (result r (after count) new) ⌝ }
+        ⌜ Ranked
+            (record {
+                file = before file; query = before query; walk = walk; mode = mode; scoring = scoring; rule = rule; start = start; k = k;
+                script = before script })
+            old (result r (after count) new) ⌝ }
 {
     let number = numbers_refusal(file, query, walk, mode, scoring, rule);
     if number != 0 {

@@ -1,9 +1,29 @@
 -- `noterank_run` meets its contract: the numbers first, then the walk's run.
 use mathlib.Core.Path.{sym, _∙_}
 use borrow.Author.Needs.{needs}
-use Rattle.noterank.proofs.Numbers.{refused-ranked, walk-ranked}
+use Rattle.reports.specs.Rows.{rows}
+use Rattle.request.specs.Request.{asked}
+use Rattle.noterank.specs.Interface.{Call}
+use Rattle.noterank.proofs.Numbers.{refused-ranked, walk-ranked, few-by}
 use Rattle.noterank.proofs.noterank_run.Statement.{statement}
 use Rattle.noterank.proofs.noterank_run.Tie as tie
+
+abbrev call : tie.Start → Call
+call a = record {
+  file = a .args .file .now;
+  query = a .args .query .now;
+  walk = a .args .walk;
+  mode = a .args .mode;
+  scoring = a .args .scoring;
+  rule = a .args .rule;
+  start = a .args .start;
+  k = a .args .k;
+  script = a .args .script .now;
+}
+
+-- where the function began
+abbrev start : tie.After-numbers-refusal → tie.Start
+start c = c .before .before .before .before .before .before
 
 numbers-refusal-requires : tie.Need-numbers-refusal-requires
 numbers-refusal-requires c κs = search needs
@@ -11,8 +31,8 @@ numbers-refusal-requires c κs = search needs
 returns : tie.Need-returns
 returns c =
     let n = c .before in
-    let a = n .before .before .before .before .before .before in
-    refused-ranked (a .args .file .now) (a .args .query .now) (a .args .walk) (a .args .mode) (a .args .scoring) (a .args .rule) (a .args .start) (a .args .k) (a .args .script .now) (a .args .documents .now) (a .args .scores .now) (n .numbers-refusal .ensures) (c .if1 .taken)
+    let a = start n in
+    refused-ranked (call a) (rows (a .args .documents .now) (a .args .scores .now)) (n .numbers-refusal .ensures) (c .if1 .taken)
 
 mode-at-requires : tie.Need-mode-at-requires
 mode-at-requires c κs = search needs
@@ -27,7 +47,16 @@ by-walk-requires : tie.Need-by-walk-requires
 by-walk-requires c κs = search needs
 
 count-of-requires : tie.Need-count-of-requires
-count-of-requires c κs = search needs
+count-of-requires c κs =
+    let b = c .before .before .before .before in
+    let u = b .before .before .before in
+    let s = u .before in
+    let m = s .before in
+    let n = m .before .before in
+    let a = start n in
+    let file = n .before .before .before .before .before in
+    few-by (asked (a .args .file .now) (a .args .query .now) (m .mode-at .result) (s .scoring-at .result) (u .rule-at .result) (a .args .script .now)) _ _ (b .by-walk .result)
+    (λ k. file .shared-slice-known .given k .fits) (a .args .walk) (b .by-walk .ensures)
 
 number-of-requires : tie.Need-number-of-requires
 number-of-requires c κs = search needs
@@ -47,8 +76,8 @@ returns-2 c =
     let m = s .before in
     let e = m .before in
     let n = e .before in
-    let a = n .before .before .before .before .before .before in
-    walk-ranked (a .args .file .now) (a .args .query .now) (a .args .walk) (a .args .mode) (a .args .scoring) (a .args .rule) (a .args .start) (a .args .k) (a .args .script .now) (m .mode-at .ensures) (s .scoring-at .ensures) (u .rule-at .ensures) (sym (n .numbers-refusal .ensures) ∙ e .if1 .left) (b .by-walk .result) (b .by-walk .ensures) (c .number-of .ensures) (k .count-of .ensures)
+    walk-ranked (call (start n)) (m .mode-at .ensures) (s .scoring-at .ensures) (u .rule-at .ensures) (sym (n .numbers-refusal .ensures) ∙ e .if1 .left) (b .by-walk .result) (b .by-walk .ensures)
+    (c .number-of .ensures) (k .count-of .ensures)
 
 pub noterank-run-spec : {M : Type 1} → statement M
 noterank-run-spec =
