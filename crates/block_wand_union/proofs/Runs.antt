@@ -46,7 +46,7 @@ use Rattle.block_wand_union.proofs.Seats.{same-doc}
 abbrev pub routeFrom : List (Scorer Float) → Route Float
 routeFrom ss =
     let W = pivotRoute 128 f32 [] in
-    record { Place = UnionPlace Float; first = goOn ss; ended = W .ended; turn = W .turn; scorers = W .scorers; loads = W .loads; lateLoads = W .lateLoads }
+    record { Place = UnionPlace Float; first = goOn ss; ended = W .ended; turn = W .turn; scorers = W .scorers }
 
 module _ (file : List ℕ) (lists : List (List ℕ)) (maxScores : List Float) where
   -- a scorer that was just opened is safe on the route

@@ -16,7 +16,7 @@ use Rattle.rule.specs.Rules.{startOf}
 use Rattle.rule.specs.declared.Rule.{Rule}
 use Rattle.rule.specs.declared.Rule.the-variants.{Script, BestK}
 use Rattle.reports.specs.Rows.{Rows}
-use Rattle.request.specs.Request.{Request}
+use Rattle.request.specs.Request.{Request, asked}
 use Rattle.ranking.specs.Answers.{numberOf, countOf, plainList, WrittenIn}
 use Rattle.ranking.specs.declared.outcome.Outcome.{Outcome}
 
@@ -73,14 +73,7 @@ startAt (Script start) t = Script t
 startAt (BestK start k) t = BestK t k
 
 abbrev pub from : Request → Float → Request
-from q t = record {
-  file = q .file;
-  query = q .query;
-  mode = q .mode;
-  scoring = q .scoring;
-  rule = startAt (q .rule) t;
-  script = q .script;
-}
+from q t = asked (q .file) (q .query) (q .mode) (q .scoring) (startAt (q .rule) t) (q .script)
 
 -- Of a skipping run of q and a plain run of p that both returned 0: their lists are the same exactly when everything that the plain scan from the
 -- lower of the two starts reports is above the higher. No limit on rows is in the scan.

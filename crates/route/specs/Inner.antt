@@ -5,3 +5,4 @@ pub mod Cursors
 pub mod Orders
 pub mod Singles
 pub mod Unions
+pub mod Loads

@@ -1,14 +1,14 @@
 -- The route of `block_wand_intersection`: windows in which all present block bounds hold, and the leader's candidates in each.
 use mathlib.Core.Bool.{Bool, true, false, cond}
 use mathlib.Core.Option.{Option, none, some}
-use mathlib.Core.List.{List, [], _∷_, _++_, map}
+use mathlib.Core.List.{List, [], _∷_, map}
 use Prim.Native.Nat.{ℕ, zero, suc, min, _-_}
 use lib.Dec.{eqb, ltb}
 use Rattle.route.specs.Score.{Ops, sum, sumBack}
 use Rattle.route.specs.Report.{Report, dueAt}
 use Rattle.route.specs.Postings.{Postings, TERMINATED, start}
 use Rattle.route.specs.Cursor.{findIn}
-use Rattle.route.specs.Scorer.{Scorer, Load, onceLoaded, onCur, docOf, scoreHere, maxScore, seekBlock, seek, seekLoads, blockMaxScore}
+use Rattle.route.specs.Scorer.{Scorer, onCur, docOf, scoreHere, maxScore, seekBlock, seek, blockMaxScore}
 use Rattle.route.specs.Route.{Turn, quiet, Route}
 use Rattle.route.specs.Union.{leastLastDoc}
 
@@ -147,41 +147,6 @@ module _ (B : ℕ) (O : Ops) where
       quiet (record { stage = cond (O .above (maxScoreSum O ld ss) t) (within cs e bs) over; doc = d; leader = ld; secs = ss })
   interBy over t d ld ss = quiet (record { stage = over; doc = d; leader = ld; secs = ss })
 
-  -- ---- loads, in order
-
-  -- the loads of the secondaries that seek a candidate
-  abbrev pub tryLoads : ℕ → O .S → O .S → List (Scorer (O .S)) → List (O .S) → List Load
-  tryLoads c t tot [] bs = []
-  tryLoads c t tot (s ∷ ss) bs =
-      let s′ = seek B c s in
-      let tot′ = O .add tot (scoreHere s′) in
-      let on = tryLoads c t tot′ ss (tailOf bs) in
-      cond (ltb c (docOf s)) []
-      (seekLoads B c s
-      ++ cond (eqb (docOf s′) c) (cond (O .above (O .add tot′ (sumBack O (tailOf bs))) t) on []) [])
-
-  -- the load of the leader's block, in a window that can exceed the threshold
-  abbrev pub windowLoads : O .S → ℕ → Scorer (O .S) → List (Scorer (O .S)) → List Load
-  windowLoads t d ld ss =
-      let ld′ = seekBlock B d ld in
-      let bs = map (blockMaxScore B O) (seekBlockAll B d ss) in
-      cond (ltb d TERMINATED)
-      (cond (allRemain B d ss)
-      (cond (O .above (O .add (blockMaxScore B O ld′) (sum O bs)) t)
-      (onceLoaded (ld′ .cur .loaded) (record { ord = ld .ord; block = ld′ .cur .blk }))
-      [])
-      [])
-      []
-
-  -- the loads of a turn
-  abbrev pub interLoads : Stage (O .S) → O .S → ℕ → Scorer (O .S) → List (Scorer (O .S)) → List Load
-  interLoads early t d ld ss = []
-  interLoads window t d ld ss = windowLoads t d ld ss
-  interLoads (within [] e bs) t d ld ss = []
-  interLoads (within (c ∷ cs) e bs) t d ld ss = tryLoads (c .doc) t (c .score) ss bs
-  interLoads (called cs e bs) t d ld ss = []
-  interLoads over t d ld ss = []
-
   -- `block_wand_intersection` behind its `sort_by_key`, with the leader split off
   abbrev pub leaderRoute : Scorer (O .S) → List (Scorer (O .S)) → Route (O .S)
   leaderRoute ld ss = record {
@@ -190,6 +155,4 @@ module _ (B : ℕ) (O : Ops) where
     ended = λ u. isOver (u .stage);
     turn = λ t u. interBy (u .stage) t (u .doc) (u .leader) (u .secs);
     scorers = λ u. u .leader ∷ u .secs;
-    loads = λ t u. interLoads (u .stage) t (u .doc) (u .leader) (u .secs);
-    lateLoads = λ t u. [];
   }

@@ -2,10 +2,10 @@
 use mathlib.Core.Bool.{Bool, true}
 use mathlib.Core.Option.{Option, none}
 use mathlib.Core.Path.{_≡_}
-use mathlib.Core.List.{List, [], _++_}
+use mathlib.Core.List.{List}
 use Prim.Native.Nat.{ℕ, zero, suc}
 use Rattle.route.specs.Report.{Report, Callback, reported}
-use Rattle.route.specs.Scorer.{Scorer, Load}
+use Rattle.route.specs.Scorer.{Scorer}
 
 -- What a turn leaves: the next place, and a report if one is due.
 pub record Turn (P S : Type 0) : Type 0 where
@@ -16,16 +16,13 @@ pub record Turn (P S : Type 0) : Type 0 where
 abbrev pub quiet : {P S : Type 0} → P → Turn P S
 quiet p = record { next = p; due = none }
 
--- A turn is a function of the place before it and of the threshold of the moment, and so are its loads: `loads` come before
--- its report, `lateLoads` behind it. At its end a route stays.
+-- A turn is a function of the place before it and of the threshold of the moment. At its end a route stays.
 pub record Route (S : Type 0) : Type 1 where
   pub Place : Type 0
   pub first : Place
   pub ended : Place → Bool
   pub turn : S → Place → Turn Place S
   pub scorers : Place → List (Scorer S)
-  pub loads : S → Place → List Load
-  pub lateLoads : S → Place → List Load
 
 -- a run on its way: where the route stands, and the callback's state
 pub record Run (P R : Type 0) : Type 0 where
@@ -43,14 +40,6 @@ module _ {S : Type 0} (K : Callback S) (W : Route S) where
   abbrev pub after : K .State → ℕ → Run (W .Place) (K .State)
   after r zero = record { place = W .first; state = r }
   after r (suc n) = step (after r n)
-
-  -- the loads of the first n steps, in order
-  abbrev pub loadsOf : K .State → ℕ → List Load
-  loadsOf r zero = []
-  loadsOf r (suc n) =
-      let u = after r n in
-      let t = K .threshold (u .state) in
-      loadsOf r n ++ (W .loads t (u .place) ++ W .lateLoads t (u .place))
 
   -- The run from r ends, and leaves the callback in the state `total`.
   pub record Ends (r total : K .State) : Type 0 where

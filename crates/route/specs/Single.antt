@@ -1,13 +1,13 @@
 -- The route of `block_wand_single_scorer`: hunt for a block whose bound exceeds the threshold, then walk it.
 use mathlib.Core.Bool.{Bool, true, false, cond}
-use mathlib.Core.List.{List, [], _∷_}
+use mathlib.Core.List.{[], _∷_}
 use Prim.Native.Nat.{ℕ, suc}
 use lib.Dec.{eqb}
 use Rattle.route.specs.Score.{Ops}
 use Rattle.route.specs.Report.{dueAt}
 use Rattle.route.specs.Postings.{Postings, TERMINATED, lastDoc}
 use Rattle.route.specs.Cursor.{Cursor, docHere, seekBlockIn, seekIn, advanceIn, blockMax}
-use Rattle.route.specs.Scorer.{Scorer, Load, onCur, docOf, seekLoads, advanceLoads}
+use Rattle.route.specs.Scorer.{Scorer, onCur, docOf}
 use Rattle.route.specs.Route.{Turn, quiet, Route}
 
 -- at the inner `while`; at the inner `loop`; returned
@@ -60,18 +60,6 @@ module _ (B : ℕ) (O : Ops) (l : Postings (O .S)) where
   singleTurn t p = singleBy (p .phase) t (p .cur) (p .doc)
 
 module _ (B : ℕ) (O : Ops) (s : Scorer (O .S)) where
-  -- the load of `scorer.seek(doc)`
-  abbrev pub huntLoads : Phase → O .S → Cursor → ℕ → List Load
-  huntLoads hunt t c d = cond (O .above (blockMax B O (s .list) c) t) (seekLoads B d (onCur s c)) []
-  huntLoads walk t c d = []
-  huntLoads over t c d = []
-
-  -- the load of `scorer.advance()`, behind the report
-  abbrev pub walkLoads : Phase → Cursor → ℕ → List Load
-  walkLoads hunt c d = []
-  walkLoads walk c d = cond (eqb d (lastDoc (s .list) B (c .blk))) [] (advanceLoads B (onCur s c))
-  walkLoads over c d = []
-
   -- `block_wand_single_scorer`
   abbrev pub blockWandSingleScorer : Route (O .S)
   blockWandSingleScorer = record {
@@ -80,6 +68,4 @@ module _ (B : ℕ) (O : Ops) (s : Scorer (O .S)) where
     ended = λ p. isOver (p .phase);
     turn = singleTurn B O (s .list);
     scorers = λ p. onCur s (p .cur) ∷ [];
-    loads = λ t p. huntLoads (p .phase) t (p .cur) (p .doc);
-    lateLoads = λ t p. walkLoads (p .phase) (p .cur) (p .doc);
   }

@@ -1,14 +1,14 @@
 -- Skipping runs of every mode: one definition of the route, and one of a run's list.
 use mathlib.Core.Bool.{true}
-use mathlib.Core.List.{List, [], _∷_, _++_}
+use mathlib.Core.List.{List, [], _∷_}
 use Prim.Native.Nat.{ℕ}
 use Rattle.route.specs.Score.{Ops}
 use Rattle.route.specs.Report.{Report}
 use Rattle.route.specs.Rule.{Rule, ruled}
 use Rattle.route.specs.Postings.{Postings}
 use Rattle.route.specs.Ordering.{sortBy, retain}
-use Rattle.route.specs.Scorer.{Scorer, Load, docOf, sizeHint, scorersFrom, openLoads}
-use Rattle.route.specs.Route.{Route, quiet, Ends, loadsOf}
+use Rattle.route.specs.Scorer.{Scorer, docOf, sizeHint, scorersFrom}
+use Rattle.route.specs.Route.{Route, quiet, Ends}
 use Rattle.route.specs.Single.{blockWandSingleScorer}
 use Rattle.route.specs.Union.{blockWand}
 use Rattle.route.specs.Intersection.{leaderRoute}
@@ -16,7 +16,7 @@ use Rattle.route.specs.Plain.{Mode, union, intersection, single}
 
 -- The route of a query that refusal 10 stops: no turn is taken.
 abbrev pub noRoute : {S : Type 0} → Route S
-noRoute = record { Place = Unit {0}; first = tt; ended = λ p. true; turn = λ t p. quiet p; scorers = λ p. []; loads = λ t p. []; lateLoads = λ t p. [] }
+noRoute = record { Place = Unit {0}; first = tt; ended = λ p. true; turn = λ t p. quiet p; scorers = λ p. [] }
 
 module _ (B : ℕ) (O : Ops) where
   -- a single run takes one list (01, refusal 10)
@@ -40,7 +40,3 @@ module _ (B : ℕ) (O : Ops) where
   -- The list of the skipping run over q from `start` is `rows`.
   abbrev pub Skips : Mode → List (Postings (O .S)) → Rule (O .S) → O .S → List (Report (O .S)) → Type 0
   Skips m q rule start rows = Ends (ruled O rule start) (route m q) [] rows
-
-  -- the blocks loaded in the first n steps, behind the first block of every scorer, in query order
-  abbrev pub skippingLoads : Mode → List (Postings (O .S)) → Rule (O .S) → O .S → ℕ → List Load
-  skippingLoads m q rule start n = openLoads (scorersFrom 0 q) ++ loadsOf (ruled O rule start) (route m q) [] n

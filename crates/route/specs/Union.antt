@@ -9,7 +9,7 @@ use Rattle.route.specs.Score.{Ops, sum}
 use Rattle.route.specs.Report.{dueAt}
 use Rattle.route.specs.Postings.{TERMINATED}
 use Rattle.route.specs.Ordering.{restoreOrdering, sortBy, sweep, putBack}
-use Rattle.route.specs.Scorer.{Scorer, Load, docOf, scoreHere, maxScore, lastDocInBlock, seekBlock, seek, advance, seekLoads, advanceLoads, blockMaxScore}
+use Rattle.route.specs.Scorer.{Scorer, docOf, scoreHere, maxScore, lastDocInBlock, seekBlock, seek, advance, blockMaxScore}
 use Rattle.route.specs.Route.{Turn, quiet, Route}
 use Rattle.route.specs.Single.{blockWandSingleScorer}
 
@@ -95,28 +95,6 @@ module _ {S : Type 0} where
     abbrev pub advanceAllScorersOnPivot : List (Scorer S) → List (Scorer S) → List (Scorer S)
     advanceAllScorersOnPivot on post = let all = map (advance B) on ++ post in sortBy docOf (sweep docOf (length all) all)
 
-    -- ---- loads, in order
-
-    -- of scorers that advance, in their order
-    abbrev pub advanceAllLoads : List (Scorer S) → List Load
-    advanceAllLoads [] = []
-    advanceAllLoads (s ∷ ss) = advanceLoads B s ++ advanceAllLoads ss
-
-    -- of s, behind those of the scorers that sought before it
-    abbrev pub alignOnLoads : ℕ → Scorer S → List Load → Aligned S → List Load
-    alignOnLoads p s done (missed m) = done
-    alignOnLoads p s done (aligned ss) = done ++ seekLoads B p s
-
-    -- of `align_scorers`, up to the one that misses
-    abbrev pub alignLoads : ℕ → List (Scorer S) → List Load
-    alignLoads p [] = []
-    alignLoads p (s ∷ ss) = alignOnLoads p s (alignLoads p ss) (alignScorers p ss)
-
-    -- of the scorers on the pivot, if all came to it
-    abbrev pub pivotLoads : Aligned S → List (Scorer S) → List Load
-    pivotLoads (missed m) piv = []
-    pivotLoads (aligned pre) piv = advanceAllLoads (pre ++ piv)
-
 module _ (O : Ops) where
   -- the `while` of `find_pivot_doc`, with the list bounds added up so far
   abbrev pub pivotFrom : O .S → O .S → List (Scorer (O .S)) → Option (Pivot (O .S))
@@ -174,27 +152,6 @@ module _ (B : ℕ) (O : Ops) where
   abbrev pub unionTurn : O .S → UnionPlace (O .S) → Turn (UnionPlace (O .S)) (O .S)
   unionTurn t u = cond (u .more) (afterPivot t (findPivotDoc O t (u .scorers)) (u .scorers)) (quiet u)
 
-  -- of the one scorer that seeks past blocks too low
-  abbrev pub tooLowLoads : List (Scorer (O .S)) → List (Scorer (O .S)) → List Load
-  tooLowLoads [] post = []
-  tooLowLoads (x ∷ xs) post = seekLoads B (leastDoc (behind (leastLastDoc B x xs)) post) (scorerToSeek O x xs .one)
-
-  -- the loads of `align_scorers`, or of the one scorer that seeks
-  abbrev pub unionLoads : O .S → Option (Pivot (O .S)) → List Load
-  unionLoads t none = []
-  unionLoads t (some c) =
-      let pre = map (seekBlock B (c .doc)) (c .pre) in
-      let piv = map (seekBlock B (c .doc)) (c .piv) in
-      cond (O .above (sum O (map (blockMaxScore B O) (pre ++ piv))) t) (alignLoads B (c .doc) pre) (tooLowLoads (pre ++ piv) (c .post))
-
-  -- those of `advance_all_scorers_on_pivot`, behind the report
-  abbrev pub advancedLoads : O .S → Option (Pivot (O .S)) → List Load
-  advancedLoads t none = []
-  advancedLoads t (some c) =
-      let pre = map (seekBlock B (c .doc)) (c .pre) in
-      let piv = map (seekBlock B (c .doc)) (c .piv) in
-      cond (O .above (sum O (map (blockMaxScore B O) (pre ++ piv))) t) (pivotLoads B (alignScorers B (c .doc) pre) piv) []
-
   -- the loop of `block_wand`, over scorers with a document each
   abbrev pub pivotRoute : List (Scorer (O .S)) → Route (O .S)
   pivotRoute ss = record {
@@ -203,8 +160,6 @@ module _ (B : ℕ) (O : Ops) where
     ended = λ u. not (u .more);
     turn = unionTurn;
     scorers = λ u. u .scorers;
-    loads = λ t u. cond (u .more) (unionLoads t (findPivotDoc O t (u .scorers))) [];
-    lateLoads = λ t u. cond (u .more) (advancedLoads t (findPivotDoc O t (u .scorers))) [];
   }
 
   -- `block_wand` behind its `retain`: one scorer left goes to the single scan, none leaves no pivot to find
