@@ -16,7 +16,8 @@ fn below(x: u32, target: u32) -> usize
 // Of eight segments of `step` values from base on, how many of the first seven end below the target: the number of the segment in which the
 // count lies.
 fn segment(values: &[u32; 128], base: usize, step: usize, target: u32) -> usize
-    requires { ⌜ Sorted (now values) × (0 < step) × (base + 8 * step ≤ 128) × (base ≤ countBelow 128 (now values) target) × (countBelow 128 (now values) target ≤ base + 8 * step) ⌝ }
+    requires { let count = countBelow 128 (now values) target in
+        ⌜ Sorted (now values) × (0 < step) × (base + 8 * step ≤ 128) × (base ≤ count) × (count ≤ base + 8 * step) ⌝ }
     ensures { λ r. ⌜ Segment (countBelow 128 (before values) target) base step r ⌝ }
 {
     below(values[base + step - 1], target)

@@ -84,7 +84,8 @@ pub fn decode_block_wand_max_tf(max_tf_code: u8) -> u32
     max_tf_code as u32
 }
 
-// One document's score from a list's norms in a lent array: `score` without a copy of its struct, for places that score one posting at a time.
+// One document's score from a list's norms in a lent array: `score` without a copy of its struct, for places that score one posting at a
+// time.
 pub fn score_by(
     cache: &[f32; 256],
     weight: f32,

@@ -117,7 +117,8 @@ fn step_all(scores: &mut [f32; 128])
     }
 }
 
-// The scores of 128 postings, by their documents and frequencies. The norms are lent: a list's struct is 1 KB, and a copy of it costs as much as several scores.
+// The scores of 128 postings, by their documents and frequencies. The norms are lent: a list's struct is 1 KB, and a copy of it costs as
+// much as several scores.
 pub fn score_block(
     file: &[u8],
     reader: FieldNormReader,

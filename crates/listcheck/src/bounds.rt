@@ -30,7 +30,8 @@ fn covered(scores: &[f32; 128], n: usize, bound: f32) -> bool
     right
 }
 
-// Whether neither bound lies below a score of the first n postings. Scores are made for the whole block at once, and the lower bound is compared for both.
+// Whether neither bound lies below a score of the first n postings. Scores are made for the whole block at once, and the lower bound is
+// compared for both.
 pub fn both_cover(
     file: &[u8],
     reader: FieldNormReader,
@@ -43,9 +44,11 @@ pub fn both_cover(
     docs: &[u32; 128],
     freqs: &[u32; 128],
 ) -> bool
-    requires { ⌜ (reader ≡ normReader (now file)) × WeighedIn x weight (now cache) × (n ≤ 128) × T (within 1000 top) × T (within 1000 bound) ⌝ }
-    ensures { λ r. ⌜ r ≡ allCovered top n (scoreAmong (before file) x (before docs) (before freqs))
-        && allCovered bound n (scoreAmong (before file) x (before docs) (before freqs)) ⌝ }
+    requires { ⌜ (reader ≡ normReader (now file)) × WeighedIn x weight (now cache) × (n ≤ 128)
+        × T (within 1000 top) × T (within 1000 bound) ⌝ }
+    ensures { λ r.
+        let score = scoreAmong (before file) x (before docs) (before freqs) in
+        ⌜ r ≡ allCovered top n score && allCovered bound n score ⌝ }
 {
     let mut scores = [0.0f32; 128];
     bm25_block::score_block(

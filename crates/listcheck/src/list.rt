@@ -35,7 +35,8 @@ fn check_block(
     b: usize,
     at: usize,
 ) -> u32
-    requires { ⌜ Against (now file) x limit reader weight (now cache) top × PackedIn (now file) x b at × (lastBefore (now file) x b ≡ previousDoc (now file) x b) ⌝ }
+    requires { ⌜ Against (now file) x limit reader weight (now cache) top × PackedIn (now file) x b at
+        × (lastBefore (now file) x b ≡ previousDoc (now file) x b) ⌝ }
     ensures { λ r. ⌜ r ≡ blockRefusal (before file) x b ⌝ }
 {
     let e = read_skip_entry(file, x, b);
@@ -68,7 +69,8 @@ fn check_tail(
     docs: &mut [u32; 128],
     freqs: &mut [u32; 128],
 ) -> u32
-    requires { ⌜ Against (now file) x limit reader weight (now cache) top × Skipped (now file) x × TailValues (now file) x (now docs) (now freqs)
+    requires { ⌜ Against (now file) x limit reader weight (now cache) top × Skipped (now file) x
+        × TailValues (now file) x (now docs) (now freqs)
         × (lastBefore (now file) x (fullBlocks x) ≡ previousDoc (now file) x (fullBlocks x)) ⌝ }
     ensures { λ r. ⌜ r ≡ blockRefusal (before file) x (fullBlocks x) ⌝ }
 {
@@ -135,7 +137,8 @@ fn check_blocks(
 
 // What a list is refused for: 5 to 9, or nothing.
 pub fn check_list(file: &[u8], limit: u32, reader: FieldNormReader, x: Part) -> u32
-    requires { ⌜ Parted (now file) x × Limits x × (limit ≡ documents (now file)) × (limit ≤ 1048576) × (reader ≡ normReader (now file)) ⌝ }
+    requires { ⌜ Parted (now file) x × Limits x
+        × (limit ≡ documents (now file)) × (limit ≤ 1048576) × (reader ≡ normReader (now file)) ⌝ }
     ensures { λ r. ⌜ r ≡ listRefusal (before file) x ⌝ }
 {
     let place = tail_place(file, x);

@@ -33,8 +33,8 @@ pub fn packed_docs(
     limit: u32,
     docs: &mut [u32; 128],
 ) -> bool
-    requires { ⌜ PackedIn (now file) x b at × (e ≡ skipEntryOf (now file) x b) × (previous ≡ previousDoc (now file) x b) × (limit ≡ documents (now file)) × (limit ≤ 1048576)
-        × (length (now docs) ≡ 128) ⌝ }
+    requires { ⌜ PackedIn (now file) x b at × (e ≡ skipEntryOf (now file) x b) × (previous ≡ previousDoc (now file) x b)
+        × (limit ≡ documents (now file)) × (limit ≤ 1048576) × (length (now docs) ≡ 128) ⌝ }
     ensures { λ r. ⌜ DocsRead (before file) x b r (after docs) ⌝ }
 {
     unpack(file, at, e.width, docs);
@@ -136,7 +136,8 @@ pub fn load_tail(
     docs: &mut [u32; 128],
     freqs: &mut [u32; 128],
 )
-    requires { ⌜ Skipped (now file) x × (at ≡ tailAt (now file) x) × (postingsRight (now file) x ≡ true) × BlockRight (now file) x (fullBlocks x) previous ⌝ }
+    requires { ⌜ Skipped (now file) x × (at ≡ tailAt (now file) x) × (postingsRight (now file) x ≡ true)
+        × BlockRight (now file) x (fullBlocks x) previous ⌝ }
     ensures { λ _. ⌜ Loaded (before file) x (fullBlocks x) (after docs) (after freqs) ⌝ }
 {
     places(docs);

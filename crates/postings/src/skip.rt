@@ -42,7 +42,8 @@ fn read_block_info(
     previous: u32,
     remaining_docs: usize,
 ) -> SkipReader
-    requires { ⌜ BlocksIn (now file) x × («byte_offset» ≡ placeIn (now file) x b) × (previous ≡ previousIn (now file) x b) × («remaining_docs» ≡ remaining x b) ⌝ }
+    requires { ⌜ BlocksIn (now file) x × («byte_offset» ≡ placeIn (now file) x b) × (previous ≡ previousIn (now file) x b)
+        × («remaining_docs» ≡ remaining x b) ⌝ }
     ensures { λ r. ⌜ r ≡ readerAt (before file) x b ⌝ }
 {
     if remaining_docs < 128 {
@@ -85,7 +86,8 @@ impl SkipReader {
 
     // The reader on block b, whose place and previous document are known.
     pub fn on(file: &[u8], x: Part, b: usize, byte_offset: usize, previous: u32) -> SkipReader
-        requires { ⌜ BlocksIn (now file) x × («byte_offset» ≡ placeIn (now file) x b) × (previous ≡ previousIn (now file) x b) × (b < 4294967296) ⌝ }
+        requires { ⌜ BlocksIn (now file) x × («byte_offset» ≡ placeIn (now file) x b) × (previous ≡ previousIn (now file) x b)
+            × (b < 4294967296) ⌝ }
         ensures { λ r. ⌜ r ≡ readerAt (before file) x b ⌝ }
     {
         let before = 128 * b;

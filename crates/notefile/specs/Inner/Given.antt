@@ -14,7 +14,8 @@ use Rattle.notefile.specs.Header.{headerLength, entryLength, documents, 
 use Rattle.notefile.specs.Parts.{skipsAt}
 use Rattle.notefile.specs.Skips.{docWidth, freqWidth}
 use Rattle.notefile.specs.Lists.{fullBlocks, blockAt, tailAt, previousDoc, listBound}
-use Rattle.notefile.specs.Conditions.{averageRight, entryRight, skipRight, skipsRight, postingsRight, blockDocsRight, blockFreqsRight, boundsRight}
+use Rattle.notefile.specs.Conditions.{averageRight, entryRight, skipRight, skipsRight, postingsRight}
+use Rattle.notefile.specs.Conditions.{blockDocsRight, blockFreqsRight, boundsRight}
 use Rattle.notefile.specs.Inner.Structs.{headerOf}
 use Rattle.notefile.specs.declared.header.Header.{Header}
 use Rattle.notefile.specs.declared.part.Part.{Part}
@@ -77,8 +78,10 @@ weightOf x weight cache = record { weight = weight; average = ofBits binary32 (x
 abbrev pub WeighedIn : Part → Float → List Float → Type 0
 WeighedIn x weight cache = WeightIn x (weightOf x weight cache)
 
--- what a list's blocks are tested against: the header's number of documents, the norm codes, the weight and norms, within their limits, and the list's bound
-pub record Against (file : List ℕ) (x : Part) (limit : ℕ) (reader : FieldNormReader) (weight : Float) (cache : List Float) (top : Float) : Type 0 where
+-- what a list's blocks are tested against: the header's number of documents, the norm codes, the weight and norms, within their limits, and
+-- the list's bound
+pub record Against (file : List ℕ) (x : Part) (limit : ℕ) (reader : FieldNormReader)
+    (weight : Float) (cache : List Float) (top : Float) : Type 0 where
   pub limit-is : limit ≡ documents file
   pub few : limit ≤ 1048576
   pub reader-is : reader ≡ normReader file
