@@ -8,7 +8,7 @@ ghost use lib.ListN.{getD, length};
 ghost use lib.Ieee.{nan};
 ghost use Rattle.arrays.specs.Lent.{before, after};
 ghost use Rattle.floats.specs.Whole.{wholeF32};
-ghost use Rattle.bm25_block.specs.Inner.Block.{Gathered, Whole, Weighed, Stepped, Scored, allExact};
+ghost use Rattle.bm25_block.specs.Inner.Block.{Gathered, Whole, Weighed, CutDown, Scored, allExact};
 
 // A code as a place in the cache.
 fn place(id: u8) -> usize
@@ -59,6 +59,7 @@ fn exact(n: u32) -> f32
     (n % 33554432) as f32
 }
 
+// Frequencies as f32, where f32 holds each of them.
 fn exact_tfs(term_freqs: &[u32; 128], tfs: &mut [f32; 128])
     requires { ⌜ allExact (now «term_freqs») ≡ true ⌝ }
     ensures { λ _. ⌜ Whole (before «term_freqs») (after tfs) ⌝ }
@@ -71,6 +72,7 @@ fn exact_tfs(term_freqs: &[u32; 128], tfs: &mut [f32; 128])
     }
 }
 
+// Frequencies as f32, each rounded to the nearest.
 fn rounded_tfs(term_freqs: &[u32; 128], tfs: &mut [f32; 128])
     ensures { λ _. ⌜ Whole (before «term_freqs») (after tfs) ⌝ }
 {
@@ -106,8 +108,9 @@ fn weigh(weight: f32, norms: &[f32; 128], scores: &mut [f32; 128])
     }
 }
 
+// Each score cut down to the grid.
 fn step_all(scores: &mut [f32; 128])
-    ensures { λ _. ⌜ Stepped (before scores) (after scores) ⌝ }
+    ensures { λ _. ⌜ CutDown (before scores) (after scores) ⌝ }
 {
     let n = (&scores[..]).len();
     let mut i = 0usize;

@@ -10,6 +10,7 @@ ghost use Rattle.floats.specs.Threshold.{thresholdOk};
 // From here on an f32 is a multiple of 1/1024, and up to twice this no finer.
 const GRID_BASE: f32 = 8192.0;
 
+// 1/1024, the grid of stepped scores.
 const STEP: f32 = 0.0009765625;
 
 // n / 2^k as the nearest whole number, a tie to the even one.

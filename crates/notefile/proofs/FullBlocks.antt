@@ -66,22 +66,22 @@ module _ {file : List ℕ} {x : Part} {b at : ℕ} (P : PackedIn file x b at) (e
   unfolding skipEntryOf
   strict-is = ap (λ (z : SkipEntry). z .strict) ee ∙ sym (ap (λ (z : Bool). z && strictBlock file x b) is-full)
 
-  width-is : e .width ≡ docWidth file x b
+  width-is : e .«doc_bits» ≡ docWidth file x b
   unfolding skipEntryOf
-  width-is = ap (λ (z : SkipEntry). z .width) ee
+  width-is = ap (λ (z : SkipEntry). z .«doc_bits») ee
 
-  freqs-is : e .freqs ≡ freqWidth file x b
+  freqs-is : e .«freq_bits» ≡ freqWidth file x b
   unfolding skipEntryOf
-  freqs-is = ap (λ (z : SkipEntry). z .freqs) ee
+  freqs-is = ap (λ (z : SkipEntry). z .«freq_bits») ee
 
   last-is : e .last ≡ lastDoc file x b
   unfolding skipEntryOf
   last-is = ap (λ (z : SkipEntry). z .last) ee
 
-  pub docs-in : (e .width ≤ 32) × (at + 16 * e .width ≤ length file)
+  pub docs-in : (e .«doc_bits» ≤ 32) × (at + 16 * e .«doc_bits» ≤ length file)
   docs-in = (omega (arith, width-is), omega (arith, width-is, P .inside))
 
-  pub freqs-in : (e .freqs ≤ 32) × (at + 16 * e .width + 16 * e .freqs ≤ length file)
+  pub freqs-in : (e .«freq_bits» ≤ 32) × (at + 16 * e .«doc_bits» + 16 * e .«freq_bits» ≤ length file)
   freqs-in = (omega (arith, freqs-is, P .narrow), omega (arith, width-is, freqs-is, P .inside))
 
   -- a packed value is below 2 to its width
@@ -89,7 +89,7 @@ module _ {file : List ℕ} {x : Part} {b at : ℕ} (P : PackedIn file x b at) (e
   unfolding packedAt
   small h U k l = rw (U .values k l) (lt-of-lt-of-le (mod-lt _ (pow-pos _)) (pow-mono {j = 32} h))
 
-  module _ {vs : List ℕ} (U : Unpacked file at (e .width) vs) where
+  module _ {vs : List ℕ} (U : Unpacked file at (e .«doc_bits») vs) where
     doc-values : (i : ℕ) → i < 128 → getD vs i 0 ≡ docValue file x b i
     unfolding docValue
     doc-values i h = U .values i h ∙ rw (P .place, width-is, is-full)
@@ -111,7 +111,7 @@ module _ {file : List ℕ} {x : Part} {b at : ℕ} (P : PackedIn file x b at) (e
             at = λ _ i h. D i (omega (arith, size-full));
           }
 
-  pub freqs-counted : {vs out : List ℕ} {r : Bool} → Unpacked file (at + 16 * e .width) (e .freqs) vs → Counted vs 128 (e .strict) r out → FreqsRead file x b r out
+  pub freqs-counted : {vs out : List ℕ} {r : Bool} → Unpacked file (at + 16 * e .«doc_bits») (e .«freq_bits») vs → Counted vs 128 (e .strict) r out → FreqsRead file x b r out
   unfolding freqValue
   freqs-counted {vs} U C = freqs-are file x b C size-full values strict-is
     where
@@ -119,7 +119,7 @@ module _ {file : List ℕ} {x : Part} {b at : ℕ} (P : PackedIn file x b at) (e
       values i h = U .values i h ∙ rw (P .place, width-is, freqs-is, is-full)
 
   -- a full block has nothing past its end
-  pub packed-loaded : {vs docs freqs : List ℕ} {r : Bool} {previous : ℕ} → Unpacked file at (e .width) vs → Summed vs (e .strict) (eqb b 0) previous docs → FreqsRead file x b r freqs → BlockRight file x b previous → Loaded file x b docs freqs
+  pub packed-loaded : {vs docs freqs : List ℕ} {r : Bool} {previous : ℕ} → Unpacked file at (e .«doc_bits») vs → Summed vs (e .strict) (eqb b 0) previous docs → FreqsRead file x b r freqs → BlockRight file x b previous → Loaded file x b docs freqs
   packed-loaded U S F B = record {
     long-docs = S .long;
     long-freqs = F .long;

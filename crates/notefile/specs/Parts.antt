@@ -45,7 +45,7 @@ module _ (file : List ℕ) where
     weight = weightBits l;
     average = averageBits file l;
     count = documentCount l;
-    entry = 8 + 4 * skipKind l;
+    «skip_entry_len» = 8 + 4 * skipKind l;
     skips = skipsAt l;
     postings = skipsAt l + skipLength l;
     end = skipsAt (suc l);

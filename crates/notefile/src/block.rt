@@ -1,4 +1,4 @@
-// The blocks of a list: read with the tests of conditions 6 to 8, or loaded without them.
+// The blocks of a list: read with the tests of rows 6 to 8, or loaded without them.
 use crate::part::Part;
 use crate::skip::SkipEntry;
 use crate::skip::read_skip_entry;
@@ -20,9 +20,10 @@ ghost use Rattle.notefile.specs.Inner.Structs.{skipEntryOf};
 ghost use Rattle.notefile.specs.Inner.Given.{BlockRight, PackedIn, Skipped};
 ghost use Rattle.notefile.specs.Inner.Reads.{DocsRead, FreqsRead, Loaded, Padded, TailRead};
 
+// What stands for the document behind a list's last one.
 pub const TERMINATED: u32 = 2147483647;
 
-// The documents of full block b, and whether condition 7 is not met by them.
+// The documents of full block b, and whether row 7 lets them through.
 pub fn packed_docs(
     file: &[u8],
     x: Part,
@@ -37,7 +38,7 @@ pub fn packed_docs(
         × (limit ≡ documents (now file)) × (limit ≤ 1048576) × (length (now docs) ≡ 128) ⌝ }
     ensures { λ r. ⌜ DocsRead (before file) x b r (after docs) ⌝ }
 {
-    unpack(file, at, e.width, docs);
+    unpack(file, at, e.doc_bits, docs);
     if documents(docs, 128, e.strict, b == 0, previous, limit) {
         let last = docs[127];
         return last == e.last;
@@ -45,7 +46,7 @@ pub fn packed_docs(
     false
 }
 
-// The frequencies of full block b, and whether condition 8 is not met by them.
+// The frequencies of full block b, and whether row 8 lets them through.
 pub fn packed_freqs(
     file: &[u8],
     x: Part,
@@ -57,11 +58,11 @@ pub fn packed_freqs(
     requires { ⌜ PackedIn (now file) x b at × (e ≡ skipEntryOf (now file) x b) × (length (now freqs) ≡ 128) ⌝ }
     ensures { λ r. ⌜ FreqsRead (before file) x b r (after freqs) ⌝ }
 {
-    unpack(file, at + 16 * (e.width as usize), e.freqs, freqs);
+    unpack(file, at + 16 * (e.doc_bits as usize), e.freq_bits, freqs);
     frequencies(freqs, 128, e.strict)
 }
 
-// The values of the tail's VInts, and whether condition 6 is not met by them.
+// The values of the tail's VInts, and whether row 6 lets them through.
 pub fn read_tail(
     file: &[u8],
     x: Part,
@@ -122,7 +123,7 @@ pub fn load_packed(
     places(docs);
     places(freqs);
     let e = read_skip_entry(file, x, b);
-    unpack(file, at, e.width, docs);
+    unpack(file, at, e.doc_bits, docs);
     sums(docs, e.strict, b == 0, previous);
     packed_freqs(file, x, b, at, e, freqs);
 }

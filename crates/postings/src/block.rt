@@ -37,11 +37,11 @@ pub fn load_block(
     let previous = reader.last_doc_in_previous_block;
     match info {
         BlockInfo::BitPacked {
-            doc_num_bits: _,
-            strict_delta_encoded: _,
-            tf_num_bits: _,
-            block_wand_fieldnorm_id: _,
-            block_wand_max_tf: _,
+            doc_bits: _,
+            strict: _,
+            freq_bits: _,
+            norm_code: _,
+            freq_code: _,
         } => load_packed(file, x, reader.block, at, previous, docs, freqs),
         BlockInfo::VInt { num_docs } => {
             if num_docs == 0 {

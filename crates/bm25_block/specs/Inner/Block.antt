@@ -36,8 +36,8 @@ Weighed weight norms tfs out =
     Holds nan 128 (λ i. mul binary32 weight (div binary32 (getD tfs i nan) (add binary32 (getD tfs i nan) (getD norms i nan)))) out
 
 -- each score cut down to the grid
-abbrev pub Stepped : List Float → List Float → Type 0
-Stepped xs out = Holds nan 128 (λ i. stepDown (getD xs i nan)) out
+abbrev pub CutDown : List Float → List Float → Type 0
+CutDown xs out = Holds nan 128 (λ i. stepDown (getD xs i nan)) out
 
 -- each posting's score, from its list's norms and weight: `scoreIn` of the struct that has both
 abbrev pub Scored : FieldNormReader → List ℕ → List Float → Float → Scoring → List ℕ → List ℕ → List Float → Type 0

@@ -17,7 +17,7 @@ use Rattle.postings.specs.declared.cursor.SegmentPostings.{SegmentPostings}
 
 -- a part's numbers, in the order of its fields
 abbrev pub partRow : Part → List ℕ
-partRow x = x .weight ∷ x .average ∷ x .count ∷ x .entry ∷ x .skips ∷ x .postings ∷ x .end ∷ 0 ∷ []
+partRow x = x .weight ∷ x .average ∷ x .count ∷ x .«skip_entry_len» ∷ x .skips ∷ x .postings ∷ x .end ∷ 0 ∷ []
 
 -- the part of a row
 unfoldable pub partIn : List ℕ → Part
@@ -25,7 +25,7 @@ partIn row = record {
   weight = getD row 0 0;
   average = getD row 1 0;
   count = getD row 2 0;
-  entry = getD row 3 0;
+  «skip_entry_len» = getD row 3 0;
   skips = getD row 4 0;
   postings = getD row 5 0;
   end = getD row 6 0;

@@ -3,7 +3,7 @@ use mathlib.Core.Path.{_∙_}
 use borrow.Author.Needs.{needs}
 use borrow.Author.Tests.{not-true, not-false}
 use Rattle.notefile.proofs.FullBlocks.{full-size}
-use Rattle.listcheck.proofs.Judged.{docs-wrong, freqs-wrong, full-bounds, bounds-wrong, all-right, bound-is, top-in, bound-in}
+use Rattle.listcheck.proofs.Judged.{docs-wrong, freqs-wrong, full-bounds, bounds-wrong, all-right, bound-is, max-score-in, bound-in}
 use Rattle.listcheck.proofs.list.check_block.Statement.{statement}
 use Rattle.listcheck.proofs.list.check_block.Tie as tie
 
@@ -44,7 +44,7 @@ both-cover-requires c κs =
     let s = a .args .file .now in
     let e = c .before .before .before .before .before .before .before .before .before .before .before .read-skip-entry in
     let own = bound-is s (a .args .x) (a .args .b) (λ i. k .shared-slice-known .given i .fits) (a .args .weight) (a .args .cache .now) (a .pre .0 .weighed) (e .result) (e .ensures) (c .before .before .before .decode-block-wand-max-tf .ensures) (c .before .before .score-by .ensures) in
-    let t = top-in (a .args .x) (a .pre .0 .limits) (a .pre .0 .top-is) in
+    let t = max-score-in (a .args .x) (a .pre .0 .limits) (a .pre .0 .max-score-is) in
     let o = bound-in s (a .args .x) (a .args .b) (λ i. k .shared-slice-known .given i .fits) (a .pre .0 .limits) own in
     (a .pre .0 .reader-is, a .pre .0 .weighed, search needs, search needs, search needs)
 
@@ -58,7 +58,7 @@ returns-3 c =
     let d-right = not-false _ (c .before .before .before .before .before .before .before .before .before .if1 .left) in
     let f-right = not-false _ (c .before .before .before .before .before .before .if2 .left) in
     bounds-wrong s (a .args .x) (a .args .b) (d .packed-docs .ensures) d-right (f .packed-freqs .ensures) f-right
-    (full-bounds s (a .args .x) (a .args .b) (d .packed-docs .ensures) d-right (f .packed-freqs .ensures) f-right (a .pre .0 .top-is) (full-size (a .args .x) (a .args .b) (a .pre .1 .full)) (a .pre .1 .full)
+    (full-bounds s (a .args .x) (a .args .b) (d .packed-docs .ensures) d-right (f .packed-freqs .ensures) f-right (a .pre .0 .max-score-is) (full-size (a .args .x) (a .args .b) (a .pre .1 .full)) (a .pre .1 .full)
     (bound-is s (a .args .x) (a .args .b) (λ i. k .shared-slice-known .given i .fits) (a .args .weight) (a .args .cache .now) (a .pre .0 .weighed) (d .before .before .before .read-skip-entry .result) (d .before .before .before .read-skip-entry .ensures)
     (c .before .before .before .before .before .decode-block-wand-max-tf .ensures) (c .before .before .before .before .score-by .ensures))
     (c .before .both-cover .ensures))
@@ -74,7 +74,7 @@ returns-4 c =
     let d-right = not-false _ (c .before .before .before .before .before .before .before .before .before .if1 .left) in
     let f-right = not-false _ (c .before .before .before .before .before .before .if2 .left) in
     all-right s (a .args .x) (a .args .b) (d .packed-docs .ensures) d-right (f .packed-freqs .ensures) f-right
-    (full-bounds s (a .args .x) (a .args .b) (d .packed-docs .ensures) d-right (f .packed-freqs .ensures) f-right (a .pre .0 .top-is) (full-size (a .args .x) (a .args .b) (a .pre .1 .full)) (a .pre .1 .full)
+    (full-bounds s (a .args .x) (a .args .b) (d .packed-docs .ensures) d-right (f .packed-freqs .ensures) f-right (a .pre .0 .max-score-is) (full-size (a .args .x) (a .args .b) (a .pre .1 .full)) (a .pre .1 .full)
     (bound-is s (a .args .x) (a .args .b) (λ i. k .shared-slice-known .given i .fits) (a .args .weight) (a .args .cache .now) (a .pre .0 .weighed) (d .before .before .before .read-skip-entry .result) (d .before .before .before .read-skip-entry .ensures)
     (c .before .before .before .before .before .decode-block-wand-max-tf .ensures) (c .before .before .before .before .score-by .ensures))
     (c .before .both-cover .ensures))

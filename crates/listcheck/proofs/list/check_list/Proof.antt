@@ -6,7 +6,7 @@ use Rattle.bm25.proofs.Numbers.{weight-number, average-number}
 use Rattle.notefile.specs.Lists.{fullBlocks}
 use Rattle.notefile.proofs.FullBlocks.{previous-same}
 use Rattle.notefile.proofs.Scores.{apart}
-use Rattle.listcheck.proofs.ListOrder.{skips-wrong, tail-is, skipped, postings-wrong, blocks-in, full-seven, docs-before, with-tail, top-is}
+use Rattle.listcheck.proofs.ListOrder.{skips-wrong, tail-is, skipped, postings-wrong, blocks-in, full-seven, docs-before, with-tail, list-bound-is}
 use Rattle.listcheck.proofs.list.check_list.Statement.{statement}
 use Rattle.listcheck.proofs.list.check_list.Tie as tie
 
@@ -76,7 +76,7 @@ check-blocks-requires c κs =
     let m = c .before .before in
     let w = m .before .new in
     let right = not-false _ (m .before .before .before .before .if1 .left) in
-    (record { limit-is = a .pre .2; few = a .pre .3; reader-is = a .pre .4; limits = a .pre .1; weighed = apart x (w .ensures); top-is = top-is x (w .result) (w .ensures) (m .max-score .ensures) }, blocks-in s x (p .tail-place .ensures) (k .before .place .given .1) (t .read-tail .ensures) right (a .pre .0))
+    (record { limit-is = a .pre .2; few = a .pre .3; reader-is = a .pre .4; limits = a .pre .1; weighed = apart x (w .ensures); max-score-is = list-bound-is x (w .result) (w .ensures) (m .max-score .ensures) }, blocks-in s x (p .tail-place .ensures) (k .before .place .given .1) (t .read-tail .ensures) right (a .pre .0))
 
 returns-3 : tie.Need-returns-3
 returns-3 c =
@@ -103,7 +103,7 @@ check-tail-requires c κs =
     let w = m .before .new in
     let right = not-false _ (m .before .before .before .before .if1 .left) in
     let q = skipped s x (p .tail-place .ensures) (k .before .place .given .1) (a .pre .0) in
-    (record { limit-is = a .pre .2; few = a .pre .3; reader-is = a .pre .4; limits = a .pre .1; weighed = apart x (w .ensures); top-is = top-is x (w .result) (w .ensures) (m .max-score .ensures) }, q, t .read-tail .ensures .values right, previous-same s x (fullBlocks x) (omega arith) (docs-before s x (p .tail-place .ensures) (k .before .place .given .1) (t .read-tail .ensures) right (c .before .before .before .before .before .check-blocks .ensures) (c .before .before .before .before .if2 .left)))
+    (record { limit-is = a .pre .2; few = a .pre .3; reader-is = a .pre .4; limits = a .pre .1; weighed = apart x (w .ensures); max-score-is = list-bound-is x (w .result) (w .ensures) (m .max-score .ensures) }, q, t .read-tail .ensures .values right, previous-same s x (fullBlocks x) (omega arith) (docs-before s x (p .tail-place .ensures) (k .before .place .given .1) (t .read-tail .ensures) right (c .before .before .before .before .before .check-blocks .ensures) (c .before .before .before .before .if2 .left)))
 
 lower-of-requires : tie.Need-lower-of-requires
 lower-of-requires c κs = search needs

@@ -4,7 +4,7 @@ use native.Mathlib.Omega.{arith}
 use borrow.Author.Needs.{needs}
 use borrow.Author.Tests.{not-true, not-false}
 use Rattle.notefile.proofs.TailBlocks.{size-tail, docs-small, freqs-small, docs-tail, freqs-tail}
-use Rattle.listcheck.proofs.Judged.{docs-wrong, freqs-wrong, tail-bounds, bounds-wrong, all-right, top-in}
+use Rattle.listcheck.proofs.Judged.{docs-wrong, freqs-wrong, tail-bounds, bounds-wrong, all-right, max-score-in}
 use Rattle.listcheck.proofs.list.check_tail.Statement.{statement}
 use Rattle.listcheck.proofs.list.check_tail.Tie as tie
 
@@ -38,8 +38,8 @@ returns-2 c =
 both-cover-requires : tie.Need-both-cover-requires
 both-cover-requires c κs =
     let a = c .before .before .before .before .before .before .before .before .before .before .before .before in
-    let top = top-in (a .args .x) (a .pre .0 .limits) (a .pre .0 .top-is) in
-    (a .pre .0 .reader-is, a .pre .0 .weighed, search needs, top, top)
+    let t = max-score-in (a .args .x) (a .pre .0 .limits) (a .pre .0 .max-score-is) in
+    (a .pre .0 .reader-is, a .pre .0 .weighed, search needs, t, t)
 
 returns-3 : tie.Need-returns-3
 returns-3 c =
@@ -51,7 +51,7 @@ returns-3 c =
     let F = freqs-tail (a .pre .2) (c .before .before .before .before .before .frequencies .ensures) in
     let d-right = not-false _ (c .before .before .before .before .before .before .before .if1 .left) in
     let f-right = not-false _ (c .before .before .before .before .if2 .left) in
-    bounds-wrong s (a .args .x) _ D d-right F f-right (tail-bounds s (a .args .x) _ D d-right F f-right (a .pre .0 .top-is) (size-tail (a .pre .2)) (omega arith) (c .before .both-cover .ensures)) (not-true _ (c .if3 .taken))
+    bounds-wrong s (a .args .x) _ D d-right F f-right (tail-bounds s (a .args .x) _ D d-right F f-right (a .pre .0 .max-score-is) (size-tail (a .pre .2)) (omega arith) (c .before .both-cover .ensures)) (not-true _ (c .if3 .taken))
 
 returns-4 : tie.Need-returns-4
 returns-4 c =
@@ -63,7 +63,7 @@ returns-4 c =
     let F = freqs-tail (a .pre .2) (c .before .before .before .before .before .frequencies .ensures) in
     let d-right = not-false _ (c .before .before .before .before .before .before .before .if1 .left) in
     let f-right = not-false _ (c .before .before .before .before .if2 .left) in
-    all-right s (a .args .x) _ D d-right F f-right (tail-bounds s (a .args .x) _ D d-right F f-right (a .pre .0 .top-is) (size-tail (a .pre .2)) (omega arith) (c .before .both-cover .ensures)) (not-false _ (c .if3 .left))
+    all-right s (a .args .x) _ D d-right F f-right (tail-bounds s (a .args .x) _ D d-right F f-right (a .pre .0 .max-score-is) (size-tail (a .pre .2)) (omega arith) (c .before .both-cover .ensures)) (not-false _ (c .if3 .left))
 
 pub check-tail-spec : {M : Type 1} → statement M
 check-tail-spec =
