@@ -3,17 +3,15 @@ use mathlib.Core.Path.{_≡_, refl, sym, ap, _∙_}
 use mathlib.Core.Bool.{Bool, true, false, _&&_, cond, true≢false}
 use mathlib.Core.List.{List}
 use Prim.Native.Nat.{ℕ, zero, suc, _+_, _*_, _/_, _%_, _≤_, _<_}
-use native.Mathlib.Nat.{mod-lt, lt-of-lt-of-le}
 use native.Mathlib.Omega.{arith}
 use lib.Dec.{eqb, leb}
 use lib.ListN.{length, getD}
-use lib.Pow.{pow-pos, pow-mono}
 use borrow.Author.Tests.{lt-ltb, leb-true, eqb-true}
 use Rattle.arrays.specs.Every.{every}
 use Rattle.arrays.proofs.Every.{second-true, each}
 use Rattle.arrays.proofs.Order.{climbs}
-use Rattle.bitpacker.specs.Packed.{packedAt}
 use Rattle.bitpacker.specs.Inner.Rows.{Unpacked}
+use Rattle.bitpacker.proofs.Lanes.{packed-fits}
 use Rattle.compression.specs.Inner.Sums.{Summed, Checked}
 use Rattle.compression.specs.Inner.Counts.{Counted}
 use Rattle.notefile.specs.Header.{documents}
@@ -86,8 +84,7 @@ module _ {file : List ℕ} {x : Part} {b at : ℕ} (P : PackedIn file x b at) (e
 
   -- a packed value is below 2 to its width
   pub small : {p w : ℕ} {vs : List ℕ} → w ≤ 32 → Unpacked file p w vs → (k : ℕ) → k < 128 → getD vs k 0 < 4294967296
-  unfolding packedAt
-  small h U k l = rw (U .values k l) (lt-of-lt-of-le (mod-lt _ (pow-pos _)) (pow-mono {j = 32} h))
+  small {p} {w} h U k l = rw (U .values k l) (packed-fits file p w k h)
 
   module _ {vs : List ℕ} (U : Unpacked file at (e .«doc_bits») vs) where
     doc-values : (i : ℕ) → i < 128 → getD vs i 0 ≡ docValue file x b i

@@ -89,12 +89,12 @@ pub fn read_tail(
 }
 
 // TERMINATED in the places from n on.
-fn pad(values: &mut [u32; 128], n: usize)
-    requires { ⌜ length (now values) ≡ 128 ⌝ }
+pub fn pad(values: &mut [u32; 128], n: usize)
     ensures { λ _. ⌜ Padded (before values) n (after values) ⌝ }
 {
+    let end = (&values[..]).len();
     let mut i = n;
-    while i < 128 {
+    while i < end {
         values[i] = TERMINATED;
         i += 1;
     }

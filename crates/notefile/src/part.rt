@@ -7,7 +7,7 @@ use codec::bits::read_be;
 ghost use mathlib.Core.Path.{_≡_};
 ghost use Prim.Native.Nat.{_+_, _*_, _≤_, _<_};
 ghost use lib.ListN.{length};
-ghost use Rattle.arrays.specs.Lent.{before, after};
+ghost use Rattle.arrays.specs.Lent.{before};
 ghost use Rattle.notefile.specs.Parts.{entryAt, skipsAt, partOf};
 ghost use Rattle.notefile.specs.Inner.Given.{HeaderIn};
 

@@ -4,7 +4,7 @@ use notefile::part::Part;
 use notefile::skip::read_skip_entry;
 ghost use mathlib.Core.Path.{_≡_};
 ghost use Prim.Native.Nat.{suc, _<_};
-ghost use Rattle.arrays.specs.Lent.{before, after};
+ghost use Rattle.arrays.specs.Lent.{before};
 ghost use Rattle.notefile.specs.Inner.Given.{BlocksIn};
 ghost use Rattle.postings.specs.Inner.Decoded.{ListIn};
 ghost use Rattle.postings.specs.Inner.Reader.{Sought, Stands, placeIn, previousIn, readerAt, remaining};
