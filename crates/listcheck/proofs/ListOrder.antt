@@ -54,7 +54,7 @@ module _ (file : List ℕ) (x : Part) {place : TailPlace} (ep : place ≡ tailOr
       exact = eqb-true (x .skips + x .«skip_entry_len» * fullBlocks x) (x .postings) (first-true (eqb (x .skips + x .«skip_entry_len» * fullBlocks x) (x .postings)) (every (fullBlocks x) (skipRight file x)) skips-right);
     }
 
-    module _ {t : Bool} {docs freqs : List ℕ} (R : TailRead file x t docs freqs) where
+    module _ {t : Bool} {docs₀ freqs₀ docs freqs : List ℕ} (R : TailRead file x docs₀ freqs₀ t docs freqs) where
       pub postings-wrong : t ≡ false → 6 ≡ listRefusal file x
       unfolding listRefusal
       postings-wrong f = rw (skips-right, sym (R .same) ∙ f)

@@ -71,7 +71,7 @@ pub fn read_tail(
     freqs: &mut [u32; 128],
 ) -> bool
     requires { ⌜ Skipped (now file) x × (at ≡ tailAt (now file) x) × (length (now docs) ≡ 128) × (length (now freqs) ≡ 128) ⌝ }
-    ensures { λ r. ⌜ TailRead (before file) x r (after docs) (after freqs) ⌝ }
+    ensures { λ r. ⌜ TailRead (before file) x (before docs) (before freqs) r (after docs) (after freqs) ⌝ }
 {
     if x.end < at {
         return false;

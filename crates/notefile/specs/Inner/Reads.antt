@@ -39,10 +39,12 @@ pub record TailValues (file : List ℕ) (x : Part) (docs freqs : List ℕ) : Typ
   pub doc-at : (i : ℕ) → i < tailSize x → getD docs i 0 ≡ docValue file x (fullBlocks x) i
   pub freq-at : (i : ℕ) → i < tailSize x → getD freqs i 0 ≡ freqValue file x (fullBlocks x) i
 
--- these, and whether row 6 lets them through
-pub record TailRead (file : List ℕ) (x : Part) (r : Bool) (docs freqs : List ℕ) : Type 0 where
+-- these, and whether row 6 lets them through; behind the tail the arrays are as they were
+pub record TailRead (file : List ℕ) (x : Part) (docs₀ freqs₀ : List ℕ) (r : Bool) (docs freqs : List ℕ) : Type 0 where
   pub same : r ≡ postingsRight file x
   pub values : r ≡ true → TailValues file x docs freqs
+  pub docs-kept : (i : ℕ) → tailSize x ≤ i → getD docs i 0 ≡ getD docs₀ i 0
+  pub freqs-kept : (i : ℕ) → tailSize x ≤ i → getD freqs i 0 ≡ getD freqs₀ i 0
 
 -- values with TERMINATED from place n on
 pub record Padded (before : List ℕ) (n : ℕ) (out : List ℕ) : Type 0 where
