@@ -1,7 +1,6 @@
 -- Worked examples of the definitions.
 use mathlib.Core.Path.{_≡_, refl}
 use mathlib.Core.List.{[], _∷_}
-use Prim.Native.Nat.{_-_}
 use Rattle.bitpacker.specs.Packed.{packedAt}
 
 -- of width 20 the second value of lane 0 has its low 12 bits at the top of one word, and its high 8 in the word 16 bytes on

@@ -3,15 +3,15 @@ use mathlib.Core.List.{List}
 use Prim.Native.Nat.{ℕ, zero, suc, _+_, _*_, _/_, _%_, _^_}
 use Rattle.codec.specs.Bits.{wordAt}
 
--- where a packed block's words stand: a lane's follow each other 16 bytes apart. This is its first k words from place p on as one number, the
--- first word lowest
+-- where a packed block's words stand: a lane's follow each other 16 bytes apart. This is its first k words from place p on as one number,
+-- the first word lowest
 unfoldable pub laneAt : ℕ → List ℕ → ℕ → ℕ
 unfolding wordAt
 laneAt zero s p = 0
 laneAt (suc k) s p = wordAt s p + 2 ^ 32 * laneAt k s (p + 16)
 
--- where its values stand: value i goes to lane i mod 4, which starts 4 bytes after the lane before it, above the i / 4 values that the lane has
--- already; at place p, of width w
+-- where its values stand: value i goes to lane i mod 4, which starts 4 bytes after the lane before it, above the i / 4 values that the lane
+-- has already; at place p, of width w
 unfoldable pub packedAt : List ℕ → ℕ → ℕ → ℕ → ℕ
 unfolding laneAt
 packedAt s p w i = laneAt w s (p + 4 * (i % 4)) / 2 ^ (i / 4 * w) % 2 ^ w

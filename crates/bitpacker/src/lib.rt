@@ -23,8 +23,8 @@ fn above(low: u32, s: &[u8], p: usize, up: u32) -> u32
     low | (read_u32(s, p) << up)
 }
 
-// The values of the lanes whose words stand from p on, `shift` bits into these words. A value that goes on in the next word has its high bits
-// there: all four do, or none. Of width 0 there are no words.
+// The values of the lanes whose words stand from p on, `shift` bits into these words. A value that goes on in the next word has its high
+// bits there: all four do, or none. Of width 0 there are no words.
 fn four_at(s: &[u8], p: usize, shift: u32, width: u32, mask: u32) -> Four
     requires { ⌜ InBlock (length (now s)) p shift width mask ⌝ }
     ensures { λ r. ⌜ FourAt (before s) p shift width r ⌝ }

@@ -3,7 +3,7 @@ use mathlib.Core.Path.{_≡_, refl, sym, ap, _∙_, subst}
 use mathlib.Core.List.{List}
 use mathlib.Core.Bool.{Bool}
 use mathlib.Core.Logic.{⊎-elim}
-use Prim.Native.Nat.{ℕ, zero, suc, _+_, _*_, _≤_, _<_}
+use Prim.Native.Nat.{ℕ, zero, suc, _+_, _-_, _*_, _≤_, _<_}
 use native.Mathlib.Nat.{le-refl, le-trans, le-of-eq, le-of-lt, zero-add, lt-of-le-of-lt, add-zero, zero-mul, add-mul, one-mul, mul-le-mul-right, not-suc-le-zero}
 use native.Mathlib.Numerals.{add-one}
 use native.Mathlib.Omega.{arith}
@@ -12,7 +12,7 @@ use lib.ListN.{getD}
 use borrow.Author.Tests.{lt-ltb, le-ltb}
 use Rattle.arrays.proofs.Order.{lt-or-ge, climbs}
 use Rattle.block_search.specs.Search.{oneIf, countBelow}
-use Rattle.block_search.specs.Inner.Segments.{Sorted, Segment}
+use Rattle.block_search.specs.Inner.Segments.{Sorted, endsBelow}
 
 module _ (values : List ℕ) (sorted : Sorted values) (target : ℕ) where
   abbrev value : ℕ → ℕ
@@ -61,6 +61,22 @@ module _ (values : List ℕ) (sorted : Sorted values) (target : ℕ) where
       (λ l. le-ltb (value i) target l ∙ sym (le-ltb i (count 128) (stops i 128 l (le-refl 128))))
       (lt-or-ge (value i) target)
 
+-- seven tests, one for each segment's end
+module _ (values : List ℕ) (base step target : ℕ) where
+  abbrev test : ℕ → ℕ
+  test j = oneIf (ltb (getD values j 0) target)
+
+  pub seven-ends : {a b c d e f g : ℕ} → a ≡ test (base + step - 1) → b ≡ test (base + 2 * step - 1) → c ≡ test (base + 3 * step - 1) → d ≡ test (base + 4 * step - 1)
+      → e ≡ test (base + 5 * step - 1) → f ≡ test (base + 6 * step - 1) → g ≡ test (base + 7 * step - 1) → a + b + c + d + e + f + g ≡ endsBelow 7 values base step target
+  unfolding endsBelow
+  seven-ends ea eb ec ed ee ef eg = rw (ea, eb, ec, ed, ee, ef, eg, one-mul step, zero-add)
+
+-- the count lies in the r-th of eight segments of `step` values from base on, or on its borders
+pub record Segment (count base step r : ℕ) : Type 0 where
+  pub few : r ≤ 7
+  pub low : base + r * step ≤ count
+  pub high : count ≤ base + r * step + step
+
 -- of k segment ends from base on, r lie below the count, and the first after these does not
 pub record Passed (count base step k r : ℕ) : Type 0 where
   pub few : r ≤ k
@@ -92,7 +108,7 @@ module _ {count base step : ℕ} where
       last : count ≤ j → r ≡ k → count < base + r * step + step
       last l q = rw q (omega (arith, step-more k))
 
-  pub segment : {r : ℕ} → Passed count base step 7 r → count ≤ base + 8 * step → Segment count base step r
+  segment : {r : ℕ} → Passed count base step 7 r → count ≤ base + 8 * step → Segment count base step r
   segment {r} P h = record { few = P .few; low = P .low; high = ⊎-elim (λ l. le-of-lt (P .high l)) (λ l. let e : r ≡ 7 = omega (arith, P .few) in rw e (omega arith)) (lt-or-ge r 7) }
 
 -- segments of one value
@@ -112,3 +128,17 @@ module _ (values : List ℕ) (sorted : Sorted values) (target : ℕ) where
 
   pub next-end : {base step k r : ℕ} (j : ℕ) {x : ℕ} → Passed total base step k r → j + 1 ≡ base + (k + 1) * step → j < 128 → x ≡ oneIf (ltb (getD values j 0) target) → Passed total base step (k + 1) (r + x)
   next-end j P e h f = next j P e (f ∙ ap oneIf (place-test values sorted target j h))
+
+  -- the ends below the target are those that the count has passed
+  ends-passed : (base step : ℕ) → 0 < step → base ≤ total → (k : ℕ) → base + k * step ≤ 128 → Passed total base step k (endsBelow k values base step target)
+  unfolding endsBelow
+  ends-passed base step s b zero h = none b
+  ends-passed base step s b (suc k) h =
+      let e : suc k * step ≡ (k + 1) * step = rw (add-one k) in
+      let m = add-mul k 1 step ∙ ap (λ (y : ℕ). k * step + y) (one-mul step) in
+      subst (λ (n : ℕ). Passed total base step n (endsBelow (suc k) values base step target)) (add-one k)
+      (next-end (base + (k + 1) * step - 1) (ends-passed base step s b k (omega arith)) (omega arith) (omega arith) refl)
+
+  pub ends-are : (base step : ℕ) → 0 < step → base + 8 * step ≤ 128 → base ≤ total → total ≤ base + 8 * step
+      → {r : ℕ} → r ≡ endsBelow 7 values base step target → Segment total base step r
+  ends-are base step s h b t e = rw e (segment (ends-passed base step s b 7 (omega arith)) t)

@@ -4,7 +4,7 @@ ghost use Prim.Native.Nat.{_+_, _*_, _≤_, _<_};
 ghost use lib.Dec.{ltb};
 ghost use Rattle.arrays.specs.Lent.{before};
 ghost use Rattle.block_search.specs.Search.{oneIf, countBelow};
-ghost use Rattle.block_search.specs.Inner.Segments.{Sorted, Segment};
+ghost use Rattle.block_search.specs.Inner.Segments.{Sorted, endsBelow};
 
 // 1 if x is below the target.
 fn below(x: u32, target: u32) -> usize
@@ -16,8 +16,8 @@ fn below(x: u32, target: u32) -> usize
 // Of eight segments of `step` values from base on, how many of the first seven end below the target: the number of the segment in which the
 // count lies.
 fn segment(values: &[u32; 128], base: usize, step: usize, target: u32) -> usize
-    requires { ⌜ Sorted (now values) × (0 < step) × (base + 8 * step ≤ 128) × (base ≤ countBelow 128 (now values) target) × (countBelow 128 (now values) target ≤ base + 8 * step) ⌝ }
-    ensures { λ r. ⌜ Segment (countBelow 128 (before values) target) base step r ⌝ }
+    requires { ⌜ (0 < step) × (base + 8 * step ≤ 128) ⌝ }
+    ensures { λ r. ⌜ (r ≡ endsBelow 7 (before values) base step target) × (r ≤ 7) ⌝ }
 {
     below(values[base + step - 1], target)
         + below(values[base + 2 * step - 1], target)

@@ -9,7 +9,7 @@ use Rattle.bm25.specs.Scoring.{scored}
 use Rattle.bm25.specs.Limits.{averageOk, weightOk}
 use Rattle.bm25.specs.Bound.{maxTf}
 use Rattle.bm25.specs.Inner.Weight.{WeightOf, scoreIn}
-use Rattle.bm25.specs.Inner.Bound.{maxScore, blockMaxScore}
+use Rattle.bm25.specs.Inner.Bound.{listBoundIn, blockBoundIn}
 use Rattle.bm25.specs.declared.Bm25Weight.{Bm25Weight}
 use Rattle.bm25.specs.declared.Scoring.{Scoring}
 use Rattle.bm25.proofs.Bounds.{score-within, scored-within}
@@ -19,12 +19,12 @@ module _ (weight average : Float) (w : Bm25Weight) (is : WeightOf weight average
   unfolding scoreIn scoreOf
   score-in code freq h = rw (is .weight-is, is .norms code h)
 
-  pub max-score-is : maxScore w ≡ scoreOf weight average 255 2013265944
-  unfolding maxScore
+  pub max-score-is : listBoundIn w ≡ scoreOf weight average 255 2013265944
+  unfolding listBoundIn
   max-score-is = score-in 255 2013265944 (lit< tt)
 
-  pub block-max-score-is : (code freqCode : ℕ) → code < 256 → blockMaxScore w code freqCode ≡ scoreOf weight average code (maxTf freqCode)
-  unfolding blockMaxScore
+  pub block-max-score-is : (code freqCode : ℕ) → code < 256 → blockBoundIn w code freqCode ≡ scoreOf weight average code (maxTf freqCode)
+  unfolding blockBoundIn
   block-max-score-is code freqCode h = score-in code (maxTf freqCode) h
 
   module _ (w-ok : T (weightOk weight)) (a-ok : T (averageOk average)) (scoring : Scoring) where

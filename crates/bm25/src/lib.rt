@@ -11,8 +11,9 @@ ghost use Rattle.bm25.specs.Score.{normOf, scoreAt};
 ghost use Rattle.bm25.specs.Scoring.{scored};
 ghost use Rattle.bm25.specs.Bound.{maxTf};
 ghost use Rattle.bm25.specs.Inner.Weight.{NormsOf, WeightOf, scoreIn};
-ghost use Rattle.bm25.specs.Inner.Bound.{maxScore, blockMaxScore};
+ghost use Rattle.bm25.specs.Inner.Bound.{listBoundIn, blockBoundIn};
 
+// BM25's two constants, as 01 gives them.
 const K1: f32 = 1.2;
 
 const B: f32 = 0.75;
@@ -84,7 +85,8 @@ pub fn decode_block_wand_max_tf(max_tf_code: u8) -> u32
     max_tf_code as u32
 }
 
-// One document's score from a list's norms in a lent array: `score` without a copy of its struct, for places that score one posting at a time.
+// One document's score from a list's norms in a lent array: `score` without a copy of its struct, for places that score one posting at a
+// time.
 pub fn score_by(
     cache: &[f32; 256],
     weight: f32,
@@ -99,6 +101,7 @@ pub fn score_by(
 }
 
 impl Bm25Weight {
+    // The struct of a list's weight and average, with the norm of every code.
     pub fn new(weight: f32, average: f32) -> Self
         ensures { λ r. ⌜ WeightOf weight average r ⌝ }
     {
@@ -120,14 +123,14 @@ impl Bm25Weight {
 
     // The list bound.
     pub fn max_score(self, scoring: Scoring) -> f32
-        ensures { λ r. ⌜ r ≡ scored scoring (maxScore self) ⌝ }
+        ensures { λ r. ⌜ r ≡ scored scoring (listBoundIn self) ⌝ }
     {
         self.score(scoring, MAX_FIELDNORM_ID, MAX_TERM_FREQ)
     }
 
     // A full block's bound, from its skip entry's pair of codes.
     pub fn block_max_score(self, scoring: Scoring, fieldnorm_id: u8, max_tf_code: u8) -> f32
-        ensures { λ r. ⌜ r ≡ scored scoring (blockMaxScore self «fieldnorm_id» «max_tf_code») ⌝ }
+        ensures { λ r. ⌜ r ≡ scored scoring (blockBoundIn self «fieldnorm_id» «max_tf_code») ⌝ }
     {
         self.score(scoring, fieldnorm_id, decode_block_wand_max_tf(max_tf_code))
     }

@@ -10,12 +10,14 @@ const MIN_AVERAGE: u32 = 0x3d80_0000;
 
 const MAX_AVERAGE: u32 = 0x4f00_0000;
 
+// Whether row 4 lets a weight through, by its bits.
 pub fn weight_ok(bits: u32) -> bool
     ensures { λ r. ⌜ r ≡ weightOk (ofBits binary32 bits) ⌝ }
 {
     bits <= MAX_WEIGHT
 }
 
+// Whether row 2 lets an average through, by its bits.
 pub fn average_ok(bits: u32) -> bool
     ensures { λ r. ⌜ r ≡ averageOk (ofBits binary32 bits) ⌝ }
 {

@@ -3,12 +3,10 @@ use bm25::Scoring;
 use fieldnorm::FieldNormReader;
 ghost use mathlib.Core.Path.{_≡_};
 ghost use mathlib.Core.Bool.{true};
-ghost use Prim.Native.Nat.{ℕ, _<_, _≤_};
-ghost use lib.ListN.{getD, length};
-ghost use lib.Ieee.{nan};
+ghost use Prim.Native.Nat.{_<_, _≤_};
 ghost use Rattle.arrays.specs.Lent.{before, after};
 ghost use Rattle.floats.specs.Whole.{wholeF32};
-ghost use Rattle.bm25_block.specs.Inner.Block.{Gathered, Whole, Weighed, Stepped, Scored, allExact};
+ghost use Rattle.bm25_block.specs.Inner.Block.{Gathered, Whole, Weighed, CutDown, Scored, allExact};
 
 // A code as a place in the cache.
 fn place(id: u8) -> usize
@@ -59,6 +57,7 @@ fn exact(n: u32) -> f32
     (n % 33554432) as f32
 }
 
+// Frequencies as f32, where f32 holds each of them.
 fn exact_tfs(term_freqs: &[u32; 128], tfs: &mut [f32; 128])
     requires { ⌜ allExact (now «term_freqs») ≡ true ⌝ }
     ensures { λ _. ⌜ Whole (before «term_freqs») (after tfs) ⌝ }
@@ -71,6 +70,7 @@ fn exact_tfs(term_freqs: &[u32; 128], tfs: &mut [f32; 128])
     }
 }
 
+// Frequencies as f32, each rounded to the nearest.
 fn rounded_tfs(term_freqs: &[u32; 128], tfs: &mut [f32; 128])
     ensures { λ _. ⌜ Whole (before «term_freqs») (after tfs) ⌝ }
 {
@@ -106,8 +106,9 @@ fn weigh(weight: f32, norms: &[f32; 128], scores: &mut [f32; 128])
     }
 }
 
+// Each score cut down to the grid.
 fn step_all(scores: &mut [f32; 128])
-    ensures { λ _. ⌜ Stepped (before scores) (after scores) ⌝ }
+    ensures { λ _. ⌜ CutDown (before scores) (after scores) ⌝ }
 {
     let n = (&scores[..]).len();
     let mut i = 0usize;
@@ -117,7 +118,8 @@ fn step_all(scores: &mut [f32; 128])
     }
 }
 
-// The scores of 128 postings, by their documents and frequencies. The norms are lent: a list's struct is 1 KB, and a copy of it costs as much as several scores.
+// The scores of 128 postings, by their documents and frequencies. The norms are lent: a list's struct is 1 KB, and a copy of it costs as
+// much as several scores.
 pub fn score_block(
     file: &[u8],
     reader: FieldNormReader,

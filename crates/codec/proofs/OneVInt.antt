@@ -1,7 +1,6 @@
 -- A VInt read from its low end: what was read so far, and what follows it.
 use mathlib.Core.Path.{_≡_, refl, sym, ap, _∙_, subst}
 use mathlib.Core.List.{List}
-use mathlib.Core.Logic.{⊎-elim}
 use Prim.Native.Nat.{ℕ, zero, suc, _+_, _-_, _*_, _/_, _%_, _^_, _≤_, _<_}
 use native.Mathlib.Nat.{mul-comm, add-comm, lt-of-lt-of-le, mul-assoc, mul-add, add-assoc}
 use native.Mathlib.Omega.{arith}
@@ -9,7 +8,6 @@ use lib.Pow.{pow-add, pow-mono, shl-exact}
 use lib.Arith.{digits-lt}
 use lib.ListN.{getD}
 use borrow.Author.Tests.{lt-ltb, le-ltb}
-use Rattle.arrays.proofs.Order.{lt-or-ge}
 use Rattle.codec.specs.VInt.{more, vintFrom, capped, vintAt}
 use Rattle.codec.specs.declared.vint.VInt.{VInt}
 use Rattle.codec.specs.declared.vint.VInt.the-variants.{Value, Broken}
@@ -116,48 +114,3 @@ module _ {s : List ℕ} {e at v shift p : ℕ} (R : Reading s e at v shift p) wh
 
         goes-sevens : (shift : ℕ) → shift % 7 ≡ 0 → (shift + 7) % 7 ≡ 0
         goes-sevens shift m = omega arith
-
--- a whole VInt of at most n bytes: it has one or more, and ends inside
-pub record Ends (n e p next : ℕ) : Type 0 where
-  pub some : p < next
-  pub most : next ≤ p + n
-  pub inside : next ≤ e
-
-no-value : {v next : ℕ} → Broken ≡ Value v next → ⊥
-no-value q = let z : _≡_ {A = ℕ} 0 1 = cc in omega arith
-
-module _ (s : List ℕ) (e : ℕ) where
-  ends : (n p v next : ℕ) → vintFrom n s e p ≡ Value v next → Ends n e p next
-  unfolding vintFrom
-  ends zero p v next q = absurd (no-value q)
-  ends (suc n) p v next q = ⊎-elim
-      (λ h. ⊎-elim
-      (λ l. longer h (vintFrom n s e (p + 1)) (ends n (p + 1)) (sym (from-more s e p n h l) ∙ q))
-      (λ l. let f : p + 1 ≡ next = cc (from-last s e p n h l) in record { some = omega arith; most = omega arith; inside = omega arith })
-      (lt-or-ge (getD s p 0) 128))
-      (λ h. absurd (no-value (sym (from-end s e p (suc n) h) ∙ q)))
-      (lt-or-ge p e)
-    where
-      longer : p < e → (r : VInt) → ((x m : ℕ) → r ≡ Value x m → Ends n e (p + 1) m) → more (getD s p 0) r ≡ Value v next → Ends (suc n) e p next
-      longer h (Value x m) f g =
-          let i : Ends n e (p + 1) m = f x m refl in
-          let same : m ≡ next = cc in
-          record { some = omega (arith, i .some); most = omega (arith, i .most); inside = omega (arith, i .inside) }
-      longer h Broken f g = absurd (no-value g)
-
-  uncapped : (r : VInt) {v next : ℕ} → capped r ≡ Value v next → (r ≡ Value v next) × (v < 4294967296)
-  uncapped (Value x m) {v} {next} q = ⊎-elim
-      (λ l. let k : capped (Value x m) ≡ Value x m = simp (lt-ltb x 4294967296 l) in let f : x ≡ v = cc in (sym k ∙ q, omega arith))
-      (λ l. let k : capped (Value x m) ≡ Broken = simp (le-ltb x 4294967296 l) in absurd (no-value (sym k ∙ q)))
-      (lt-or-ge x 4294967296)
-  uncapped Broken q = absurd (no-value q)
-
-  -- from one to five bytes, inside, and a value of 32 bits
-  module _ (p : ℕ) {v next : ℕ} (q : vintAt s e p ≡ Value v next) where
-    pub whole-ends : Ends 5 e p next
-    unfolding vintAt
-    whole-ends = ends 5 p v next (uncapped (vintFrom 5 s e p) q .0)
-
-    pub whole-fits : v < 4294967296
-    unfolding vintAt
-    whole-fits = uncapped (vintFrom 5 s e p) q .1

@@ -7,27 +7,32 @@ use Prim.Native.Nat.{ℕ, suc, _+_, _≤_, _<_}
 use native.Mathlib.Nat.{le-of-suc-le-suc}
 use native.Mathlib.Numerals.{add-one}
 use native.Mathlib.Omega.{arith}
+use lib.Dec.{ltb}
 use lib.ListN.{length, set}
+use borrow.Author.Tests.{ltb-true}
 use Rattle.arrays.specs.Every.{every}
 use Rattle.arrays.proofs.Order.{lt-or-ge}
 use Rattle.arrays.proofs.Every.{fails, one-more, stopped}
 use Rattle.arrays.proofs.Filling.{Filling, begun as filling, goes-on}
-use Rattle.codec.specs.VInt.{vintAt, whole, valueOf, nextOf}
+use Rattle.codec.specs.VInt.{pick, capped, vintFrom, vintAt, whole, valueOf, nextOf}
 use Rattle.codec.specs.VInts.{vintPlace, vintValue, vintWhole}
 use Rattle.codec.specs.Inner.VIntRows.{endOr, VIntsRead}
 use Rattle.codec.specs.declared.vint.VInt.{VInt}
 use Rattle.codec.specs.declared.vint.VInts.the-variants.{End, Broken}
 use Rattle.codec.specs.declared.vint.VInt.the-variants as vint
-use Rattle.codec.proofs.OneVInt.{whole-fits}
 
 -- each value fits 32 bits
 pub value-fits : (s : List ℕ) (e p k : ℕ) → vintValue s e p k < 4294967296
-unfolding vintValue
-value-fits s e p k = go (vintAt s e (vintPlace s e p k)) refl
+unfolding vintValue vintAt
+value-fits s e p k = capped-fits (vintFrom 5 s e (vintPlace s e p k))
   where
-    go : (r : VInt) → vintAt s e (vintPlace s e p k) ≡ r → valueOf r < 4294967296
-    go (vint.Value v next) q = whole-fits s e (vintPlace s e p k) q
-    go vint.Broken q = omega arith
+    capped-fits : (v : VInt) → valueOf (capped v) < 4294967296
+    capped-fits (vint.Value v next) = go (ltb v 4294967296) refl
+      where
+        go : (t : Bool) → ltb v 4294967296 ≡ t → valueOf (pick t (vint.Value v next) vint.Broken) < 4294967296
+        go true e = ltb-true v 4294967296 e
+        go false e = omega arith
+    capped-fits vint.Broken = omega arith
 
 -- i of n VInts are read, and the next stands at p
 pub record Reading (s : List ℕ) (e at n : ℕ) (vs out : List ℕ) (p i : ℕ) : Type 0 where

@@ -1,7 +1,6 @@
 -- Worked examples of the definitions.
 use mathlib.Core.Path.{_≡_, refl}
 use mathlib.Core.List.{[], _∷_}
-use Prim.Native.Nat.{_-_}
 use Rattle.codec.specs.Bits.{bitsAt}
 use Rattle.codec.specs.VInt.{vintAt}
 use Rattle.codec.specs.declared.vint.VInt.the-variants.{Value}

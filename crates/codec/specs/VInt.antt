@@ -1,5 +1,5 @@
--- A VInt, as a tail has it: each byte carries seven bits, lowest first, and the last is marked by its high bit. Refusal 6 of the table allows 5
--- bytes, and values of 32 bits.
+-- A VInt, as a tail has it: each byte carries seven bits, lowest first, and the last is marked by its high bit. Refusal 6 of the table
+-- allows 5 bytes, and values of 32 bits.
 use mathlib.Core.List.{List}
 use mathlib.Core.Bool.{Bool, true, false}
 use Prim.Native.Nat.{ℕ, zero, suc, _+_, _-_, _*_}

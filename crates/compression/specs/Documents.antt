@@ -34,6 +34,6 @@ module _ (v : ℕ → ℕ) (strict first : Bool) (previous : ℕ) where
   rises zero = aboveLast first
   rises (suc i) = ltb (docAt i) (docAt (suc i))
 
-  -- refusal 7 of the table: whether none of the first n meets it
+  -- whether row 7 of the table lets the first n through
   abbrev pub docsRight : ℕ → ℕ → Bool
   docsRight n limit = every n (λ i. rises i && ltb (docAt i) limit)

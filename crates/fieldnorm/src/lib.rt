@@ -4,6 +4,7 @@ ghost use Rattle.arrays.specs.Lent.{before};
 ghost use Rattle.fieldnorm.specs.Code.{fieldnorm};
 ghost use Rattle.fieldnorm.specs.Reader.{fieldnormId};
 
+// The length that each code stands for, as the Rust has them.
 pub const FIELD_NORMS_TABLE: [u32; 256] = [
     0,
     1,

@@ -11,8 +11,7 @@ use lib.Ieee.Nearest.{div-same, div-mono}
 use lib.Ieee.Exact.{HasValue}
 use lib.Ieee.Order.{le-of-values}
 use Rattle.floats.specs.Step.{within, gridF, steps, stepDown}
-use Rattle.floats.specs.Inner.Steps.{Steps}
-use Rattle.floats.proofs.Grid.{grid-has, grid-le, grid-steps}
+use Rattle.floats.proofs.Grid.{grid-has, grid-le}
 use Rattle.floats.proofs.Order.{le→cross}
 use Rattle.floats.proofs.Range.{value-within}
 
@@ -46,9 +45,6 @@ step-fits nan = round-fits binary32 false 0 1024
 step-fits (inf true) = round-fits binary32 false 0 1024
 step-fits (inf false) = inf-fits binary32 false
 step-fits (fin s m e) = round-fits binary32 false (steps (fin s m e)) 1024
-
-pub step-steps : (N : ℕ) (x : Float) → N ≤ 16384 → T (within N x) → Steps (stepDown x) (steps x) 0
-step-steps N x h w = let s = steps-within N x w in rw (step-grid N x w) (grid-steps (steps x) (omega arith))
 
 pub grid-within : (N n : ℕ) → N ≤ 16384 → n ≤ N * 1024 → T (within N (gridF n))
 grid-within N n h k = value-within N (gridF n) n 1024 (lit< tt) (grid-has n (omega arith)) k

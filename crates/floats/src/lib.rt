@@ -10,6 +10,7 @@ ghost use Rattle.floats.specs.Threshold.{thresholdOk};
 // From here on an f32 is a multiple of 1/1024, and up to twice this no finer.
 const GRID_BASE: f32 = 8192.0;
 
+// 1/1024, the grid of stepped scores.
 const STEP: f32 = 0.0009765625;
 
 // n / 2^k as the nearest whole number, a tie to the even one.
@@ -42,8 +43,8 @@ pub fn u32_to_f32(n: u32) -> f32
     (kept as f32) * (unit as f32)
 }
 
-// The cut of a score to the grid: x + 8192 is rounded to a multiple of 1/1024, which is one step too high at most. Which of the two it is no
-// processor can foresee, so that what is taken off is chosen, and not the way.
+// The cut of a score to the grid: x + 8192 is rounded to a multiple of 1/1024, which is one step too high at most. Which of the two it is
+// no processor can foresee, so that what is taken off is chosen, and not the way.
 pub fn step_down(x: f32) -> f32
     ensures { λ r. ⌜ r ≡ stepDown x ⌝ }
 {

@@ -39,12 +39,12 @@ lower-covers low high p q h n score e = all _ n (λ i k. passes (lt high (score 
     passes false b f g = refl
 
 -- so the test with the lower is the test with both
-module _ (top bound : Float) (t : T (within 1000 top)) (b : T (within 1000 bound)) (n : ℕ) (score : ℕ → Float) where
-  bound-lower : lt bound top ≡ true → allCovered bound n score ≡ allCovered top n score && allCovered bound n score
-  bound-lower e = second-both (allCovered top n score) (allCovered bound n score) (lower-covers bound top b t (below-le bound top e) n score)
+module _ (maxScore own : Float) (t : T (within 1000 maxScore)) (b : T (within 1000 own)) (n : ℕ) (score : ℕ → Float) where
+  own-lower : lt own maxScore ≡ true → allCovered own n score ≡ allCovered maxScore n score && allCovered own n score
+  own-lower e = second-both (allCovered maxScore n score) (allCovered own n score) (lower-covers own maxScore b t (below-le own maxScore e) n score)
 
-  top-lower : lt bound top ≡ false → allCovered top n score ≡ allCovered top n score && allCovered bound n score
-  top-lower e = first-both (allCovered top n score) (allCovered bound n score) (lower-covers top bound t b (not-above 1000 top bound t b e) n score)
+  max-score-lower : lt own maxScore ≡ false → allCovered maxScore n score ≡ allCovered maxScore n score && allCovered own n score
+  max-score-lower e = first-both (allCovered maxScore n score) (allCovered own n score) (lower-covers maxScore own t b (not-above 1000 maxScore own t b e) n score)
 
 module _ (file : List ℕ) (x : Part) (weight : Float) (cache : List Float) (W : WeighedIn x weight cache) (bytes : (k : ℕ) → getD file k 0 < 256) (reader : FieldNormReader) (er : reader ≡ normReader file)
     (docs freqs : List ℕ) (scores : List Float) (S : Scored reader file cache weight Unstepped docs freqs scores) where
@@ -55,8 +55,8 @@ module _ (file : List ℕ) (x : Part) (weight : Float) (cache : List Float) (W :
   covered-is n h bound = every-same _ _ n (λ i l. ap (λ (z : Float). not (lt bound z)) (score-is i (omega arith)))
 
   -- the test with the lower bound
-  module _ (n : ℕ) (h : n ≤ 128) (top bound : Float) (t : T (within 1000 top)) (b : T (within 1000 bound)) where
-    pub low-covers : {low : Float} → ((lt bound top ≡ true) × (low ≡ bound)) ⊎ ((lt bound top ≡ false) × (low ≡ top))
-        → {r : Bool} → r ≡ allCovered low n (λ i. getD scores i nan) → r ≡ allCovered top n (scoreAmong file x docs freqs) && allCovered bound n (scoreAmong file x docs freqs)
-    low-covers {low} (inl (e, f)) er = er ∙ covered-is n h low ∙ rw f (bound-lower top bound t b n (scoreAmong file x docs freqs) e)
-    low-covers {low} (inr (e, f)) er = er ∙ covered-is n h low ∙ rw f (top-lower top bound t b n (scoreAmong file x docs freqs) e)
+  module _ (n : ℕ) (h : n ≤ 128) (maxScore own : Float) (t : T (within 1000 maxScore)) (b : T (within 1000 own)) where
+    pub low-covers : {low : Float} → ((lt own maxScore ≡ true) × (low ≡ own)) ⊎ ((lt own maxScore ≡ false) × (low ≡ maxScore))
+        → {r : Bool} → r ≡ allCovered low n (λ i. getD scores i nan) → r ≡ allCovered maxScore n (scoreAmong file x docs freqs) && allCovered own n (scoreAmong file x docs freqs)
+    low-covers {low} (inl (e, f)) er = er ∙ covered-is n h low ∙ rw f (own-lower maxScore own t b n (scoreAmong file x docs freqs) e)
+    low-covers {low} (inr (e, f)) er = er ∙ covered-is n h low ∙ rw f (max-score-lower maxScore own t b n (scoreAmong file x docs freqs) e)

@@ -40,15 +40,15 @@ module _ (file : List ℕ) (x : Part) (b : ℕ) {docs : List ℕ} {d : Bool} (D 
       unfolding covers blockScore
       covers-is bound {n} e = ap (λ n. allCovered bound n (scoreAmong file x docs freqs)) e ∙ every-same _ _ (blockSize x b) (λ i h. rw (D .at d-right i h, F .at f-right i h))
 
-      module _ {top : Float} {n : ℕ} (top-is : top ≡ listBound x) (size : n ≡ blockSize x b) where
-        pub full-bounds : {bound : Float} {r : Bool} → b < fullBlocks x → bound ≡ blockBound file x b → r ≡ allCovered top n (scoreAmong file x docs freqs) && allCovered bound n (scoreAmong file x docs freqs) → r ≡ boundsRight file x b
+      module _ {maxScore : Float} {n : ℕ} (max-score-is : maxScore ≡ listBound x) (size : n ≡ blockSize x b) where
+        pub full-bounds : {bound : Float} {r : Bool} → b < fullBlocks x → bound ≡ blockBound file x b → r ≡ allCovered maxScore n (scoreAmong file x docs freqs) && allCovered bound n (scoreAmong file x docs freqs) → r ≡ boundsRight file x b
         unfolding boundsRight
-        full-bounds {bound} full e er = er ∙ rw (covers-is top size, covers-is bound size, top-is, e, lt-ltb b (fullBlocks x) full)
+        full-bounds {bound} full e er = er ∙ rw (covers-is maxScore size, covers-is bound size, max-score-is, e, lt-ltb b (fullBlocks x) full)
 
-        pub tail-bounds : {r : Bool} → fullBlocks x ≤ b → r ≡ allCovered top n (scoreAmong file x docs freqs) && allCovered top n (scoreAmong file x docs freqs) → r ≡ boundsRight file x b
+        pub tail-bounds : {r : Bool} → fullBlocks x ≤ b → r ≡ allCovered maxScore n (scoreAmong file x docs freqs) && allCovered maxScore n (scoreAmong file x docs freqs) → r ≡ boundsRight file x b
         unfolding boundsRight
         tail-bounds past er =
-            er ∙ ap (λ (z : Bool). z && z) (covers-is top size ∙ ap (λ (z : Float). covers file x z b) top-is) ∙ twice (covers file x (listBound x) b)
+            er ∙ ap (λ (z : Bool). z && z) (covers-is maxScore size ∙ ap (λ (z : Float). covers file x z b) max-score-is) ∙ twice (covers file x (listBound x) b)
             ∙ sym (ap (λ (z : Bool). covers file x (listBound x) b && cond z (covers file x (blockBound file x b) b) true) (le-ltb b (fullBlocks x) past))
           where
             twice : (z : Bool) → z && z ≡ z && true
@@ -64,13 +64,13 @@ module _ (file : List ℕ) (x : Part) (b : ℕ) {docs : List ℕ} {d : Bool} (D 
 
 -- a full block's bound, out of its entry
 pub bound-is : (file : List ℕ) (x : Part) (b : ℕ) → ((k : ℕ) → getD file k 0 < 256) → (weight : Float) (cache : List Float) → WeighedIn x weight cache → (e : SkipEntry) → e ≡ skipEntryOf file x b
-    → {most : ℕ} → most ≡ maxTf (e .freq) → {bound : Float} → bound ≡ scoreAt weight (getD cache (e .norm) nan) most → bound ≡ blockBound file x b
+    → {most : ℕ} → most ≡ maxTf (e .«freq_code») → {bound : Float} → bound ≡ scoreAt weight (getD cache (e .«norm_code») nan) most → bound ≡ blockBound file x b
 unfolding blockBound skipEntryOf
 bound-is file x b bytes weight cache W e ee em be = be ∙ rw (em, ee) (score-by-is x weight cache W (maxNormCode file x b) _ (bytes _))
 
 -- the bounds are scores, so they are numbers
-pub top-in : (x : Part) → Limits x → {top : Float} → top ≡ listBound x → T (within 1000 top)
-top-in x L e = rw e (list-bound-in x L)
+pub max-score-in : (x : Part) → Limits x → {maxScore : Float} → maxScore ≡ listBound x → T (within 1000 maxScore)
+max-score-in x L e = rw e (list-bound-in x L)
 
 pub bound-in : (file : List ℕ) (x : Part) (b : ℕ) → ((k : ℕ) → getD file k 0 < 256) → Limits x → {bound : Float} → bound ≡ blockBound file x b → T (within 1000 bound)
 bound-in file x b bytes L e = rw e (block-bound-in x L file bytes b)
@@ -126,7 +126,7 @@ module _ (file : List ℕ) (x : Part) where
       unfolding blocksRefusal
       seven-found e = rw (fails (blockDocsRight file x) (fullBlocks x) b h (docs-wrong-if (blockDocsRight file x b) (blockFreqsRight file x b) (boundsRight file x b) (sym er ∙ e)))
 
-      pub one-judged : (r ≡ 7 → ⊥) → (e : SkipEntry) → e ≡ skipEntryOf file x b → {q : ℕ} → q ≡ lower lowest r → Judging q (at + 16 * (e .width + e .freqs)) (b + 1)
+      pub one-judged : (r ≡ 7 → ⊥) → (e : SkipEntry) → e ≡ skipEntryOf file x b → {q : ℕ} → q ≡ lower lowest r → Judging q (at + 16 * (e .«doc_bits» + e .«freq_bits»)) (b + 1)
       unfolding blockAt skipEntryOf
       one-judged n e ee {q} eq = record {
         within = omega arith;

@@ -8,7 +8,7 @@ use lib.Ieee.{Float, binary32, ofBits}
 use borrow.Author.Tests.{eqb-true, leb-true}
 use Rattle.arrays.specs.Every.{every}
 use Rattle.arrays.proofs.Every.{first-true, second-true}
-use Rattle.bm25.specs.Inner.Bound.{maxScore}
+use Rattle.bm25.specs.Inner.Bound.{listBoundIn}
 use Rattle.bm25.specs.declared.Bm25Weight.{Bm25Weight}
 use Rattle.bm25.proofs.WeightLaws.{max-score-is}
 use Rattle.notefile.specs.Lists.{fullBlocks, tailAt, scoreFor, listBound}
@@ -52,10 +52,10 @@ module _ (file : List ℕ) (x : Part) {place : TailPlace} (ep : place ≡ tailOr
     unfolding skipsRight
     skipped P = record {
       parted = P;
-      exact = eqb-true (x .skips + x .entry * fullBlocks x) (x .postings) (first-true (eqb (x .skips + x .entry * fullBlocks x) (x .postings)) (every (fullBlocks x) (skipRight file x)) skips-right);
+      exact = eqb-true (x .skips + x .«skip_entry_len» * fullBlocks x) (x .postings) (first-true (eqb (x .skips + x .«skip_entry_len» * fullBlocks x) (x .postings)) (every (fullBlocks x) (skipRight file x)) skips-right);
     }
 
-    module _ {t : Bool} {docs freqs : List ℕ} (R : TailRead file x t docs freqs) where
+    module _ {t : Bool} {docs₀ freqs₀ docs freqs : List ℕ} (R : TailRead file x docs₀ freqs₀ t docs freqs) where
       pub postings-wrong : t ≡ false → 6 ≡ listRefusal file x
       unfolding listRefusal
       postings-wrong f = rw (skips-right, sym (R .same) ∙ f)
@@ -65,7 +65,7 @@ module _ (file : List ℕ) (x : Part) {place : TailPlace} (ep : place ≡ tailOr
         unfolding skipsRight postingsRight
         blocks-in P = record {
           skipped = skipped P;
-          right = second-true (eqb (x .skips + x .entry * fullBlocks x) (x .postings)) (every (fullBlocks x) (skipRight file x)) skips-right;
+          right = second-true (eqb (x .skips + x .«skip_entry_len» * fullBlocks x) (x .postings)) (every (fullBlocks x) (skipRight file x)) skips-right;
           inside = leb-true (tailAt file x) (x .end) (first-true (leb (tailAt file x) (x .end)) _ (sym (R .same) ∙ y));
         }
 
@@ -89,6 +89,6 @@ module _ (file : List ℕ) (x : Part) {place : TailPlace} (ep : place ≡ tailOr
           with-tail er eq = eq ∙ one-block-more file x (fullBlocks x) ef er ∙ sym rest-is
 
 -- the list's bound
-pub top-is : (x : Part) (w : Bm25Weight) → WeightIn x w → {top : Float} → top ≡ maxScore w → top ≡ listBound x
+pub list-bound-is : (x : Part) (w : Bm25Weight) → WeightIn x w → {maxScore : Float} → maxScore ≡ listBoundIn w → maxScore ≡ listBound x
 unfolding listBound scoreFor
-top-is x w W e = e ∙ max-score-is (ofBits binary32 (x .weight)) (ofBits binary32 (x .average)) w W
+list-bound-is x w W e = e ∙ max-score-is (ofBits binary32 (x .weight)) (ofBits binary32 (x .average)) w W

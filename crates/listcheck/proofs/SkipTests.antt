@@ -23,9 +23,9 @@ pub skips-small : (entry count : ℕ) → entry ≤ 12 → count < 2097152 → e
 skips-small entry count h k = le-trans (mul-le-mul-right (count / 128) h) (omega arith)
 
 module _ (file : List ℕ) (x : Part) where
-  pub wrong-length : (x .skips + x .entry * fullBlocks x ≡ x .postings → ⊥) → Wrong ≡ tailOr (skipsRight file x) (tailAt file x)
+  pub wrong-length : (x .skips + x .«skip_entry_len» * fullBlocks x ≡ x .postings → ⊥) → Wrong ≡ tailOr (skipsRight file x) (tailAt file x)
   unfolding skipsRight
-  wrong-length n = simp (ne-eqb (x .skips + x .entry * fullBlocks x) (x .postings) n)
+  wrong-length n = simp (ne-eqb (x .skips + x .«skip_entry_len» * fullBlocks x) (x .postings) n)
 
   -- the first b entries are right, and the block after theirs stands at a place
   pub record Passed (at b : ℕ) : Type 0 where
@@ -34,14 +34,14 @@ module _ (file : List ℕ) (x : Part) where
     pub place : at ≡ blockAt file x b
     pub near : at ≤ x .postings + 4576 * b
 
-  module _ (exact : x .skips + x .entry * fullBlocks x ≡ x .postings) where
+  module _ (exact : x .skips + x .«skip_entry_len» * fullBlocks x ≡ x .postings) where
     pub begun : Passed (x .postings) 0
     unfolding blockAt
     begun = record { within = omega arith; right = refl; place = refl; near = omega arith }
 
     skips-are : skipsRight file x ≡ every (fullBlocks x) (skipRight file x)
     unfolding skipsRight
-    skips-are = simp (eq-eqb (x .skips + x .entry * fullBlocks x) (x .postings) exact)
+    skips-are = simp (eq-eqb (x .skips + x .«skip_entry_len» * fullBlocks x) (x .postings) exact)
 
     module _ {at b : ℕ} (P : Passed at b) where
       pub all-passed : fullBlocks x ≤ b → At at ≡ tailOr (skipsRight file x) (tailAt file x)

@@ -30,7 +30,8 @@ fn covered(scores: &[f32; 128], n: usize, bound: f32) -> bool
     right
 }
 
-// Whether neither bound lies below a score of the first n postings. Scores are made for the whole block at once, and the lower bound is compared for both.
+// Whether neither the list's bound nor the block's own lies below a score of the first n postings. Scores are made for the whole block at
+// once, and the lower bound is compared for both.
 pub fn both_cover(
     file: &[u8],
     reader: FieldNormReader,
@@ -38,14 +39,16 @@ pub fn both_cover(
     cache: &[f32; 256],
     weight: f32,
     n: usize,
-    top: f32,
-    bound: f32,
+    max_score: f32,
+    own: f32,
     docs: &[u32; 128],
     freqs: &[u32; 128],
 ) -> bool
-    requires { ⌜ (reader ≡ normReader (now file)) × WeighedIn x weight (now cache) × (n ≤ 128) × T (within 1000 top) × T (within 1000 bound) ⌝ }
-    ensures { λ r. ⌜ r ≡ allCovered top n (scoreAmong (before file) x (before docs) (before freqs))
-        && allCovered bound n (scoreAmong (before file) x (before docs) (before freqs)) ⌝ }
+    requires { ⌜ (reader ≡ normReader (now file)) × WeighedIn x weight (now cache) × (n ≤ 128)
+        × T (within 1000 «max_score») × T (within 1000 own) ⌝ }
+    ensures { λ r.
+        let score = scoreAmong (before file) x (before docs) (before freqs) in
+        ⌜ r ≡ allCovered «max_score» n score && allCovered own n score ⌝ }
 {
     let mut scores = [0.0f32; 128];
     bm25_block::score_block(
@@ -58,6 +61,6 @@ pub fn both_cover(
         freqs,
         &mut scores,
     );
-    let low = if bound < top { bound } else { top };
+    let low = if own < max_score { own } else { max_score };
     covered(&scores, n, low)
 }

@@ -31,11 +31,12 @@ fn check_block(
     x: Part,
     cache: &[f32; 256],
     weight: f32,
-    top: f32,
+    max_score: f32,
     b: usize,
     at: usize,
 ) -> u32
-    requires { ⌜ Against (now file) x limit reader weight (now cache) top × PackedIn (now file) x b at × (lastBefore (now file) x b ≡ previousDoc (now file) x b) ⌝ }
+    requires { ⌜ Against (now file) x limit reader weight (now cache) «max_score» × PackedIn (now file) x b at
+        × (lastBefore (now file) x b ≡ previousDoc (now file) x b) ⌝ }
     ensures { λ r. ⌜ r ≡ blockRefusal (before file) x b ⌝ }
 {
     let e = read_skip_entry(file, x, b);
@@ -48,9 +49,20 @@ fn check_block(
     if !packed_freqs(file, x, b, at, e, &mut freqs) {
         return 8;
     }
-    let most = bm25::decode_block_wand_max_tf(e.freq);
-    let own = bm25::score_by(cache, weight, Scoring::Unstepped, e.norm, most);
-    if !both_cover(file, reader, x, cache, weight, 128, top, own, &docs, &freqs) {
+    let most = bm25::decode_block_wand_max_tf(e.freq_code);
+    let own = bm25::score_by(cache, weight, Scoring::Unstepped, e.norm_code, most);
+    if !both_cover(
+        file,
+        reader,
+        x,
+        cache,
+        weight,
+        128,
+        max_score,
+        own,
+        &docs,
+        &freqs,
+    ) {
         return 9;
     }
     0
@@ -64,11 +76,12 @@ fn check_tail(
     x: Part,
     cache: &[f32; 256],
     weight: f32,
-    top: f32,
+    max_score: f32,
     docs: &mut [u32; 128],
     freqs: &mut [u32; 128],
 ) -> u32
-    requires { ⌜ Against (now file) x limit reader weight (now cache) top × Skipped (now file) x × TailValues (now file) x (now docs) (now freqs)
+    requires { ⌜ Against (now file) x limit reader weight (now cache) «max_score» × Skipped (now file) x
+        × TailValues (now file) x (now docs) (now freqs)
         × (lastBefore (now file) x (fullBlocks x) ≡ previousDoc (now file) x (fullBlocks x)) ⌝ }
     ensures { λ r. ⌜ r ≡ blockRefusal (before file) x (fullBlocks x) ⌝ }
 {
@@ -81,7 +94,18 @@ fn check_tail(
     if !frequencies(freqs, n, false) {
         return 8;
     }
-    if !both_cover(file, reader, x, cache, weight, n, top, top, docs, freqs) {
+    if !both_cover(
+        file,
+        reader,
+        x,
+        cache,
+        weight,
+        n,
+        max_score,
+        max_score,
+        docs,
+        freqs,
+    ) {
         return 9;
     }
     0
@@ -111,9 +135,9 @@ fn check_blocks(
     x: Part,
     cache: &[f32; 256],
     weight: f32,
-    top: f32,
+    max_score: f32,
 ) -> u32
-    requires { ⌜ Against (now file) x limit reader weight (now cache) top × BlocksIn (now file) x ⌝ }
+    requires { ⌜ Against (now file) x limit reader weight (now cache) «max_score» × BlocksIn (now file) x ⌝ }
     ensures { λ r. ⌜ r ≡ blocksRefusal (before file) x (fullBlocks x) ⌝ }
 {
     let blocks = x.count / 128;
@@ -121,13 +145,13 @@ fn check_blocks(
     let mut at = x.postings;
     let mut b: usize = 0;
     while b < blocks {
-        let r = check_block(file, limit, reader, x, cache, weight, top, b, at);
+        let r = check_block(file, limit, reader, x, cache, weight, max_score, b, at);
         if r == 7 {
             return 7;
         }
         let e = read_skip_entry(file, x, b);
         lowest = lower_of(lowest, r);
-        at += 16 * ((e.width + e.freqs) as usize);
+        at += 16 * ((e.doc_bits + e.freq_bits) as usize);
         b += 1;
     }
     lowest
@@ -135,7 +159,8 @@ fn check_blocks(
 
 // What a list is refused for: 5 to 9, or nothing.
 pub fn check_list(file: &[u8], limit: u32, reader: FieldNormReader, x: Part) -> u32
-    requires { ⌜ Parted (now file) x × Limits x × (limit ≡ documents (now file)) × (limit ≤ 1048576) × (reader ≡ normReader (now file)) ⌝ }
+    requires { ⌜ Parted (now file) x × Limits x
+        × (limit ≡ documents (now file)) × (limit ≤ 1048576) × (reader ≡ normReader (now file)) ⌝ }
     ensures { λ r. ⌜ r ≡ listRefusal (before file) x ⌝ }
 {
     let place = tail_place(file, x);
@@ -148,8 +173,8 @@ pub fn check_list(file: &[u8], limit: u32, reader: FieldNormReader, x: Part) -> 
         return 6;
     }
     let w = Bm25Weight::new(f32::from_bits(x.weight), f32::from_bits(x.average));
-    let top = w.max_score(Scoring::Unstepped);
-    let full = check_blocks(file, limit, reader, x, &w.cache, w.weight, top);
+    let max_score = w.max_score(Scoring::Unstepped);
+    let full = check_blocks(file, limit, reader, x, &w.cache, w.weight, max_score);
     if full == 7 {
         return 7;
     }
@@ -162,7 +187,7 @@ pub fn check_list(file: &[u8], limit: u32, reader: FieldNormReader, x: Part) -> 
             x,
             &w.cache,
             w.weight,
-            top,
+            max_score,
             &mut docs,
             &mut freqs,
         ),

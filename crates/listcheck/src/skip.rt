@@ -1,4 +1,4 @@
-// Condition 5: a list's skip entries.
+// Row 5 of the table: a list's skip entries.
 use codec::bits::wide;
 use notefile::part::Part;
 use notefile::skip::skip_entry_at;
@@ -18,9 +18,9 @@ pub enum TailPlace {
     Wrong,
 }
 
-// Whether condition 5 is not met by a width byte and a frequency width.
-fn widths_right(byte: u32, freqs: u32) -> bool
-    ensures { λ r. ⌜ r ≡ eqb (byte / 32 % 2) 0 && (eqb (byte / 128 % 2) 0 && leb freqs 32) ⌝ }
+// Whether row 5 lets a width byte and a frequency width through.
+fn widths_right(byte: u32, freq_bits: u32) -> bool
+    ensures { λ r. ⌜ r ≡ eqb (byte / 32 % 2) 0 && (eqb (byte / 128 % 2) 0 && leb «freq_bits» 32) ⌝ }
 {
     if byte / 32 % 2 != 0 {
         return false;
@@ -28,16 +28,16 @@ fn widths_right(byte: u32, freqs: u32) -> bool
     if byte / 128 % 2 != 0 {
         return false;
     }
-    freqs <= 32
+    freq_bits <= 32
 }
 
-// Where the tail starts, if condition 5 is not met. The blocks before it may not lie in the file.
+// Where the tail starts, if row 5 lets the list's skip entries through. The blocks before it may not lie in the file.
 pub fn tail_place(file: &[u8], x: Part) -> TailPlace
     requires { ⌜ Parted (now file) x ⌝ }
     ensures { λ r. ⌜ r ≡ tailOr (skipsRight (before file) x) (tailAt (before file) x) ⌝ }
 {
     let blocks = x.count / 128;
-    if x.skips + x.entry * blocks != x.postings {
+    if x.skips + x.skip_entry_len * blocks != x.postings {
         return TailPlace::Wrong;
     }
     let mut at = x.postings;
@@ -45,11 +45,11 @@ pub fn tail_place(file: &[u8], x: Part) -> TailPlace
     while b < blocks {
         let e = skip_entry_at(file, x, b);
         let byte = wide(file[e + 4]);
-        let freqs = wide(file[e + 5]);
-        if !widths_right(byte, freqs) {
+        let freq_bits = wide(file[e + 5]);
+        if !widths_right(byte, freq_bits) {
             return TailPlace::Wrong;
         }
-        at += 16 * ((byte % 32 + freqs) as usize);
+        at += 16 * ((byte % 32 + freq_bits) as usize);
         b += 1;
     }
     TailPlace::At(at)

@@ -1,4 +1,4 @@
-// Condition 4: the lists' entries.
+// Row 4 of the table: the lists' entries.
 use codec::bits::read_be;
 use notefile::header::ENTRY_LENGTH;
 use notefile::header::HEADER_LENGTH;
@@ -10,7 +10,7 @@ ghost use Rattle.arrays.specs.Every.{every};
 ghost use Rattle.notefile.specs.Conditions.{entryRight};
 ghost use Rattle.notefile.specs.Inner.Given.{HeaderIn};
 
-// Whether condition 4 is not met by list l.
+// Whether row 4 lets list l's entry through.
 fn entry_right(file: &[u8], h: Header, l: usize) -> bool
     requires { ⌜ HeaderIn (now file) h × (l < h .lists) ⌝ }
     ensures { λ r. ⌜ r ≡ entryRight (before file) l ⌝ }
@@ -24,7 +24,7 @@ fn entry_right(file: &[u8], h: Header, l: usize) -> bool
     false
 }
 
-// Whether condition 4 is not met.
+// Whether row 4 lets every list's entry through.
 pub fn entries_right(file: &[u8], h: Header) -> bool
     requires { ⌜ HeaderIn (now file) h ⌝ }
     ensures { λ r. ⌜ r ≡ every (h .lists) (entryRight (before file)) ⌝ }

@@ -131,8 +131,8 @@ module _ (file : List ℕ) (accepted : fileRefusal file ≡ 0) where
         let x = partOf file l in
         let R = list-accepted in
         record {
-          skipped = record { parted = list-parted; exact = eqb-true (x .skips + x .entry * fullBlocks x) (x .postings) (first-true (eqb (x .skips + x .entry * fullBlocks x) (x .postings)) (every (fullBlocks x) (skipRight file x)) (R .skips)) };
-          right = second-true (eqb (x .skips + x .entry * fullBlocks x) (x .postings)) (every (fullBlocks x) (skipRight file x)) (R .skips);
+          skipped = record { parted = list-parted; exact = eqb-true (x .skips + x .«skip_entry_len» * fullBlocks x) (x .postings) (first-true (eqb (x .skips + x .«skip_entry_len» * fullBlocks x) (x .postings)) (every (fullBlocks x) (skipRight file x)) (R .skips)) };
+          right = second-true (eqb (x .skips + x .«skip_entry_len» * fullBlocks x) (x .postings)) (every (fullBlocks x) (skipRight file x)) (R .skips);
           inside = leb-true (tailAt file x) (x .end) (first-true (leb (tailAt file x) (x .end)) _ (R .postings));
         }
 

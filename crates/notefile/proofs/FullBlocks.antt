@@ -3,17 +3,15 @@ use mathlib.Core.Path.{_≡_, refl, sym, ap, _∙_}
 use mathlib.Core.Bool.{Bool, true, false, _&&_, cond, true≢false}
 use mathlib.Core.List.{List}
 use Prim.Native.Nat.{ℕ, zero, suc, _+_, _*_, _/_, _%_, _≤_, _<_}
-use native.Mathlib.Nat.{mod-lt, lt-of-lt-of-le}
 use native.Mathlib.Omega.{arith}
 use lib.Dec.{eqb, leb}
 use lib.ListN.{length, getD}
-use lib.Pow.{pow-pos, pow-mono}
 use borrow.Author.Tests.{lt-ltb, leb-true, eqb-true}
 use Rattle.arrays.specs.Every.{every}
 use Rattle.arrays.proofs.Every.{second-true, each}
 use Rattle.arrays.proofs.Order.{climbs}
-use Rattle.bitpacker.specs.Packed.{packedAt}
 use Rattle.bitpacker.specs.Inner.Rows.{Unpacked}
+use Rattle.bitpacker.proofs.Lanes.{packed-fits}
 use Rattle.compression.specs.Inner.Sums.{Summed, Checked}
 use Rattle.compression.specs.Inner.Counts.{Counted}
 use Rattle.notefile.specs.Header.{documents}
@@ -66,30 +64,29 @@ module _ {file : List ℕ} {x : Part} {b at : ℕ} (P : PackedIn file x b at) (e
   unfolding skipEntryOf
   strict-is = ap (λ (z : SkipEntry). z .strict) ee ∙ sym (ap (λ (z : Bool). z && strictBlock file x b) is-full)
 
-  width-is : e .width ≡ docWidth file x b
+  width-is : e .«doc_bits» ≡ docWidth file x b
   unfolding skipEntryOf
-  width-is = ap (λ (z : SkipEntry). z .width) ee
+  width-is = ap (λ (z : SkipEntry). z .«doc_bits») ee
 
-  freqs-is : e .freqs ≡ freqWidth file x b
+  freqs-is : e .«freq_bits» ≡ freqWidth file x b
   unfolding skipEntryOf
-  freqs-is = ap (λ (z : SkipEntry). z .freqs) ee
+  freqs-is = ap (λ (z : SkipEntry). z .«freq_bits») ee
 
   last-is : e .last ≡ lastDoc file x b
   unfolding skipEntryOf
   last-is = ap (λ (z : SkipEntry). z .last) ee
 
-  pub docs-in : (e .width ≤ 32) × (at + 16 * e .width ≤ length file)
+  pub docs-in : (e .«doc_bits» ≤ 32) × (at + 16 * e .«doc_bits» ≤ length file)
   docs-in = (omega (arith, width-is), omega (arith, width-is, P .inside))
 
-  pub freqs-in : (e .freqs ≤ 32) × (at + 16 * e .width + 16 * e .freqs ≤ length file)
+  pub freqs-in : (e .«freq_bits» ≤ 32) × (at + 16 * e .«doc_bits» + 16 * e .«freq_bits» ≤ length file)
   freqs-in = (omega (arith, freqs-is, P .narrow), omega (arith, width-is, freqs-is, P .inside))
 
   -- a packed value is below 2 to its width
   pub small : {p w : ℕ} {vs : List ℕ} → w ≤ 32 → Unpacked file p w vs → (k : ℕ) → k < 128 → getD vs k 0 < 4294967296
-  unfolding packedAt
-  small h U k l = rw (U .values k l) (lt-of-lt-of-le (mod-lt _ (pow-pos _)) (pow-mono {j = 32} h))
+  small {p} {w} h U k l = rw (U .values k l) (packed-fits file p w k h)
 
-  module _ {vs : List ℕ} (U : Unpacked file at (e .width) vs) where
+  module _ {vs : List ℕ} (U : Unpacked file at (e .«doc_bits») vs) where
     doc-values : (i : ℕ) → i < 128 → getD vs i 0 ≡ docValue file x b i
     unfolding docValue
     doc-values i h = U .values i h ∙ rw (P .place, width-is, is-full)
@@ -111,7 +108,7 @@ module _ {file : List ℕ} {x : Part} {b at : ℕ} (P : PackedIn file x b at) (e
             at = λ _ i h. D i (omega (arith, size-full));
           }
 
-  pub freqs-counted : {vs out : List ℕ} {r : Bool} → Unpacked file (at + 16 * e .width) (e .freqs) vs → Counted vs 128 (e .strict) r out → FreqsRead file x b r out
+  pub freqs-counted : {vs out : List ℕ} {r : Bool} → Unpacked file (at + 16 * e .«doc_bits») (e .«freq_bits») vs → Counted vs 128 (e .strict) r out → FreqsRead file x b r out
   unfolding freqValue
   freqs-counted {vs} U C = freqs-are file x b C size-full values strict-is
     where
@@ -119,7 +116,7 @@ module _ {file : List ℕ} {x : Part} {b at : ℕ} (P : PackedIn file x b at) (e
       values i h = U .values i h ∙ rw (P .place, width-is, freqs-is, is-full)
 
   -- a full block has nothing past its end
-  pub packed-loaded : {vs docs freqs : List ℕ} {r : Bool} {previous : ℕ} → Unpacked file at (e .width) vs → Summed vs (e .strict) (eqb b 0) previous docs → FreqsRead file x b r freqs → BlockRight file x b previous → Loaded file x b docs freqs
+  pub packed-loaded : {vs docs freqs : List ℕ} {r : Bool} {previous : ℕ} → Unpacked file at (e .«doc_bits») vs → Summed vs (e .strict) (eqb b 0) previous docs → FreqsRead file x b r freqs → BlockRight file x b previous → Loaded file x b docs freqs
   packed-loaded U S F B = record {
     long-docs = S .long;
     long-freqs = F .long;

@@ -13,8 +13,8 @@ use Rattle.notefile.specs.Inner.Given.{Skipped}
 use Rattle.notefile.specs.declared.part.Part.{Part}
 
 module _ (file : List ℕ) (x : Part) where
-  pub entry-inside : (b : ℕ) → Skipped file x → b < fullBlocks x → skipEntryAt x b + x .entry ≤ length file
-  entry-inside b S h = le-trans (le-of-eq (group (x .skips) (x .entry * b) (x .entry))) (omega (arith, mul-suc (x .entry) b, mul-le-mul-left (x .entry) h, S .exact, S .parted .then-postings, S .parted .inside))
+  pub entry-inside : (b : ℕ) → Skipped file x → b < fullBlocks x → skipEntryAt x b + x .«skip_entry_len» ≤ length file
+  entry-inside b S h = le-trans (le-of-eq (group (x .skips) (x .«skip_entry_len» * b) (x .«skip_entry_len»))) (omega (arith, mul-suc (x .«skip_entry_len») b, mul-le-mul-left (x .«skip_entry_len») h, S .exact, S .parted .then-postings, S .parted .inside))
     where
       group : (a b c : ℕ) → a + b + c ≡ a + (b + c)
       group a b c = omega arith

@@ -5,13 +5,10 @@ use mathlib.Core.List.{List}
 use Prim.Native.Nat.{ℕ, _+_, _≤_, _<_}
 use native.Mathlib.Nat.{add-zero, le-refl}
 use native.Mathlib.Omega.{arith}
-use lib.Dec.{eqb, ltb}
+use lib.Dec.{eqb}
 use lib.ListN.{getD}
-use borrow.Author.Tests.{le-ltb, ltb-true}
-use Rattle.codec.specs.VInt.{pick, capped, valueOf, vintFrom, vintAt}
-use Rattle.codec.specs.VInts.{vintPlace, vintValue}
-use Rattle.codec.specs.declared.vint.VInt.{VInt}
-use Rattle.codec.specs.declared.vint.VInt.the-variants.{Value, Broken}
+use borrow.Author.Tests.{le-ltb}
+use Rattle.codec.proofs.VIntRow.{value-fits}
 use Rattle.compression.specs.Documents.{gapOf}
 use Rattle.compression.specs.Inner.Sums.{Summed, Checked}
 use Rattle.compression.specs.Inner.Counts.{Counted}
@@ -23,19 +20,6 @@ use Rattle.notefile.specs.Inner.Given.{BlockRight}
 use Rattle.notefile.specs.Inner.Reads.{TailValues, DocsRead, FreqsRead, Padded, Loaded}
 use Rattle.notefile.specs.declared.part.Part.{Part}
 use Rattle.notefile.proofs.Decoded.{rise-is, docs-are, docs-loaded, freqs-are}
-
--- a value of a VInt is below 2 ^ 32
-capped-small : (v : VInt) → valueOf (capped v) < 4294967296
-capped-small (Value v next) = go (ltb v 4294967296) refl
-  where
-    go : (t : Bool) → ltb v 4294967296 ≡ t → valueOf (pick t (Value v next) Broken) < 4294967296
-    go true e = ltb-true v 4294967296 e
-    go false e = omega arith
-capped-small Broken = omega arith
-
-value-small : (s : List ℕ) (e p k : ℕ) → vintValue s e p k < 4294967296
-unfolding vintValue vintAt
-value-small s e p k = capped-small (vintFrom 5 s e (vintPlace s e p k))
 
 -- the tail
 module _ {file : List ℕ} {x : Part} {docs freqs : List ℕ} (R : TailValues file x docs freqs) where
@@ -53,11 +37,11 @@ module _ {file : List ℕ} {x : Part} {docs freqs : List ℕ} (R : TailValues fi
 
   pub docs-small : (k : ℕ) → k < tailSize x → getD docs k 0 < 4294967296
   unfolding docValue
-  docs-small k h = rw (R .doc-at k h, not-full) (value-small file (x .end) (tailAt file x) k)
+  docs-small k h = rw (R .doc-at k h, not-full) (value-fits file (x .end) (tailAt file x) k)
 
   pub freqs-small : (k : ℕ) → k < tailSize x → getD freqs k 0 < 4294967296
   unfolding freqValue
-  freqs-small k h = rw (R .freq-at k h, not-full) (value-small file (x .end) (tailFreqsAt file x) k)
+  freqs-small k h = rw (R .freq-at k h, not-full) (value-fits file (x .end) (tailFreqsAt file x) k)
 
   last-tail : lastRight file x tail ≡ true
   unfolding lastRight

@@ -2,6 +2,7 @@
 use mathlib.Core.Path.{_≡_, refl, sym, ap, _∙_}
 use mathlib.Core.Bool.{Bool, true, false, _&&_, true≢false}
 use mathlib.Core.List.{List}
+use mathlib.Core.Logic.{inl}
 use Prim.Native.Nat.{ℕ, suc, _≤_, _<_}
 use native.Mathlib.Nat.{le-refl}
 use native.Mathlib.Omega.{arith}
@@ -48,12 +49,16 @@ module _ (file : List ℕ) (x : Part) where
   fills = eqb (vintPlace file (x .end) (tailFreqsAt file x) (tailSize x)) (x .end)
 
 module _ (file : List ℕ) (x : Part) {at : ℕ} (ea : at ≡ tailAt file x) where
-  wrong : {docs freqs : List ℕ} → postingsRight file x ≡ false → TailRead file x false docs freqs
-  wrong e = record { same = sym e; values = λ t. absurd (true≢false (sym t)) }
+  -- nothing is written behind the tail
+  abbrev Kept : List ℕ → List ℕ → Type 0
+  Kept before out = (i : ℕ) → tailSize x ≤ i → getD out i 0 ≡ getD before i 0
 
-  pub past-end : {docs freqs : List ℕ} → x .end < at → TailRead file x false docs freqs
+  wrong : {docs₀ freqs₀ docs freqs : List ℕ} → postingsRight file x ≡ false → Kept docs₀ docs → Kept freqs₀ freqs → TailRead file x docs₀ freqs₀ false docs freqs
+  wrong e k l = record { same = sym e; values = λ t. absurd (true≢false (sym t)); docs-kept = k; freqs-kept = l }
+
+  pub past-end : {docs freqs : List ℕ} → x .end < at → TailRead file x docs freqs false docs freqs
   unfolding postingsRight
-  past-end l = wrong (rw (lt-leb (tailAt file x) (x .end) (omega arith)))
+  past-end l = wrong (rw (lt-leb (tailAt file x) (x .end) (omega arith))) (λ i h. refl) (λ i h. refl)
 
   module _ (inside : at ≤ x .end) {before docs : List ℕ} {r : VInts} (R : VIntsRead file (x .end) at (tailSize x) before r docs) where
     rest-is : postingsRight file x ≡ docs-whole file x && (freqs-whole file x && fills file x)
@@ -63,8 +68,11 @@ module _ (file : List ℕ) (x : Part) {at : ℕ} (ea : at ≡ tailAt file x) whe
     same-1 : r ≡ endOr (docs-whole file x) (tailFreqsAt file x)
     same-1 = rw ea at (R .same)
 
-    pub docs-broken : {freqs : List ℕ} → r ≡ Broken → TailRead file x false docs freqs
-    docs-broken b = wrong (rest-is ∙ ap (λ (z : Bool). z && (freqs-whole file x && fills file x)) (broke (docs-whole file x) _ same-1 b))
+    docs-here : Kept before docs
+    docs-here i h = R .kept i (inl h)
+
+    pub docs-broken : {freqs : List ℕ} → r ≡ Broken → TailRead file x before freqs false docs freqs
+    docs-broken b = wrong (rest-is ∙ ap (λ (z : Bool). z && (freqs-whole file x && fills file x)) (broke (docs-whole file x) _ same-1 b)) docs-here (λ i h. refl)
 
     module _ {middle : ℕ} (m : r ≡ End middle) {before2 freqs : List ℕ} {r2 : VInts} (R2 : VIntsRead file (x .end) middle (tailSize x) before2 r2 freqs) where
       whole-1 : docs-whole file x ≡ true
@@ -79,8 +87,8 @@ module _ (file : List ℕ) (x : Part) {at : ℕ} (ea : at ≡ tailAt file x) whe
       same-2 : r2 ≡ endOr (freqs-whole file x) (vintPlace file (x .end) (tailFreqsAt file x) (tailSize x))
       same-2 = rw mid at (R2 .same)
 
-      pub freqs-broken : r2 ≡ Broken → TailRead file x false docs freqs
-      freqs-broken b = wrong (then-is ∙ ap (λ (z : Bool). z && fills file x) (broke (freqs-whole file x) _ same-2 b))
+      pub freqs-broken : r2 ≡ Broken → TailRead file x before before2 false docs freqs
+      freqs-broken b = wrong (then-is ∙ ap (λ (z : Bool). z && fills file x) (broke (freqs-whole file x) _ same-2 b)) docs-here (λ i h. R2 .kept i (inl h))
 
       module _ {last : ℕ} (l : r2 ≡ End last) where
         whole-2 : freqs-whole file x ≡ true
@@ -89,7 +97,7 @@ module _ (file : List ℕ) (x : Part) {at : ℕ} (ea : at ≡ tailAt file x) whe
         no-more : isFull x (fullBlocks x) ≡ false
         no-more = le-ltb (fullBlocks x) (fullBlocks x) (le-refl (fullBlocks x))
 
-        pub filled : TailRead file x (eqb last (x .end)) docs freqs
+        pub filled : TailRead file x before before2 (eqb last (x .end)) docs freqs
         unfolding docValue freqValue
         filled = record {
           same = sym (then-is ∙ ap (λ (z : Bool). z && fills file x) whole-2 ∙ ap (λ (z : ℕ). eqb z (x .end)) (sym (ends (freqs-whole file x) _ same-2 l)));
@@ -99,4 +107,6 @@ module _ (file : List ℕ) (x : Part) {at : ℕ} (ea : at ≡ tailAt file x) whe
             doc-at = λ i h. (rw ea at (row R (rw ea whole-1) i h)) ∙ rw no-more;
             freq-at = λ i h. (rw mid at (row R2 (rw mid whole-2) i h)) ∙ rw no-more;
           };
+          docs-kept = docs-here;
+          freqs-kept = λ i h. R2 .kept i (inl h);
         }

@@ -1,7 +1,6 @@
 -- Worked figures of 01: its small file is accepted, case (i), one byte of it changed, is 9; and the full blocks of 127 and of 128 documents.
 use mathlib.Core.Path.{_≡_, refl}
-use mathlib.Core.List.{List, [], _∷_}
-use Prim.Native.Nat.{ℕ}
+use mathlib.Core.List.{[]}
 use lib.ListN.{set}
 use lib.Ieee.{add, mul, div, sub, round, ofInt, le, lt, ofBits}
 use Rattle.codec.specs.Bits.{bitsAt}

@@ -42,7 +42,7 @@ module _ (file : List ℕ) (x : Part) where
 
   unfoldable pub skipsRight : Bool
   unfolding skipRight
-  skipsRight = eqb (x .skips + x .entry * fullBlocks x) (x .postings) && every (fullBlocks x) skipRight
+  skipsRight = eqb (x .skips + x .«skip_entry_len» * fullBlocks x) (x .postings) && every (fullBlocks x) skipRight
 
   -- row 6: the full blocks lie in the postings, the tail's VInts are whole, and the last of them ends where the postings end
   unfoldable pub postingsRight : Bool

@@ -32,7 +32,8 @@ module _ (file : List ℕ) where
   abbrev pub normsLength : ℕ
   normsLength = cond (eqb (normKind file) 0) (documents file) 0
 
-  -- the parts after these: each list has its skip bytes and then its postings. This is where list l's start; for l the list count, where the file ends
+  -- the parts after these: each list has its skip bytes and then its postings. This is where list l's start; for l the list count, where
+  -- the file ends
   unfoldable pub skipsAt : ℕ → ℕ
   skipsAt zero = normsAt file + normsLength
   skipsAt (suc l) = skipsAt l + skipLength l + postingsLength l
@@ -44,7 +45,7 @@ module _ (file : List ℕ) where
     weight = weightBits l;
     average = averageBits file l;
     count = documentCount l;
-    entry = 8 + 4 * skipKind l;
+    «skip_entry_len» = 8 + 4 * skipKind l;
     skips = skipsAt l;
     postings = skipsAt l + skipLength l;
     end = skipsAt (suc l);

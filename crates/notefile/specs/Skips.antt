@@ -9,7 +9,7 @@ use Rattle.notefile.specs.declared.part.Part.{Part}
 
 -- the place of block b's skip entry
 abbrev pub skipEntryAt : Part → ℕ → ℕ
-skipEntryAt x b = x .skips + x .entry * b
+skipEntryAt x b = x .skips + x .«skip_entry_len» * b
 
 module _ (file : List ℕ) (x : Part) where
   -- its last document comes first, as a little-endian u32
@@ -32,7 +32,7 @@ module _ (file : List ℕ) (x : Part) where
 
   -- its last two bytes are the codes of the bound; what kind 1 has before them is not looked at
   abbrev pub maxNormCode : ℕ → ℕ
-  maxNormCode b = getD file (skipEntryAt x b + x .entry - 2) 0
+  maxNormCode b = getD file (skipEntryAt x b + x .«skip_entry_len» - 2) 0
 
   abbrev pub maxFreqCode : ℕ → ℕ
-  maxFreqCode b = getD file (skipEntryAt x b + x .entry - 1) 0
+  maxFreqCode b = getD file (skipEntryAt x b + x .«skip_entry_len» - 1) 0

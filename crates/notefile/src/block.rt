@@ -1,4 +1,4 @@
-// The blocks of a list: read with the tests of conditions 6 to 8, or loaded without them.
+// The blocks of a list: read with the tests of rows 6 to 8, or loaded without them.
 use crate::part::Part;
 use crate::skip::SkipEntry;
 use crate::skip::read_skip_entry;
@@ -20,9 +20,10 @@ ghost use Rattle.notefile.specs.Inner.Structs.{skipEntryOf};
 ghost use Rattle.notefile.specs.Inner.Given.{BlockRight, PackedIn, Skipped};
 ghost use Rattle.notefile.specs.Inner.Reads.{DocsRead, FreqsRead, Loaded, Padded, TailRead};
 
+// What stands for the document behind a list's last one.
 pub const TERMINATED: u32 = 2147483647;
 
-// The documents of full block b, and whether condition 7 is not met by them.
+// The documents of full block b, and whether row 7 lets them through.
 pub fn packed_docs(
     file: &[u8],
     x: Part,
@@ -33,11 +34,11 @@ pub fn packed_docs(
     limit: u32,
     docs: &mut [u32; 128],
 ) -> bool
-    requires { ⌜ PackedIn (now file) x b at × (e ≡ skipEntryOf (now file) x b) × (previous ≡ previousDoc (now file) x b) × (limit ≡ documents (now file)) × (limit ≤ 1048576)
-        × (length (now docs) ≡ 128) ⌝ }
+    requires { ⌜ PackedIn (now file) x b at × (e ≡ skipEntryOf (now file) x b) × (previous ≡ previousDoc (now file) x b)
+        × (limit ≡ documents (now file)) × (limit ≤ 1048576) × (length (now docs) ≡ 128) ⌝ }
     ensures { λ r. ⌜ DocsRead (before file) x b r (after docs) ⌝ }
 {
-    unpack(file, at, e.width, docs);
+    unpack(file, at, e.doc_bits, docs);
     if documents(docs, 128, e.strict, b == 0, previous, limit) {
         let last = docs[127];
         return last == e.last;
@@ -45,7 +46,7 @@ pub fn packed_docs(
     false
 }
 
-// The frequencies of full block b, and whether condition 8 is not met by them.
+// The frequencies of full block b, and whether row 8 lets them through.
 pub fn packed_freqs(
     file: &[u8],
     x: Part,
@@ -57,11 +58,11 @@ pub fn packed_freqs(
     requires { ⌜ PackedIn (now file) x b at × (e ≡ skipEntryOf (now file) x b) × (length (now freqs) ≡ 128) ⌝ }
     ensures { λ r. ⌜ FreqsRead (before file) x b r (after freqs) ⌝ }
 {
-    unpack(file, at + 16 * (e.width as usize), e.freqs, freqs);
+    unpack(file, at + 16 * (e.doc_bits as usize), e.freq_bits, freqs);
     frequencies(freqs, 128, e.strict)
 }
 
-// The values of the tail's VInts, and whether condition 6 is not met by them.
+// The values of the tail's VInts, and whether row 6 lets them through.
 pub fn read_tail(
     file: &[u8],
     x: Part,
@@ -70,7 +71,7 @@ pub fn read_tail(
     freqs: &mut [u32; 128],
 ) -> bool
     requires { ⌜ Skipped (now file) x × (at ≡ tailAt (now file) x) × (length (now docs) ≡ 128) × (length (now freqs) ≡ 128) ⌝ }
-    ensures { λ r. ⌜ TailRead (before file) x r (after docs) (after freqs) ⌝ }
+    ensures { λ r. ⌜ TailRead (before file) x (before docs) (before freqs) r (after docs) (after freqs) ⌝ }
 {
     if x.end < at {
         return false;
@@ -88,12 +89,12 @@ pub fn read_tail(
 }
 
 // TERMINATED in the places from n on.
-fn pad(values: &mut [u32; 128], n: usize)
-    requires { ⌜ length (now values) ≡ 128 ⌝ }
+pub fn pad(values: &mut [u32; 128], n: usize)
     ensures { λ _. ⌜ Padded (before values) n (after values) ⌝ }
 {
+    let end = (&values[..]).len();
     let mut i = n;
-    while i < 128 {
+    while i < end {
         values[i] = TERMINATED;
         i += 1;
     }
@@ -122,7 +123,7 @@ pub fn load_packed(
     places(docs);
     places(freqs);
     let e = read_skip_entry(file, x, b);
-    unpack(file, at, e.width, docs);
+    unpack(file, at, e.doc_bits, docs);
     sums(docs, e.strict, b == 0, previous);
     packed_freqs(file, x, b, at, e, freqs);
 }
@@ -136,7 +137,8 @@ pub fn load_tail(
     docs: &mut [u32; 128],
     freqs: &mut [u32; 128],
 )
-    requires { ⌜ Skipped (now file) x × (at ≡ tailAt (now file) x) × (postingsRight (now file) x ≡ true) × BlockRight (now file) x (fullBlocks x) previous ⌝ }
+    requires { ⌜ Skipped (now file) x × (at ≡ tailAt (now file) x) × (postingsRight (now file) x ≡ true)
+        × BlockRight (now file) x (fullBlocks x) previous ⌝ }
     ensures { λ _. ⌜ Loaded (before file) x (fullBlocks x) (after docs) (after freqs) ⌝ }
 {
     places(docs);

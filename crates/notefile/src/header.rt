@@ -9,6 +9,7 @@ ghost use Rattle.notefile.specs.Header.{averageBits, normReader};
 ghost use Rattle.notefile.specs.Inner.Structs.{headerOf};
 ghost use Rattle.notefile.specs.Inner.Given.{HeaderIn};
 
+// The bytes of the header, and of a list's entry.
 pub const HEADER_LENGTH: usize = 9;
 
 pub const ENTRY_LENGTH: usize = 13;
@@ -23,6 +24,7 @@ pub struct Header {
     pub spare: u32,
 }
 
+// The header of a file that has one.
 pub fn read_header(file: &[u8]) -> Header
     requires { ⌜ 9 ≤ length (now file) ⌝ }
     ensures { λ r. ⌜ r ≡ headerOf (before file) ⌝ }

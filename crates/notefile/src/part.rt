@@ -7,16 +7,17 @@ use codec::bits::read_be;
 ghost use mathlib.Core.Path.{_≡_};
 ghost use Prim.Native.Nat.{_+_, _*_, _≤_, _<_};
 ghost use lib.ListN.{length};
-ghost use Rattle.arrays.specs.Lent.{before, after};
+ghost use Rattle.arrays.specs.Lent.{before};
 ghost use Rattle.notefile.specs.Parts.{entryAt, skipsAt, partOf};
 ghost use Rattle.notefile.specs.Inner.Given.{HeaderIn};
 
-// A list's entry, with the places of its skip bytes and its postings. Weight and average are bits; `entry` is the length of a skip entry.
+// A list's entry, with the places of its skip bytes and its postings. Weight and average are bits; `skip_entry_len` is the length of one
+// skip entry.
 pub struct Part {
     pub weight: u32,
     pub average: u32,
     pub count: usize,
-    pub entry: usize,
+    pub skip_entry_len: usize,
     pub skips: usize,
     pub postings: usize,
     pub end: usize,
@@ -38,7 +39,7 @@ fn part_at(file: &[u8], l: usize, at: usize) -> Part
         weight,
         average: read_average(file, l),
         count: ((x >> 43) % 2097152) as usize,
-        entry: 8 + 4 * kind,
+        skip_entry_len: 8 + 4 * kind,
         skips: at,
         postings: at + skips,
         end: at + skips + postings,

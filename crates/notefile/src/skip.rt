@@ -11,22 +11,22 @@ ghost use Rattle.notefile.specs.Lists.{fullBlocks};
 ghost use Rattle.notefile.specs.Inner.Structs.{lastBefore, skipEntryOf};
 ghost use Rattle.notefile.specs.Inner.Given.{Skipped};
 
-// A skip entry. `width` and `freqs` are the widths of documents and frequencies, `norm` and `freq` the codes of the block's bound.
+// A skip entry: the block's last document, the widths of its documents and frequencies, whether it is strict, and the codes of its bound.
 pub struct SkipEntry {
     pub last: u32,
-    pub width: u32,
+    pub doc_bits: u32,
     pub strict: bool,
-    pub freqs: u32,
-    pub norm: u8,
-    pub freq: u8,
+    pub freq_bits: u32,
+    pub norm_code: u8,
+    pub freq_code: u8,
 }
 
 // Where block b's skip entry stands.
 pub fn skip_entry_at(file: &[u8], x: Part, b: usize) -> usize
     requires { ⌜ Skipped (now file) x × (b < fullBlocks x) ⌝ }
-    ensures { λ r. ⌜ (r ≡ skipEntryAt x b) × (8 ≤ x .entry) × (r + x .entry ≤ length (before file)) ⌝ }
+    ensures { λ r. ⌜ (r ≡ skipEntryAt x b) × (8 ≤ x .«skip_entry_len») × (r + x .«skip_entry_len» ≤ length (before file)) ⌝ }
 {
-    x.skips + x.entry * b
+    x.skips + x.skip_entry_len * b
 }
 
 // Block b's skip entry.
@@ -38,11 +38,11 @@ pub fn read_skip_entry(file: &[u8], x: Part, b: usize) -> SkipEntry
     let byte = wide(file[at + 4]);
     SkipEntry {
         last: read_u32(file, at),
-        width: byte % 32,
+        doc_bits: byte % 32,
         strict: byte / 64 % 2 == 1,
-        freqs: wide(file[at + 5]),
-        norm: file[at + x.entry - 2],
-        freq: file[at + x.entry - 1],
+        freq_bits: wide(file[at + 5]),
+        norm_code: file[at + x.skip_entry_len - 2],
+        freq_code: file[at + x.skip_entry_len - 1],
     }
 }
 

@@ -18,7 +18,7 @@ use Rattle.route.specs.F32.{f32}
 use Rattle.route.specs.Postings.{Postings, start}
 use Rattle.route.specs.Cursor.{maxFrom, tailMax, blockMax}
 use Rattle.bm25.specs.Scoring.{scored}
-use Rattle.bm25.specs.Inner.Bound.{maxScore, blockMaxScore}
+use Rattle.bm25.specs.Inner.Bound.{listBoundIn, blockBoundIn}
 use Rattle.bm25.specs.declared.Bm25Weight.{Bm25Weight}
 use Rattle.bm25.specs.declared.Scoring.{Scoring}
 use Rattle.bm25.proofs.WeightLaws.{max-score-is, block-max-score-is}
@@ -118,11 +118,11 @@ module _ (file : List ℕ) (x : Part) (w : Bm25Weight) (W : WeightIn x w) (bytes
     scores-most n h = all-same _ _ n (λ k l. score-is k (omega arith))
 
   -- the bounds of the list and of a full block
-  top-is : maxScore w ≡ listBound x
+  list-bound-is : listBoundIn w ≡ listBound x
   unfolding listBound scoreFor
-  top-is = max-score-is (ofBits binary32 (x .weight)) (ofBits binary32 (x .average)) w W
+  list-bound-is = max-score-is (ofBits binary32 (x .weight)) (ofBits binary32 (x .average)) w W
 
-  bound-is : (b : ℕ) → blockMaxScore w (maxNormCode file x b) (maxFreqCode file x b) ≡ blockBound file x b
+  bound-is : (b : ℕ) → blockBoundIn w (maxNormCode file x b) (maxFreqCode file x b) ≡ blockBound file x b
   unfolding blockBound scoreFor
   bound-is b = block-max-score-is (ofBits binary32 (x .weight)) (ofBits binary32 (x .average)) w W (maxNormCode file x b) (maxFreqCode file x b) (bytes _)
 
@@ -130,14 +130,14 @@ module _ (file : List ℕ) (x : Part) (w : Bm25Weight) (W : WeightIn x w) (bytes
     abbrev b : ℕ
     b = p .«skip_reader» .block
 
-    pub full-bound : {wd f n m : ℕ} {s : Bool} → Packed file x b wd s f n m → {r : Float} → r ≡ scored scoring (blockMaxScore w n m) → r ≡ blockMax 128 f32 (listOf scoring file x) (cursorOf p)
+    pub full-bound : {wd f n m : ℕ} {s : Bool} → Packed file x b wd s f n m → {r : Float} → r ≡ scored scoring (blockBoundIn w n m) → r ≡ blockMax 128 f32 (listOf scoring file x) (cursorOf p)
     unfolding listOf cursorOf
     full-bound P e = e ∙ rw (P .norm-is, P .freq-is, bound-is b, lt-ltb b (fullBlocks x) (P .full))
 
     module _ (h : fullBlocks x ≤ b) where
-      pub unloaded-bound : p .«block_loaded» ≡ false → {r : Float} → r ≡ scored scoring (maxScore w) → r ≡ blockMax 128 f32 (listOf scoring file x) (cursorOf p)
+      pub unloaded-bound : p .«block_loaded» ≡ false → {r : Float} → r ≡ scored scoring (listBoundIn w) → r ≡ blockMax 128 f32 (listOf scoring file x) (cursorOf p)
       unfolding listOf cursorOf
-      unloaded-bound l e = e ∙ rw (top-is, le-ltb b (fullBlocks x) h, l)
+      unloaded-bound l e = e ∙ rw (list-bound-is, le-ltb b (fullBlocks x) h, l)
 
       pub loaded-bound : p .«block_loaded» ≡ true → {docs freqs : List ℕ} → Decoded file x b docs freqs → {n : ℕ} → n ≡ remaining x b → {r : Float} → r ≡ mostOf (λ i. scored scoring (scoreAmong file x docs freqs i)) n → r ≡ blockMax 128 f32 (listOf scoring file x) (cursorOf p)
       unfolding listOf cursorOf

@@ -8,7 +8,6 @@ use native.Mathlib.Numerals.{add-one}
 use native.Mathlib.Omega.{arith}
 use lib.ListN.{getD}
 use borrow.Author.Tests.{lt-ltb, le-ltb, le-leb}
-use Rattle.arrays.specs.Inner.Holds.{Holds}
 use Rattle.arrays.proofs.Order.{lt-or-ge}
 use Rattle.arrays.proofs.Every.{all}
 use Rattle.block_search.specs.Inner.Segments.{Sorted}
@@ -17,7 +16,7 @@ use Rattle.notefile.specs.Lists.{fullBlocks, blockSize, blockAt}
 use Rattle.notefile.specs.Conditions.{blockDocsRight}
 use Rattle.notefile.specs.Inner.Structs.{lastBefore}
 use Rattle.notefile.specs.Inner.Given.{BlockRight, PackedIn}
-use Rattle.notefile.specs.Inner.Reads.{Loaded}
+use Rattle.notefile.specs.Inner.Reads.{Loaded, Padded}
 use Rattle.notefile.specs.declared.part.Part.{Part}
 use Rattle.notefile.proofs.FullBlocks.{packed-in, previous-same}
 use Rattle.notefile.proofs.ListLaws.{place-in, list-doc-below, list-docs-rise}
@@ -91,13 +90,13 @@ module _ {file : List ℕ} {x : Part} {b : ℕ} {docs freqs : List ℕ} (h : b �
   loaded-is = record { docs-are = record { long = D .long-docs; at = loaded-doc }; freqs-are = record { long = D .long-freqs; at = loaded-freq } }
 
 -- a tail of no documents, and the block behind a tail
-pub empty-is : (file : List ℕ) (x : Part) (b : ℕ) {docs freqs : List ℕ} → remaining x b ≡ 0 → Holds 0 128 (λ i. 2147483647) docs → Holds 0 128 (λ i. 2147483647) freqs → Decoded file x b docs freqs
+pub empty-is : (file : List ℕ) (x : Part) (b : ℕ) {ds fs docs freqs : List ℕ} → remaining x b ≡ 0 → Padded ds 0 docs → Padded fs 0 freqs → Decoded file x b docs freqs
 unfolding start
 empty-is file x b e D F =
     let n : x .count ≤ b * 128 = omega arith in
     record {
-      docs-are = record { long = D .long; at = λ i k. rw (le-ltb (b * 128 + i) (x .count) (omega arith)) (D .at i k) };
-      freqs-are = record { long = F .long; at = λ i k. rw (le-ltb (b * 128 + i) (x .count) (omega arith)) (F .at i k) };
+      docs-are = record { long = D .long; at = λ i k. rw (le-ltb (b * 128 + i) (x .count) (omega arith)) (D .past i (omega arith) k) };
+      freqs-are = record { long = F .long; at = λ i k. rw (le-ltb (b * 128 + i) (x .count) (omega arith)) (F .past i (omega arith) k) };
     }
 
 -- documents never fall, up to TERMINATED and on

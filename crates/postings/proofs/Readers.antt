@@ -40,7 +40,7 @@ module _ (file : List ℕ) (x : Part) (b : ℕ) where
     unfolding readerAt
     tail-reader h = rw (ea, ep, el, le-ltb b (fullBlocks x) (no-more x b (omega arith)))
 
-    pub full-reader : (b < fullBlocks x) → (e : SkipEntry) → e ≡ skipEntryOf file x b → record { «last_doc_in_block» = e .last; «last_doc_in_previous_block» = previous; block = b; «byte_offset» = at; «remaining_docs» = left; «block_info» = BitPacked (e .width) (e .strict) (e .freqs) (e .norm) (e .freq) } ≡ readerAt file x b
+    pub full-reader : (b < fullBlocks x) → (e : SkipEntry) → e ≡ skipEntryOf file x b → record { «last_doc_in_block» = e .last; «last_doc_in_previous_block» = previous; block = b; «byte_offset» = at; «remaining_docs» = left; «block_info» = BitPacked (e .«doc_bits») (e .strict) (e .«freq_bits») (e .«norm_code») (e .«freq_code») } ≡ readerAt file x b
     unfolding readerAt skipEntryOf
     full-reader h e ee = rw (ea, ep, el, ee, lt-ltb b (fullBlocks x) h)
 

@@ -1,25 +1,13 @@
 // Block loads: the skip reader's block decoded into two lent arrays.
 use crate::skip::BlockInfo;
 use crate::skip::SkipReader;
-use notefile::block::TERMINATED;
 use notefile::block::load_packed;
 use notefile::block::load_tail;
+use notefile::block::pad;
 use notefile::part::Part;
 ghost use Rattle.arrays.specs.Lent.{before, after};
-ghost use Rattle.arrays.specs.Inner.Holds.{Holds};
 ghost use Rattle.postings.specs.Inner.Decoded.{Decoded, ListIn};
 ghost use Rattle.postings.specs.Inner.Reader.{Stands};
-
-fn fill_terminated(values: &mut [u32; 128])
-    ensures { λ _. ⌜ Holds 0 128 (λ i. 2147483647) (after values) ⌝ }
-{
-    let n = (&values[..]).len();
-    let mut i = 0usize;
-    while i < n {
-        values[i] = TERMINATED;
-        i += 1;
-    }
-}
 
 // The reader's block, filled up with TERMINATED. A tail of no documents has no bytes.
 pub fn load_block(
@@ -37,16 +25,16 @@ pub fn load_block(
     let previous = reader.last_doc_in_previous_block;
     match info {
         BlockInfo::BitPacked {
-            doc_num_bits: _,
-            strict_delta_encoded: _,
-            tf_num_bits: _,
-            block_wand_fieldnorm_id: _,
-            block_wand_max_tf: _,
+            doc_bits: _,
+            strict: _,
+            freq_bits: _,
+            norm_code: _,
+            freq_code: _,
         } => load_packed(file, x, reader.block, at, previous, docs, freqs),
         BlockInfo::VInt { num_docs } => {
             if num_docs == 0 {
-                fill_terminated(docs);
-                fill_terminated(freqs);
+                pad(docs, 0);
+                pad(freqs, 0);
             } else {
                 load_tail(file, x, at, previous, docs, freqs);
             }

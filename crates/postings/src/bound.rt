@@ -84,12 +84,12 @@ pub fn block_max_score(
     let info = reader.block_info;
     match info {
         BlockInfo::BitPacked {
-            doc_num_bits: _,
-            strict_delta_encoded: _,
-            tf_num_bits: _,
-            block_wand_fieldnorm_id,
-            block_wand_max_tf,
-        } => w.block_max_score(scoring, block_wand_fieldnorm_id, block_wand_max_tf),
+            doc_bits: _,
+            strict: _,
+            freq_bits: _,
+            norm_code,
+            freq_code,
+        } => w.block_max_score(scoring, norm_code, freq_code),
         BlockInfo::VInt { num_docs } => {
             if p.block_loaded {
                 return tail_max_score(file, norms, x, w, scoring, num_docs, docs, freqs);

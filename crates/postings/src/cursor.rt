@@ -6,7 +6,8 @@ use notefile::part::Part;
 ghost use mathlib.Core.Path.{_≡_};
 ghost use Prim.Native.Nat.{min, suc, _≤_, _<_};
 ghost use Rattle.arrays.specs.Lent.{before, after};
-ghost use Rattle.route.specs.Cursor.{advanceIn, fresh, loadAt, seekBlockIn, seekIn};
+ghost use Rattle.route.specs.Cursor.{Cursor, advanceIn, fresh, loadAt, seekBlockIn, seekIn};
+ghost use Rattle.bm25.specs.declared.Scoring.{Scoring};
 ghost use Rattle.notefile.specs.Lists.{fullBlocks};
 ghost use Rattle.decoded.specs.Lists.{listOf};
 ghost use Rattle.postings.specs.Inner.Decoded.{Decoded, ListIn};
@@ -61,8 +62,11 @@ impl SegmentPostings {
 
     // Moves the skip reader only: the document and its frequency stay those of the block decoded last.
     pub fn seek_block(self, file: &[u8], x: Part, target: u32) -> SegmentPostings
-        requires { ⌜ ListIn (now file) x × Stands (now file) x (self .«skip_reader») × (self .«skip_reader» .block ≤ suc (fullBlocks x)) ⌝ }
-        ensures { λ r. ⌜ Shallow (before file) x (λ scoring. seekBlockIn (listOf scoring (before file) x) 128 target (cursorOf self)) self r ⌝ }
+        requires { let reader = self .«skip_reader» in
+            ⌜ ListIn (now file) x × Stands (now file) x reader × (reader .block ≤ suc (fullBlocks x)) ⌝ }
+        ensures { λ r.
+            let to : Scoring → Cursor = λ scoring. seekBlockIn (listOf scoring (before file) x) 128 target (cursorOf self) in
+            ⌜ Shallow (before file) x to self r ⌝ }
     {
         let reader = self.skip_reader;
         if target <= reader.last_doc_in_block {
@@ -98,8 +102,11 @@ impl SegmentPostings {
         docs: &mut [u32; 128],
         freqs: &mut [u32; 128],
     ) -> SegmentPostings
-        requires { ⌜ ListIn (now file) x × Placed (now file) x self (now docs) (now freqs) × (target ≤ self .«skip_reader» .«last_doc_in_block») ⌝ }
-        ensures { λ r. ⌜ Moved (before file) x (λ scoring. loadAt (listOf scoring (before file) x) 128 target (self .«skip_reader» .block)) r (after docs) (after freqs) ⌝ }
+        requires { ⌜ ListIn (now file) x × Placed (now file) x self (now docs) (now freqs)
+            × (target ≤ self .«skip_reader» .«last_doc_in_block») ⌝ }
+        ensures { λ r.
+            let to : Scoring → Cursor = λ scoring. loadAt (listOf scoring (before file) x) 128 target (self .«skip_reader» .block) in
+            ⌜ Moved (before file) x to r (after docs) (after freqs) ⌝ }
     {
         self.load(file, x, docs, freqs);
         let skip_reader = self.skip_reader;
@@ -122,7 +129,9 @@ impl SegmentPostings {
         freqs: &mut [u32; 128],
     ) -> SegmentPostings
         requires { ⌜ ListIn (now file) x × Placed (now file) x self (now docs) (now freqs) × (target ≤ 2147483647) ⌝ }
-        ensures { λ r. ⌜ Moved (before file) x (λ scoring. seekIn (listOf scoring (before file) x) 128 target (cursorOf self)) r (after docs) (after freqs) ⌝ }
+        ensures { λ r.
+            let to : Scoring → Cursor = λ scoring. seekIn (listOf scoring (before file) x) 128 target (cursorOf self) in
+            ⌜ Moved (before file) x to r (after docs) (after freqs) ⌝ }
     {
         let cur = self.cur;
         let doc = docs[cur];
@@ -148,8 +157,11 @@ impl SegmentPostings {
         docs: &mut [u32; 128],
         freqs: &mut [u32; 128],
     ) -> SegmentPostings
-        requires { ⌜ ListIn (now file) x × Placed (now file) x self (now docs) (now freqs) × (self .«skip_reader» .block ≤ fullBlocks x) ⌝ }
-        ensures { λ r. ⌜ Moved (before file) x (λ scoring. advanceIn (listOf scoring (before file) x) 128 (cursorOf self)) r (after docs) (after freqs) ⌝ }
+        requires { ⌜ ListIn (now file) x × Placed (now file) x self (now docs) (now freqs)
+            × (self .«skip_reader» .block ≤ fullBlocks x) ⌝ }
+        ensures { λ r.
+            let to : Scoring → Cursor = λ scoring. advanceIn (listOf scoring (before file) x) 128 (cursorOf self) in
+            ⌜ Moved (before file) x to r (after docs) (after freqs) ⌝ }
     {
         let mut p = self;
         if self.cur != 127 {

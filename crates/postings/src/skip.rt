@@ -4,7 +4,7 @@ use notefile::part::Part;
 use notefile::skip::read_skip_entry;
 ghost use mathlib.Core.Path.{_≡_};
 ghost use Prim.Native.Nat.{suc, _<_};
-ghost use Rattle.arrays.specs.Lent.{before, after};
+ghost use Rattle.arrays.specs.Lent.{before};
 ghost use Rattle.notefile.specs.Inner.Given.{BlocksIn};
 ghost use Rattle.postings.specs.Inner.Decoded.{ListIn};
 ghost use Rattle.postings.specs.Inner.Reader.{Sought, Stands, placeIn, previousIn, readerAt, remaining};
@@ -12,11 +12,11 @@ ghost use Rattle.postings.specs.Inner.Reader.{Sought, Stands, placeIn, p
 // What the reader knows of its block: of a packed one the widths and the pair of codes of its bound, of the tail its count.
 pub enum BlockInfo {
     BitPacked {
-        doc_num_bits: u32,
-        strict_delta_encoded: bool,
-        tf_num_bits: u32,
-        block_wand_fieldnorm_id: u8,
-        block_wand_max_tf: u8,
+        doc_bits: u32,
+        strict: bool,
+        freq_bits: u32,
+        norm_code: u8,
+        freq_code: u8,
     },
     VInt {
         num_docs: usize,
@@ -42,7 +42,8 @@ fn read_block_info(
     previous: u32,
     remaining_docs: usize,
 ) -> SkipReader
-    requires { ⌜ BlocksIn (now file) x × («byte_offset» ≡ placeIn (now file) x b) × (previous ≡ previousIn (now file) x b) × («remaining_docs» ≡ remaining x b) ⌝ }
+    requires { ⌜ BlocksIn (now file) x × («byte_offset» ≡ placeIn (now file) x b) × (previous ≡ previousIn (now file) x b)
+        × («remaining_docs» ≡ remaining x b) ⌝ }
     ensures { λ r. ⌜ r ≡ readerAt (before file) x b ⌝ }
 {
     if remaining_docs < 128 {
@@ -65,11 +66,11 @@ fn read_block_info(
         byte_offset,
         remaining_docs,
         block_info: BlockInfo::BitPacked {
-            doc_num_bits: e.width,
-            strict_delta_encoded: e.strict,
-            tf_num_bits: e.freqs,
-            block_wand_fieldnorm_id: e.norm,
-            block_wand_max_tf: e.freq,
+            doc_bits: e.doc_bits,
+            strict: e.strict,
+            freq_bits: e.freq_bits,
+            norm_code: e.norm_code,
+            freq_code: e.freq_code,
         },
     }
 }
@@ -85,7 +86,8 @@ impl SkipReader {
 
     // The reader on block b, whose place and previous document are known.
     pub fn on(file: &[u8], x: Part, b: usize, byte_offset: usize, previous: u32) -> SkipReader
-        requires { ⌜ BlocksIn (now file) x × («byte_offset» ≡ placeIn (now file) x b) × (previous ≡ previousIn (now file) x b) × (b < 4294967296) ⌝ }
+        requires { ⌜ BlocksIn (now file) x × («byte_offset» ≡ placeIn (now file) x b) × (previous ≡ previousIn (now file) x b)
+            × (b < 4294967296) ⌝ }
         ensures { λ r. ⌜ r ≡ readerAt (before file) x b ⌝ }
     {
         let before = 128 * b;
@@ -105,13 +107,13 @@ impl SkipReader {
         let previous = self.last_doc_in_block;
         match info {
             BlockInfo::BitPacked {
-                doc_num_bits,
-                strict_delta_encoded: _,
-                tf_num_bits,
-                block_wand_fieldnorm_id: _,
-                block_wand_max_tf: _,
+                doc_bits,
+                strict: _,
+                freq_bits,
+                norm_code: _,
+                freq_code: _,
             } => {
-                let next = self.byte_offset + 16 * ((doc_num_bits + tf_num_bits) as usize);
+                let next = self.byte_offset + 16 * ((doc_bits + freq_bits) as usize);
                 read_block_info(file, x, b, next, previous, self.remaining_docs - 128)
             }
             BlockInfo::VInt { num_docs: _ } => { read_block_info(file, x, b, x.end, previous, 0) }

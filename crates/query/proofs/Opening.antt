@@ -12,7 +12,7 @@ use Rattle.arrays.proofs.Order.{lt-or-ge}
 use Rattle.route.specs.Cursor.{Cursor, fresh}
 use Rattle.route.specs.Scorer.{Scorer, scorersFrom}
 use Rattle.bm25.specs.Scoring.{scored}
-use Rattle.bm25.specs.Inner.Bound.{maxScore}
+use Rattle.bm25.specs.Inner.Bound.{listBoundIn}
 use Rattle.bm25.specs.declared.Bm25Weight.{Bm25Weight}
 use Rattle.bm25.specs.declared.Scoring.{Scoring}
 use Rattle.bm25.specs.declared.Scoring.the-variants.{Unstepped}
@@ -50,7 +50,7 @@ there xs q x d h l = getD-set-same xs q x d (omega (arith, h, l))
 put : {A : Type 0} (xs : List A) (q : ℕ) (x d : A) → q < 16 → Sixteen xs → set xs q x ≡ set xs q (getD (set xs q x) q d)
 put xs q x d h l = ap (set xs q) (sym (there xs q x d h l))
 
-module _ (scoring : Scoring) (file : List ℕ) (l q : ℕ) (h : q < 16) {x : Part} (part-is : x ≡ partOf file l) (L : ListIn file x) {w : Bm25Weight} (W : WeightIn x w) {top : Float} (top-is : top ≡ scored scoring (maxScore w))
+module _ (scoring : Scoring) (file : List ℕ) (l q : ℕ) (h : q < 16) {x : Part} (part-is : x ≡ partOf file l) (L : ListIn file x) {w : Bm25Weight} (W : WeightIn x w) {top : Float} (top-is : top ≡ scored scoring (listBoundIn w))
     (a : Arrays) (R : Room a) {lists′ : List (List ℕ)} {held′ : Held} {doc : ℕ} (O : Opened file x q (a .lists) lists′ (a .held) held′ doc) where
   abbrev b : Arrays
   b = record { lists = lists′; held = held′; weights = set (a .weights) q (w .weight); caches = set (a .caches) q (w .cache); max-scores = set (a .max-scores) q top }

@@ -14,7 +14,8 @@ ghost use mathlib.Core.Path.{_≡_};
 ghost use Prim.Native.Nat.{_≤_};
 ghost use lib.ListN.{getD};
 ghost use Rattle.arrays.specs.Lent.{before, after};
-ghost use Rattle.route.specs.Cursor.{advanceIn, fresh, seekBlockIn, seekIn};
+ghost use Rattle.route.specs.Cursor.{Cursor, advanceIn, fresh, seekBlockIn, seekIn};
+ghost use Rattle.bm25.specs.declared.Scoring.{Scoring};
 ghost use Rattle.notefile.specs.Lists.{fullBlocks};
 ghost use Rattle.decoded.specs.Lists.{listOf};
 ghost use Rattle.postings.specs.Inner.Decoded.{docIn, ListIn};
@@ -29,7 +30,8 @@ pub fn open(
     freqs: &mut [u32; 128],
 ) -> u32
     requires { ⌜ ListIn (now file) x ⌝ }
-    ensures { λ r. ⌜ MovedRow (before file) x (λ _. fresh) (before place) (after place) (after docs) (after freqs) r × (getD (after place) 7 0 ≡ 0) ⌝ }
+    ensures { λ r. ⌜ MovedRow (before file) x (λ _. fresh) (before place) (after place) (after docs) (after freqs) r
+        × (getD (after place) 7 0 ≡ 0) ⌝ }
 {
     let p = SegmentPostings::open(file, x, docs, freqs);
     keep(p, place);
@@ -38,8 +40,12 @@ pub fn open(
 
 // The skip reader alone goes on; within its block nothing moves.
 pub fn seek_block(file: &[u8], list: &[usize; 8], target: u32, place: &mut [usize; 8])
-    requires { ⌜ PartRow (now list) × ListIn (now file) (partIn (now list)) × Standing (now file) (partIn (now list)) (now place) ⌝ }
-    ensures { λ _. ⌜ ShallowRow (before file) (partIn (before list)) (λ s. seekBlockIn (listOf s (before file) (partIn (before list))) 128 target (cursorIn (before place))) (before place) (after place) ⌝ }
+    requires { let x = partIn (now list) in
+        ⌜ PartRow (now list) × ListIn (now file) x × Standing (now file) x (now place) ⌝ }
+    ensures { λ _.
+        let x = partIn (before list) in
+        let to : Scoring → Cursor = λ scoring. seekBlockIn (listOf scoring (before file) x) 128 target (cursorIn (before place)) in
+        ⌜ ShallowRow (before file) x to (before place) (after place) ⌝ }
 {
     if target as usize <= place[LAST] {
         return;
@@ -59,8 +65,12 @@ fn seek_far(
     docs: &mut [u32; 128],
     freqs: &mut [u32; 128],
 ) -> u32
-    requires { ⌜ PartRow (now list) × ListIn (now file) (partIn (now list)) × PlaceIn (now file) (partIn (now list)) (now place) (now docs) (now freqs) × (target ≤ 2147483647) ⌝ }
-    ensures { λ r. ⌜ MovedRow (before file) (partIn (before list)) (λ s. seekIn (listOf s (before file) (partIn (before list))) 128 target (cursorIn (before place))) (before place) (after place) (after docs) (after freqs) r ⌝ }
+    requires { let x = partIn (now list) in
+        ⌜ PartRow (now list) × ListIn (now file) x × PlaceIn (now file) x (now place) (now docs) (now freqs) × (target ≤ 2147483647) ⌝ }
+    ensures { λ r.
+        let x = partIn (before list) in
+        let to : Scoring → Cursor = λ scoring. seekIn (listOf scoring (before file) x) 128 target (cursorIn (before place)) in
+        ⌜ MovedRow (before file) x to (before place) (after place) (after docs) (after freqs) r ⌝ }
 {
     let x = part_of(list);
     let p = postings_of(file, x, place);
@@ -79,8 +89,13 @@ pub fn seek(
     docs: &mut [u32; 128],
     freqs: &mut [u32; 128],
 ) -> u32
-    requires { ⌜ PartRow (now list) × ListIn (now file) (partIn (now list)) × PlaceIn (now file) (partIn (now list)) (now place) (now docs) (now freqs) × (doc ≡ docIn (now file) (partIn (now list)) (cursorIn (now place) .at)) × (target ≤ 2147483647) ⌝ }
-    ensures { λ r. ⌜ MovedRow (before file) (partIn (before list)) (λ s. seekIn (listOf s (before file) (partIn (before list))) 128 target (cursorIn (before place))) (before place) (after place) (after docs) (after freqs) r ⌝ }
+    requires { let x = partIn (now list) in
+        ⌜ PartRow (now list) × ListIn (now file) x × PlaceIn (now file) x (now place) (now docs) (now freqs)
+        × (doc ≡ docIn (now file) x (cursorIn (now place) .at)) × (target ≤ 2147483647) ⌝ }
+    ensures { λ r.
+        let x = partIn (before list) in
+        let to : Scoring → Cursor = λ scoring. seekIn (listOf scoring (before file) x) 128 target (cursorIn (before place)) in
+        ⌜ MovedRow (before file) x to (before place) (after place) (after docs) (after freqs) r ⌝ }
 {
     if target <= doc {
         return doc;
@@ -109,8 +124,13 @@ fn advance_far(
     docs: &mut [u32; 128],
     freqs: &mut [u32; 128],
 ) -> u32
-    requires { ⌜ PartRow (now list) × ListIn (now file) (partIn (now list)) × PlaceIn (now file) (partIn (now list)) (now place) (now docs) (now freqs) × (getD (now place) 0 0 ≤ fullBlocks (partIn (now list))) ⌝ }
-    ensures { λ r. ⌜ MovedRow (before file) (partIn (before list)) (λ s. advanceIn (listOf s (before file) (partIn (before list))) 128 (cursorIn (before place))) (before place) (after place) (after docs) (after freqs) r ⌝ }
+    requires { let x = partIn (now list) in
+        ⌜ PartRow (now list) × ListIn (now file) x × PlaceIn (now file) x (now place) (now docs) (now freqs)
+        × (getD (now place) 0 0 ≤ fullBlocks x) ⌝ }
+    ensures { λ r.
+        let x = partIn (before list) in
+        let to : Scoring → Cursor = λ scoring. advanceIn (listOf scoring (before file) x) 128 (cursorIn (before place)) in
+        ⌜ MovedRow (before file) x to (before place) (after place) (after docs) (after freqs) r ⌝ }
 {
     let x = part_of(list);
     let p = postings_of(file, x, place);
@@ -127,8 +147,13 @@ pub fn advance(
     docs: &mut [u32; 128],
     freqs: &mut [u32; 128],
 ) -> u32
-    requires { ⌜ PartRow (now list) × ListIn (now file) (partIn (now list)) × PlaceIn (now file) (partIn (now list)) (now place) (now docs) (now freqs) × (getD (now place) 0 0 ≤ fullBlocks (partIn (now list))) ⌝ }
-    ensures { λ r. ⌜ MovedRow (before file) (partIn (before list)) (λ s. advanceIn (listOf s (before file) (partIn (before list))) 128 (cursorIn (before place))) (before place) (after place) (after docs) (after freqs) r ⌝ }
+    requires { let x = partIn (now list) in
+        ⌜ PartRow (now list) × ListIn (now file) x × PlaceIn (now file) x (now place) (now docs) (now freqs)
+        × (getD (now place) 0 0 ≤ fullBlocks x) ⌝ }
+    ensures { λ r.
+        let x = partIn (before list) in
+        let to : Scoring → Cursor = λ scoring. advanceIn (listOf scoring (before file) x) 128 (cursorIn (before place)) in
+        ⌜ MovedRow (before file) x to (before place) (after place) (after docs) (after freqs) r ⌝ }
 {
     let cur = place[CUR];
     if cur != 127 {
@@ -146,8 +171,11 @@ pub fn load(
     docs: &mut [u32; 128],
     freqs: &mut [u32; 128],
 ) -> u32
-    requires { ⌜ PartRow (now list) × ListIn (now file) (partIn (now list)) × PlaceIn (now file) (partIn (now list)) (now place) (now docs) (now freqs) ⌝ }
-    ensures { λ r. ⌜ MovedRow (before file) (partIn (before list)) (λ _. firstOf (cursorIn (before place))) (before place) (after place) (after docs) (after freqs) r ⌝ }
+    requires { let x = partIn (now list) in
+        ⌜ PartRow (now list) × ListIn (now file) x × PlaceIn (now file) x (now place) (now docs) (now freqs) ⌝ }
+    ensures { λ r.
+        let x = partIn (before list) in
+        ⌜ MovedRow (before file) x (λ _. firstOf (cursorIn (before place))) (before place) (after place) (after docs) (after freqs) r ⌝ }
 {
     if place[LOADED] == 1 {
         place[CUR] = 0;

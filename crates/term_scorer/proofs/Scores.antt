@@ -19,7 +19,7 @@ use Rattle.bm25.specs.Score.{scoreAt}
 use Rattle.bm25.specs.Scoring.{scored}
 use Rattle.bm25.specs.Bound.{maxTf}
 use Rattle.bm25.specs.Inner.Weight.{scoreIn}
-use Rattle.bm25.specs.Inner.Bound.{maxScore, blockMaxScore}
+use Rattle.bm25.specs.Inner.Bound.{listBoundIn, blockBoundIn}
 use Rattle.bm25.specs.declared.Bm25Weight.{Bm25Weight}
 use Rattle.bm25.specs.declared.Scoring.{Scoring}
 use Rattle.notefile.specs.Header.{normCodeOf, normReader}
@@ -105,14 +105,14 @@ module _ (scoring : Scoring) (file list row : List ℕ) {y : Part} (part-is : y 
     -- of a full block, by its pair
     pub full-by : {wd f n m : ℕ} {s : Bool} → p .«skip_reader» .«block_info» ≡ BitPacked wd s f n m → {freq : ℕ} → freq ≡ maxTf m
         → {r : Float} → r ≡ scored scoring (scoreAt weight (getD cache n nan) freq) → Bound r
-    unfolding scoreIn blockMaxScore
+    unfolding scoreIn blockBoundIn
     full-by {n = n} i e er =
         bound-for (full-bound file y w W bytes scoring p (packed-info file y (p .«skip_reader») S i) (er ∙ ap (λ (z : ℕ). scored scoring (scoreAt weight (getD cache n nan) z)) e))
 
     -- of a tail that is not loaded
     pub unloaded-by : {n : ℕ} → p .«skip_reader» .«block_info» ≡ VInt n → p .«block_loaded» ≡ false
         → {r : Float} → r ≡ scored scoring (scoreAt weight (getD cache 255 nan) 2013265944) → Bound r
-    unfolding scoreIn maxScore
+    unfolding scoreIn listBoundIn
     unloaded-by i l er = bound-for (unloaded-bound file y w W bytes scoring p (tail-info file y (p .«skip_reader») S i .0) l er)
 
 -- the weight that a row's list has

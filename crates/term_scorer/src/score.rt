@@ -101,14 +101,14 @@ fn bound_of(
     let info = reader.block_info;
     match info {
         BlockInfo::BitPacked {
-            doc_num_bits: _,
-            strict_delta_encoded: _,
-            tf_num_bits: _,
-            block_wand_fieldnorm_id,
-            block_wand_max_tf,
+            doc_bits: _,
+            strict: _,
+            freq_bits: _,
+            norm_code,
+            freq_code,
         } => {
-            let freq = bm25::decode_block_wand_max_tf(block_wand_max_tf);
-            bm25::score_by(cache, weight, scoring, block_wand_fieldnorm_id, freq)
+            let freq = bm25::decode_block_wand_max_tf(freq_code);
+            bm25::score_by(cache, weight, scoring, norm_code, freq)
         }
         BlockInfo::VInt { num_docs: _ } => {
             if p.block_loaded {

@@ -3,20 +3,32 @@
 use Prim.Native.Nat.{_+_, _*_}
 use native.Mathlib.Omega.{arith}
 use borrow.Author.Needs.{needs}
-use Rattle.block_search.proofs.Segments.{at-most, first-end, next-end, last-two}
+use Rattle.block_search.specs.Search.{countBelow}
+use Rattle.block_search.proofs.Segments.{Segment, at-most, ends-are, first-end, next-end, last-two}
 use Rattle.block_search.proofs.search_block.Statement.{statement}
 use Rattle.block_search.proofs.search_block.Tie as tie
 
 segment-requires : tie.Need-segment-requires
-segment-requires c κs = (c .pre, omega arith, omega arith, omega arith, omega (arith, at-most (c .args .values .now) (c .pre) (c .args .target)))
+segment-requires c κs = search needs
 
 mul-far : tie.Need-mul-far
 mul-far c = search needs
 
+-- the count lies in the segment of 16, and then in the one of 2
+in-far : (c : tie.After-segment) → Segment (countBelow 128 (c .before .args .values .now) (c .before .args .target)) 0 16 (c .segment .result)
+in-far c =
+    let a = c .before in
+    let xs = a .args .values .now in
+    ends-are xs (a .pre) (a .args .target) 0 16 (omega arith) (omega arith) (omega arith) (at-most xs (a .pre) (a .args .target)) (c .segment .ensures .0)
+
 segment-requires-2 : tie.Need-segment-requires-2
-segment-requires-2 c κs =
-    let s = c .segment .ensures in
-    (c .before .pre, omega arith, omega (arith, s .few), omega (arith, s .low), omega (arith, s .high))
+segment-requires-2 c κs = search needs
+
+in-near : (c : tie.After-segment2) → Segment (countBelow 128 (c .before .before .args .values .now) (c .before .before .args .target)) (16 * c .before .segment .result) 2 (c .segment2 .result)
+in-near c =
+    let s = in-far (c .before) in
+    let a = c .before .before in
+    ends-are (a .args .values .now) (a .pre) (a .args .target) _ 2 (omega arith) (omega (arith, s .few)) (omega (arith, s .low)) (omega (arith, s .high)) (c .segment2 .ensures .0)
 
 mul-near : tie.Need-mul-near
 mul-near c = search needs
@@ -53,13 +65,15 @@ add-result-2 c = search needs
 
 returns : tie.Need-returns
 returns c =
-    let e = c .before .before .before .before .before .before in
-    let near = 16 * c .before .before .before .before .before .segment .result + 2 * c .before .before .before .before .segment2 .result in
-    let s = c .before .before .before .before .before .segment .ensures in
-    let t = c .before .before .before .before .segment2 .ensures in
-    let p1 = first-end (e .args .values .now) (e .pre) (e .args .target) near 1 near (omega (arith, t .low)) (omega arith) (omega (arith, s .few, t .few)) (c .before .before .below .ensures .0) in
-    let p2 = next-end (e .args .values .now) (e .pre) (e .args .target) (near + 1) p1 (omega arith) (omega (arith, s .few, t .few)) (c .below2 .ensures .0) in
-    last-two (c .before .before .below .result) (c .below2 .result) p2 (omega (arith, t .high))
+    let b = c .before .before in
+    let n = b .before .before in
+    let f = n .before in
+    let a = f .before in
+    let near = 16 * f .segment .result + 2 * n .segment2 .result in
+    let t = in-near n in
+    let p1 = first-end (a .args .values .now) (a .pre) (a .args .target) near 1 near (omega (arith, t .low)) (omega arith) (omega (arith, f .segment .ensures .1, t .few)) (b .below .ensures .0) in
+    let p2 = next-end (a .args .values .now) (a .pre) (a .args .target) (near + 1) p1 (omega arith) (omega (arith, f .segment .ensures .1, t .few)) (c .below2 .ensures .0) in
+    last-two (b .below .result) (c .below2 .result) p2 (omega (arith, t .high))
 
 pub search-block-spec : {M : Type 1} → statement M
 search-block-spec =

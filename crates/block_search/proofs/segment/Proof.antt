@@ -1,9 +1,6 @@
--- `block_search::segment` meets its contract. Each test says whether the count is past the end of its segment, so the ones come
--- before the zeros, and their number is the segment of the count (`first-end`, `next-end`).
-use Prim.Native.Nat.{_+_, _-_, _*_}
-use native.Mathlib.Omega.{arith}
+-- `block_search::segment` meets its contract: one test for each segment's end.
 use borrow.Author.Needs.{needs}
-use Rattle.block_search.proofs.Segments.{first-end, next-end, segment}
+use Rattle.block_search.proofs.Segments.{seven-ends}
 use Rattle.block_search.proofs.segment.Statement.{statement}
 use Rattle.block_search.proofs.segment.Tie as tie
 
@@ -150,16 +147,17 @@ add-result-6 c = search needs
 
 returns : tie.Need-returns
 returns c =
-    let e = c .before .before .before .before .before .before .before .before .before .before .before .before .before .before in
-    let xs = e .args .values .now in
-    let p1 = first-end xs (e .pre .0) (e .args .target) (e .args .base) (e .args .step) (e .args .base + e .args .step - 1) (e .pre .3) (omega (arith, e .pre .1)) (omega (arith, e .pre .1, e .pre .2)) (c .before .before .before .before .before .before .before .before .before .before .before .before .below .ensures .0) in
-    let p2 = next-end xs (e .pre .0) (e .args .target) (e .args .base + 2 * e .args .step - 1) p1 (omega (arith, e .pre .1)) (omega (arith, e .pre .1, e .pre .2)) (c .before .before .before .before .before .before .before .before .before .before .below2 .ensures .0) in
-    let p3 = next-end xs (e .pre .0) (e .args .target) (e .args .base + 3 * e .args .step - 1) p2 (omega (arith, e .pre .1)) (omega (arith, e .pre .1, e .pre .2)) (c .before .before .before .before .before .before .before .before .below3 .ensures .0) in
-    let p4 = next-end xs (e .pre .0) (e .args .target) (e .args .base + 4 * e .args .step - 1) p3 (omega (arith, e .pre .1)) (omega (arith, e .pre .1, e .pre .2)) (c .before .before .before .before .before .before .below4 .ensures .0) in
-    let p5 = next-end xs (e .pre .0) (e .args .target) (e .args .base + 5 * e .args .step - 1) p4 (omega (arith, e .pre .1)) (omega (arith, e .pre .1, e .pre .2)) (c .before .before .before .before .below5 .ensures .0) in
-    let p6 = next-end xs (e .pre .0) (e .args .target) (e .args .base + 6 * e .args .step - 1) p5 (omega (arith, e .pre .1)) (omega (arith, e .pre .1, e .pre .2)) (c .before .before .below6 .ensures .0) in
-    let p7 = next-end xs (e .pre .0) (e .args .target) (e .args .base + 7 * e .args .step - 1) p6 (omega (arith, e .pre .1)) (omega (arith, e .pre .1, e .pre .2)) (c .below7 .ensures .0) in
-    segment p7 (e .pre .4)
+    let b6 = c .before .before in
+    let b5 = b6 .before .before in
+    let b4 = b5 .before .before in
+    let b3 = b4 .before .before in
+    let b2 = b3 .before .before in
+    let b1 = b2 .before .before in
+    let a = b1 .before .before .args in (
+      seven-ends (a .values .now) (a .base) (a .step) (a .target) (b1 .below .ensures .0) (b2 .below2 .ensures .0) (b3 .below3 .ensures .0) (b4 .below4 .ensures .0)
+          (b5 .below5 .ensures .0) (b6 .below6 .ensures .0) (c .below7 .ensures .0),
+      search needs,
+    )
 
 pub segment-spec : {M : Type 1} → statement M
 segment-spec =

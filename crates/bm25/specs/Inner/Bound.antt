@@ -6,11 +6,11 @@ use Rattle.bm25.specs.Inner.Weight.{scoreIn}
 use Rattle.bm25.specs.declared.Bm25Weight.{Bm25Weight}
 
 -- on `bm25.rs`: the list bound is the score of code 255 and frequency 2,013,265,944
-unfoldable pub maxScore : Bm25Weight → Float
+unfoldable pub listBoundIn : Bm25Weight → Float
 unfolding scoreIn
-maxScore w = scoreIn w 255 2013265944
+listBoundIn w = scoreIn w 255 2013265944
 
 -- a full block's bound: the score of its skip entry's pair
-unfoldable pub blockMaxScore : Bm25Weight → ℕ → ℕ → Float
+unfoldable pub blockBoundIn : Bm25Weight → ℕ → ℕ → Float
 unfolding scoreIn
-blockMaxScore w code freqCode = scoreIn w code (maxTf freqCode)
+blockBoundIn w code freqCode = scoreIn w code (maxTf freqCode)

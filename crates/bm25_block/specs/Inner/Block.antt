@@ -32,12 +32,14 @@ Whole freqs out = Holds nan 128 (λ i. wholeF32 (getD freqs i 0)) out
 
 -- each frequency f at its norm: weight × (f / (f + norm))
 abbrev pub Weighed : Float → List Float → List Float → List Float → Type 0
-Weighed weight norms tfs out = Holds nan 128 (λ i. mul binary32 weight (div binary32 (getD tfs i nan) (add binary32 (getD tfs i nan) (getD norms i nan)))) out
+Weighed weight norms tfs out =
+    Holds nan 128 (λ i. mul binary32 weight (div binary32 (getD tfs i nan) (add binary32 (getD tfs i nan) (getD norms i nan)))) out
 
 -- each score cut down to the grid
-abbrev pub Stepped : List Float → List Float → Type 0
-Stepped xs out = Holds nan 128 (λ i. stepDown (getD xs i nan)) out
+abbrev pub CutDown : List Float → List Float → Type 0
+CutDown xs out = Holds nan 128 (λ i. stepDown (getD xs i nan)) out
 
 -- each posting's score, from its list's norms and weight: `scoreIn` of the struct that has both
 abbrev pub Scored : FieldNormReader → List ℕ → List Float → Float → Scoring → List ℕ → List ℕ → List Float → Type 0
-Scored reader file cache weight scoring docs freqs out = Holds nan 128 (λ i. scored scoring (scoreAt weight (getD cache (fieldnormId reader file (getD docs i 0)) nan) (getD freqs i 0))) out
+Scored reader file cache weight scoring docs freqs out =
+    Holds nan 128 (λ i. scored scoring (scoreAt weight (getD cache (fieldnormId reader file (getD docs i 0)) nan) (getD freqs i 0))) out

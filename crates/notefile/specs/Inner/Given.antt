@@ -14,7 +14,8 @@ use Rattle.notefile.specs.Header.{headerLength, entryLength, documents, 
 use Rattle.notefile.specs.Parts.{skipsAt}
 use Rattle.notefile.specs.Skips.{docWidth, freqWidth}
 use Rattle.notefile.specs.Lists.{fullBlocks, blockAt, tailAt, previousDoc, listBound}
-use Rattle.notefile.specs.Conditions.{averageRight, entryRight, skipRight, skipsRight, postingsRight, blockDocsRight, blockFreqsRight, boundsRight}
+use Rattle.notefile.specs.Conditions.{averageRight, entryRight, skipRight, skipsRight, postingsRight}
+use Rattle.notefile.specs.Conditions.{blockDocsRight, blockFreqsRight, boundsRight}
 use Rattle.notefile.specs.Inner.Structs.{headerOf}
 use Rattle.notefile.specs.declared.header.Header.{Header}
 use Rattle.notefile.specs.declared.part.Part.{Part}
@@ -26,7 +27,7 @@ pub record HeaderIn (file : List ℕ) (h : Header) : Type 0 where
   pub documents : h .documents ≤ 1048576
   pub entries : headerLength + entryLength * h .lists ≤ length file
 
--- a file that meets none of conditions 1 to 4
+-- a file that rows 1 to 4 let through
 pub record FileIn (file : List ℕ) (h : Header) : Type 0 where
   pub header : HeaderIn file h
   pub average : averageRight file ≡ true
@@ -36,8 +37,8 @@ pub record FileIn (file : List ℕ) (h : Header) : Type 0 where
 -- a list's parts lie in the file, one after another
 pub record Parted (file : List ℕ) (x : Part) : Type 0 where
   pub few : x .count < 2097152
-  pub least : 8 ≤ x .entry
-  pub most : x .entry ≤ 12
+  pub least : 8 ≤ x .«skip_entry_len»
+  pub most : x .«skip_entry_len» ≤ 12
   pub skips-first : x .skips ≤ x .postings
   pub then-postings : x .postings ≤ x .end
   pub inside : x .end ≤ length file
@@ -50,7 +51,7 @@ pub record Limits (x : Part) : Type 0 where
 -- they do, and the skip bytes are an entry for each full block
 pub record Skipped (file : List ℕ) (x : Part) : Type 0 where
   pub parted : Parted file x
-  pub exact : x .skips + x .entry * fullBlocks x ≡ x .postings
+  pub exact : x .skips + x .«skip_entry_len» * fullBlocks x ≡ x .postings
 
 -- a full block, at a place, lies in the file
 pub record PackedIn (file : List ℕ) (x : Part) (b at : ℕ) : Type 0 where
@@ -77,14 +78,16 @@ weightOf x weight cache = record { weight = weight; average = ofBits binary32 (x
 abbrev pub WeighedIn : Part → Float → List Float → Type 0
 WeighedIn x weight cache = WeightIn x (weightOf x weight cache)
 
--- what a list's blocks are tested against: the header's number of documents, the norm codes, the weight and norms, within their limits, and the list's bound
-pub record Against (file : List ℕ) (x : Part) (limit : ℕ) (reader : FieldNormReader) (weight : Float) (cache : List Float) (top : Float) : Type 0 where
+-- what a list's blocks are tested against: the header's number of documents, the norm codes, the weight and norms, within their limits, and
+-- the list's bound
+pub record Against (file : List ℕ) (x : Part) (limit : ℕ) (reader : FieldNormReader)
+    (weight : Float) (cache : List Float) (maxScore : Float) : Type 0 where
   pub limit-is : limit ≡ documents file
   pub few : limit ≤ 1048576
   pub reader-is : reader ≡ normReader file
   pub limits : Limits x
   pub weighed : WeighedIn x weight cache
-  pub top-is : top ≡ listBound x
+  pub max-score-is : maxScore ≡ listBound x
 
 -- a block whose documents and frequencies are right, with the document before it
 pub record BlockRight (file : List ℕ) (x : Part) (b previous : ℕ) : Type 0 where
@@ -93,7 +96,7 @@ pub record BlockRight (file : List ℕ) (x : Part) (b previous : ℕ) : Type 0 w
   pub freqs : blockFreqsRight file x b ≡ true
   pub previous-is : previous ≡ previousDoc file x b
 
--- a list that meets none of conditions 5 to 9
+-- a list that rows 5 to 9 let through
 pub record ListRight (file : List ℕ) (x : Part) : Type 0 where
   pub skips : skipsRight file x ≡ true
   pub postings : postingsRight file x ≡ true

@@ -21,12 +21,12 @@ allCovered bound n score = every n (λ i. not (lt bound (score i)))
 abbrev pub scoreAmong : List ℕ → Part → List ℕ → List ℕ → ℕ → Float
 scoreAmong file x docs freqs i = scoreFor x (normCodeOf file (getD docs i 0)) (getD freqs i 0)
 
--- a block's documents, and whether condition 7 is not met by them
+-- a block's documents, and whether row 7 lets them through
 pub record DocsRead (file : List ℕ) (x : Part) (b : ℕ) (r : Bool) (docs : List ℕ) : Type 0 where
   pub same : r ≡ blockDocsRight file x b
   pub at : r ≡ true → (i : ℕ) → i < blockSize x b → getD docs i 0 ≡ blockDoc file x b i
 
--- a block's frequencies, and whether condition 8 is not met by them
+-- a block's frequencies, and whether row 8 lets them through
 pub record FreqsRead (file : List ℕ) (x : Part) (b : ℕ) (r : Bool) (freqs : List ℕ) : Type 0 where
   pub same : r ≡ blockFreqsRight file x b
   pub long : length freqs ≡ 128
@@ -39,10 +39,12 @@ pub record TailValues (file : List ℕ) (x : Part) (docs freqs : List ℕ) : Typ
   pub doc-at : (i : ℕ) → i < tailSize x → getD docs i 0 ≡ docValue file x (fullBlocks x) i
   pub freq-at : (i : ℕ) → i < tailSize x → getD freqs i 0 ≡ freqValue file x (fullBlocks x) i
 
--- these, and whether condition 6 is not met by them
-pub record TailRead (file : List ℕ) (x : Part) (r : Bool) (docs freqs : List ℕ) : Type 0 where
+-- these, and whether row 6 lets them through; behind the tail the arrays are as they were
+pub record TailRead (file : List ℕ) (x : Part) (docs₀ freqs₀ : List ℕ) (r : Bool) (docs freqs : List ℕ) : Type 0 where
   pub same : r ≡ postingsRight file x
   pub values : r ≡ true → TailValues file x docs freqs
+  pub docs-kept : (i : ℕ) → tailSize x ≤ i → getD docs i 0 ≡ getD docs₀ i 0
+  pub freqs-kept : (i : ℕ) → tailSize x ≤ i → getD freqs i 0 ≡ getD freqs₀ i 0
 
 -- values with TERMINATED from place n on
 pub record Padded (before : List ℕ) (n : ℕ) (out : List ℕ) : Type 0 where

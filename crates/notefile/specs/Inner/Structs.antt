@@ -23,11 +23,11 @@ module _ (file : List ℕ) (x : Part) where
   unfoldable pub skipEntryOf : ℕ → SkipEntry
   skipEntryOf b = record {
     last = lastDoc file x b;
-    width = docWidth file x b;
+    «doc_bits» = docWidth file x b;
     strict = strictBlock file x b;
-    freqs = freqWidth file x b;
-    norm = maxNormCode file x b;
-    freq = maxFreqCode file x b;
+    «freq_bits» = freqWidth file x b;
+    «norm_code» = maxNormCode file x b;
+    «freq_code» = maxFreqCode file x b;
   }
 
   -- the last document of the skip entry before block b's, which the Rust takes for the previous document; before the first there is none

@@ -35,4 +35,6 @@ Shallow file x to p r = (docs freqs : List ℕ) → Placed file x p docs freqs �
 
 -- a document is the one on which the route's cursor stands, in whatever list and scoring the scorer is placed
 abbrev pub Here : SegmentPostings → List ℕ → ℕ → Type 0
-Here p docs doc = (file : List ℕ) (x : Part) (freqs : List ℕ) → Placed file x p docs freqs → (scoring : Scoring) → doc ≡ docHere (listOf scoring file x) (cursorOf p)
+Here p docs doc =
+    (file : List ℕ) (x : Part) (freqs : List ℕ) → Placed file x p docs freqs
+    → (scoring : Scoring) → doc ≡ docHere (listOf scoring file x) (cursorOf p)

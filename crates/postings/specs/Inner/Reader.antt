@@ -32,7 +32,10 @@ module _ (file : List ℕ) (x : Part) where
   placeIn b = cond (leb b (fullBlocks x)) (blockAt file x b) (x .end)
 
   abbrev pub infoIn : ℕ → BlockInfo
-  infoIn b = cond (isFull x b) (BitPacked (docWidth file x b) (strictBlock file x b) (freqWidth file x b) (maxNormCode file x b) (maxFreqCode file x b)) (VInt (remaining x b))
+  infoIn b =
+      cond (isFull x b)
+      (BitPacked (docWidth file x b) (strictBlock file x b) (freqWidth file x b) (maxNormCode file x b) (maxFreqCode file x b))
+      (VInt (remaining x b))
 
   -- the reader on block b
   unfoldable pub readerAt : ℕ → SkipReader

@@ -24,17 +24,21 @@ abbrev pub Keeps : Rule → Type 0
 Keeps (Script start) = Unit {0}
 Keeps (BestK start k) = (0 < k) × (k ≤ 64)
 
--- after reports that scored `scores`, in order: the route's threshold, their number, and the first of them from the best down
+-- after reports that scored `scores`, in order: the route's threshold, their number, and the first of them from the best down, with 0
+-- behind them
 pub record Follows (rule : Rule) (l scores : List Float) (t : Threshold) : Type 0 where
   pub now-is : t .now ≡ thresholdAfter f32 (ruleOf rule l) (startOf rule) scores
   pub reports-is : t .reports ≡ length scores
   pub long : length (t .best) ≡ 64
   pub best-is : take (min (length scores) (keptOf rule)) (t .best) ≡ take (keptOf rule) (rankFrom f32 [] scores)
+  pub behind-is : (i : ℕ) → min (length scores) (keptOf rule) ≤ i → i < 64 → getD (t .best) i nan ≡ f32 .nil
 
--- what `insert` leaves: the first of what inserting the score into the first m leaves, as many as there are up to k
+-- what `insert` leaves: the first of what inserting the score into the first m leaves, as many as there are up to k; behind these all is as
+-- it was
 pub record Inserted (before : List Float) (m k : ℕ) (score : Float) (after : List Float) : Type 0 where
   pub long : length after ≡ 64
   pub front : take (min (m + 1) k) after ≡ take k (insertDown f32 score (take m before))
+  pub behind : (i : ℕ) → min (m + 1) k ≤ i → getD after i nan ≡ getD before i nan
 
 -- one more report under a script
 pub record Scripted (t : Threshold) (l : List Float) (r : Threshold) : Type 0 where
@@ -47,3 +51,8 @@ pub record Ranked (t : Threshold) (start : Float) (k : ℕ) (score : Float) (r :
   pub now-is : r .now ≡ cond (leb k (t .reports + 1)) (larger start (getD (r .best) (k - 1) nan)) start
   pub reports-is : r .reports ≡ t .reports + 1
   pub inserted : Inserted (t .best) (min (t .reports) k) k score (r .best)
+
+-- one more report, from any threshold
+abbrev pub Next : Rule → List Float → Threshold → Float → Threshold → Type 0
+Next (Script start) l t score r = Scripted t l r
+Next (BestK start k) l t score r = Ranked t start k score r

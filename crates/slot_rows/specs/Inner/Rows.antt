@@ -17,7 +17,7 @@ use Rattle.postings.specs.declared.cursor.SegmentPostings.{SegmentPostings}
 
 -- a part's numbers, in the order of its fields
 abbrev pub partRow : Part → List ℕ
-partRow x = x .weight ∷ x .average ∷ x .count ∷ x .entry ∷ x .skips ∷ x .postings ∷ x .end ∷ 0 ∷ []
+partRow x = x .weight ∷ x .average ∷ x .count ∷ x .«skip_entry_len» ∷ x .skips ∷ x .postings ∷ x .end ∷ 0 ∷ []
 
 -- the part of a row
 unfoldable pub partIn : List ℕ → Part
@@ -25,7 +25,7 @@ partIn row = record {
   weight = getD row 0 0;
   average = getD row 1 0;
   count = getD row 2 0;
-  entry = getD row 3 0;
+  «skip_entry_len» = getD row 3 0;
   skips = getD row 4 0;
   postings = getD row 5 0;
   end = getD row 6 0;
@@ -58,12 +58,22 @@ firstOf c = record { blk = c .blk; loaded = true; dec = c .blk; at = start 128 (
 
 -- the route's cursor of a row
 unfoldable pub cursorIn : List ℕ → Cursor
-cursorIn row = record { blk = getD row 0 0; loaded = eqb (getD row 4 0) 1; dec = getD row 5 0; at = start 128 (getD row 5 0) + getD row 6 0 }
+cursorIn row = record {
+  blk = getD row 0 0;
+  loaded = eqb (getD row 4 0) 1;
+  dec = getD row 5 0;
+  at = start 128 (getD row 5 0) + getD row 6 0;
+}
 
 module _ (file : List ℕ) (x : Part) where
   -- the place of a row: its skip reader is the one on the row's block
   unfoldable pub postingsIn : List ℕ → SegmentPostings
-  postingsIn row = record { «skip_reader» = readerAt file x (getD row 0 0); «block_loaded» = eqb (getD row 4 0) 1; decoded = getD row 5 0; cur = getD row 6 0 }
+  postingsIn row = record {
+    «skip_reader» = readerAt file x (getD row 0 0);
+    «block_loaded» = eqb (getD row 4 0) 1;
+    decoded = getD row 5 0;
+    cur = getD row 6 0;
+  }
 
   -- a row is that of the place made of it
   pub record Standing (row : List ℕ) : Type 0 where
@@ -81,8 +91,10 @@ module _ (file : List ℕ) (x : Part) where
     pub place : PlaceIn row′ docs′ freqs′
     pub cursor-is : (scoring : Scoring) → cursorIn row′ ≡ to scoring
     pub doc-is : doc ≡ docIn file x (cursorIn row′ .at)
-    pub bound-is : getD row′ 7 0 ≡ 1 → (getD row 7 0 ≡ 1) × (cursorIn row′ .blk ≡ cursorIn row .blk) × (cursorIn row′ .loaded ≡ cursorIn row .loaded)
+    pub bound-is : getD row′ 7 0 ≡ 1
+        → (getD row 7 0 ≡ 1) × (cursorIn row′ .blk ≡ cursorIn row .blk) × (cursorIn row′ .loaded ≡ cursorIn row .loaded)
 
   -- the same of a move that leaves the decoded block and the document as they are, whatever they are
   abbrev pub ShallowRow : (Scoring → Cursor) → List ℕ → List ℕ → Type 0
-  ShallowRow to row row′ = (docs freqs : List ℕ) → PlaceIn row docs freqs → MovedRow to row row′ docs freqs (docIn file x (cursorIn row .at))
+  ShallowRow to row row′ =
+      (docs freqs : List ℕ) → PlaceIn row docs freqs → MovedRow to row row′ docs freqs (docIn file x (cursorIn row .at))

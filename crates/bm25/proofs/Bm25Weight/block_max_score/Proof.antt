@@ -4,7 +4,7 @@ use Prim.Native.Nat.{ℕ}
 use borrow.Author.Needs.{needs}
 use Rattle.bm25.specs.Scoring.{scored}
 use Rattle.bm25.specs.Inner.Weight.{scoreIn}
-use Rattle.bm25.specs.Inner.Bound.{blockMaxScore}
+use Rattle.bm25.specs.Inner.Bound.{blockBoundIn}
 use Rattle.bm25.proofs.Bm25Weight.block_max_score.Statement.{statement}
 use Rattle.bm25.proofs.Bm25Weight.block_max_score.Tie as tie
 
@@ -15,7 +15,7 @@ score-requires : tie.Need-score-requires
 score-requires c κs = search needs
 
 returns : tie.Need-returns
-unfolding blockMaxScore
+unfolding blockBoundIn
 returns c =
     let s = c .before .before in
     c .score .ensures ∙ ap (λ (f : ℕ). scored (s .args .scoring) (scoreIn (s .args .self) (s .args .fieldnorm-id) f)) (c .before .decode-block-wand-max-tf .ensures)

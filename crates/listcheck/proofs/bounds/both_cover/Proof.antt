@@ -18,7 +18,7 @@ returns c =
     let b = k .before .before in
     let a = b .before in
     low-covers (a .args .file .now) (a .args .x) (a .args .weight) (a .args .cache .now) (a .pre .1) (λ k. b .shared-slice-known .given k .fits) (a .args .reader) (a .pre .0) (a .args .docs .now) (a .args .freqs .now) _ (k .score-block .ensures)
-    (a .args .n) (a .pre .2) (a .args .top) (a .args .bound) (a .pre .3) (a .pre .4) (⊎-elim (λ w. inl (w .0 .taken, w .1)) (λ w. inr (w .0 .left, w .1)) (j .if1 .came)) (c .covered .ensures)
+    (a .args .n) (a .pre .2) (a .args .max-score) (a .args .own) (a .pre .3) (a .pre .4) (⊎-elim (λ w. inl (w .0 .taken, w .1)) (λ w. inr (w .0 .left, w .1)) (j .if1 .came)) (c .covered .ensures)
 
 pub both-cover-spec : {M : Type 1} → statement M
 both-cover-spec = tie.close (tie.spec score-block-requires covered-requires returns)

@@ -1,9 +1,13 @@
 -- `list::check_block` meets its contract: documents, frequencies and bounds are tested in this order.
-use mathlib.Core.Path.{_∙_}
+use mathlib.Core.Path.{_≡_, _∙_}
+use mathlib.Core.Bool.{true, false}
+use Prim.Native.Nat.{ℕ}
 use borrow.Author.Needs.{needs}
 use borrow.Author.Tests.{not-true, not-false}
+use Rattle.notefile.specs.Lists.{blockBound}
+use Rattle.notefile.specs.Inner.Reads.{blockRefusal}
 use Rattle.notefile.proofs.FullBlocks.{full-size}
-use Rattle.listcheck.proofs.Judged.{docs-wrong, freqs-wrong, full-bounds, bounds-wrong, all-right, bound-is, top-in, bound-in}
+use Rattle.listcheck.proofs.Judged.{docs-wrong, freqs-wrong, full-bounds, bounds-wrong, all-right, bound-is, max-score-in, bound-in}
 use Rattle.listcheck.proofs.list.check_block.Statement.{statement}
 use Rattle.listcheck.proofs.list.check_block.Tie as tie
 
@@ -27,9 +31,10 @@ packed-freqs-requires c κs = search needs
 
 returns-2 : tie.Need-returns-2
 returns-2 c =
-    let d = c .before .before .before .before in
+    let e = c .before .before .before in
+    let d = e .before in
     let a = d .before .before .before .before .before in
-    freqs-wrong (a .args .file .now) (a .args .x) (a .args .b) (d .packed-docs .ensures) (not-false _ (c .before .before .before .if1 .left)) (c .before .packed-freqs .ensures) (not-true _ (c .if2 .taken))
+    freqs-wrong (a .args .file .now) (a .args .x) (a .args .b) (d .packed-docs .ensures) (not-false _ (e .if1 .left)) (c .before .packed-freqs .ensures) (not-true _ (c .if2 .taken))
 
 decode-block-wand-max-tf-requires : tie.Need-decode-block-wand-max-tf-requires
 decode-block-wand-max-tf-requires c κs = search needs
@@ -37,48 +42,63 @@ decode-block-wand-max-tf-requires c κs = search needs
 score-by-requires : tie.Need-score-by-requires
 score-by-requires c κs = search needs
 
+-- the places behind the tests, and the one where the file's bytes are known
+abbrev freqs-read : tie.After-score-by → tie.Else2
+freqs-read c = c .before .before
+
+abbrev docs-read : tie.Else2 → tie.Else1
+docs-read c = c .before .before .before
+
+abbrev begun : tie.Else1 → tie.After-shared-slice-known
+begun c = c .before .before .before .before .before
+
+abbrev start : tie.After-score-by → tie.Start
+start c = begun (docs-read (freqs-read c)) .before
+
+own-is : (c : tie.After-score-by) → c .score-by .result ≡ blockBound (start c .args .file .now) (start c .args .x) (start c .args .b)
+own-is c =
+    let a = start c in
+    let e = docs-read (freqs-read c) in
+    let r = e .before .before .before .before .read-skip-entry in
+    bound-is (a .args .file .now) (a .args .x) (a .args .b) (λ i. begun e .shared-slice-known .given i .fits) (a .args .weight) (a .args .cache .now) (a .pre .0 .weighed) (r .result) (r .ensures)
+    (c .before .decode-block-wand-max-tf .ensures) (c .score-by .ensures)
+
 both-cover-requires : tie.Need-both-cover-requires
 both-cover-requires c κs =
-    let k = c .before .before .before .before .before .before .before .before .before .before .before .before in
-    let a = k .before in
-    let s = a .args .file .now in
-    let e = c .before .before .before .before .before .before .before .before .before .before .before .read-skip-entry in
-    let own = bound-is s (a .args .x) (a .args .b) (λ i. k .shared-slice-known .given i .fits) (a .args .weight) (a .args .cache .now) (a .pre .0 .weighed) (e .result) (e .ensures) (c .before .before .before .decode-block-wand-max-tf .ensures) (c .before .before .score-by .ensures) in
-    let t = top-in (a .args .x) (a .pre .0 .limits) (a .pre .0 .top-is) in
-    let o = bound-in s (a .args .x) (a .args .b) (λ i. k .shared-slice-known .given i .fits) (a .pre .0 .limits) own in
-    (a .pre .0 .reader-is, a .pre .0 .weighed, search needs, search needs, search needs)
+    let s = c .before .before in
+    let k = begun (docs-read (freqs-read s)) in
+    let a = k .before in (
+      a .pre .0 .reader-is,
+      a .pre .0 .weighed,
+      search needs,
+      max-score-in (a .args .x) (a .pre .0 .limits) (a .pre .0 .max-score-is),
+      bound-in (a .args .file .now) (a .args .x) (a .args .b) (λ i. k .shared-slice-known .given i .fits) (a .pre .0 .limits) (own-is s),
+    )
+
+-- what the bounds' test says of the block
+abbrev refusal-of : tie.After-both-cover → ℕ
+refusal-of c = let a = start (c .before .before .before) in blockRefusal (a .args .file .now) (a .args .x) (a .args .b)
+
+judged : (c : tie.After-both-cover) → (c .both-cover .result ≡ false → 9 ≡ refusal-of c) × (c .both-cover .result ≡ true → 0 ≡ refusal-of c)
+judged c =
+    let s = c .before .before .before in
+    let a = start s in
+    let file = a .args .file .now in
+    let e2 = freqs-read s in
+    let e1 = docs-read e2 in
+    let D = e1 .before .packed-docs .ensures in
+    let d-right = not-false _ (e1 .if1 .left) in
+    let F = e2 .before .packed-freqs .ensures in
+    let f-right = not-false _ (e2 .if2 .left) in
+    let full = a .pre .1 .full in
+    let B = full-bounds file (a .args .x) (a .args .b) D d-right F f-right (a .pre .0 .max-score-is) (full-size (a .args .x) (a .args .b) full) full (own-is s) (c .both-cover .ensures) in
+    (bounds-wrong file (a .args .x) (a .args .b) D d-right F f-right B, all-right file (a .args .x) (a .args .b) D d-right F f-right B)
 
 returns-3 : tie.Need-returns-3
-returns-3 c =
-    let d = c .before .before .before .before .before .before .before .before .before .before in
-    let k = d .before .before .before .before in
-    let a = k .before in
-    let f = c .before .before .before .before .before .before .before in
-    let s = a .args .file .now in
-    let d-right = not-false _ (c .before .before .before .before .before .before .before .before .before .if1 .left) in
-    let f-right = not-false _ (c .before .before .before .before .before .before .if2 .left) in
-    bounds-wrong s (a .args .x) (a .args .b) (d .packed-docs .ensures) d-right (f .packed-freqs .ensures) f-right
-    (full-bounds s (a .args .x) (a .args .b) (d .packed-docs .ensures) d-right (f .packed-freqs .ensures) f-right (a .pre .0 .top-is) (full-size (a .args .x) (a .args .b) (a .pre .1 .full)) (a .pre .1 .full)
-    (bound-is s (a .args .x) (a .args .b) (λ i. k .shared-slice-known .given i .fits) (a .args .weight) (a .args .cache .now) (a .pre .0 .weighed) (d .before .before .before .read-skip-entry .result) (d .before .before .before .read-skip-entry .ensures)
-    (c .before .before .before .before .before .decode-block-wand-max-tf .ensures) (c .before .before .before .before .score-by .ensures))
-    (c .before .both-cover .ensures))
-    (not-true _ (c .if3 .taken))
+returns-3 c = judged (c .before) .0 (not-true _ (c .if3 .taken))
 
 returns-4 : tie.Need-returns-4
-returns-4 c =
-    let d = c .before .before .before .before .before .before .before .before .before .before in
-    let k = d .before .before .before .before in
-    let a = k .before in
-    let f = c .before .before .before .before .before .before .before in
-    let s = a .args .file .now in
-    let d-right = not-false _ (c .before .before .before .before .before .before .before .before .before .if1 .left) in
-    let f-right = not-false _ (c .before .before .before .before .before .before .if2 .left) in
-    all-right s (a .args .x) (a .args .b) (d .packed-docs .ensures) d-right (f .packed-freqs .ensures) f-right
-    (full-bounds s (a .args .x) (a .args .b) (d .packed-docs .ensures) d-right (f .packed-freqs .ensures) f-right (a .pre .0 .top-is) (full-size (a .args .x) (a .args .b) (a .pre .1 .full)) (a .pre .1 .full)
-    (bound-is s (a .args .x) (a .args .b) (λ i. k .shared-slice-known .given i .fits) (a .args .weight) (a .args .cache .now) (a .pre .0 .weighed) (d .before .before .before .read-skip-entry .result) (d .before .before .before .read-skip-entry .ensures)
-    (c .before .before .before .before .before .decode-block-wand-max-tf .ensures) (c .before .before .before .before .score-by .ensures))
-    (c .before .both-cover .ensures))
-    (not-false _ (c .if3 .left))
+returns-4 c = judged (c .before) .1 (not-false _ (c .if3 .left))
 
 pub check-block-spec : {M : Type 1} → statement M
 check-block-spec =

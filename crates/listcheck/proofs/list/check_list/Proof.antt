@@ -4,9 +4,10 @@ use borrow.Author.Needs.{needs}
 use borrow.Author.Tests.{not-true, not-false}
 use Rattle.bm25.proofs.Numbers.{weight-number, average-number}
 use Rattle.notefile.specs.Lists.{fullBlocks}
+use Rattle.notefile.specs.Inner.Given.{Against, Skipped}
 use Rattle.notefile.proofs.FullBlocks.{previous-same}
 use Rattle.notefile.proofs.Scores.{apart}
-use Rattle.listcheck.proofs.ListOrder.{skips-wrong, tail-is, skipped, postings-wrong, blocks-in, full-seven, docs-before, with-tail, top-is}
+use Rattle.listcheck.proofs.ListOrder.{skips-wrong, tail-is, skipped, postings-wrong, blocks-in, full-seven, docs-before, with-tail, list-bound-is}
 use Rattle.listcheck.proofs.list.check_list.Statement.{statement}
 use Rattle.listcheck.proofs.list.check_list.Tie as tie
 
@@ -22,42 +23,38 @@ enum-told c = search needs
 returns : tie.Need-returns
 returns c = let p = c .before .before in let a = p .before .before in skips-wrong (a .args .file .now) (a .args .x) (p .tail-place .ensures) (c .enum-told .given .1)
 
+-- where the tail's place is known, and where it was asked for
+abbrev known : tie.After-freqs → tie.After-known-told
+known c = c .before .before
+
+abbrev placed : tie.After-known-told → tie.After-tail-place
+placed c = c .before .before .before
+
+abbrev start : tie.After-freqs → tie.Start
+start c = placed (known c) .before .before
+
+-- the list's skip entries are right, and this is its tail's place
+skips-here : (c : tie.After-freqs) → Skipped (start c .args .file .now) (start c .args .x)
+skips-here c = let a = start c in let k = known c in skipped (a .args .file .now) (a .args .x) (placed k .tail-place .ensures) (k .before .place .given .1) (a .pre .0)
+
 read-tail-requires : tie.Need-read-tail-requires
 read-tail-requires c κs =
-    let k = c .before .before in
-    let p = k .before .before .before in
-    let a = p .before .before in
-    (skipped (a .args .file .now) (a .args .x) (p .tail-place .ensures) (k .before .place .given .1) (a .pre .0), tail-is (a .args .file .now) (a .args .x) (p .tail-place .ensures) (k .before .place .given .1), search needs, search needs)
+    let a = start c in
+    let k = known c in
+    (skips-here c, tail-is (a .args .file .now) (a .args .x) (placed k .tail-place .ensures) (k .before .place .given .1), search needs, search needs)
 
 returns-2 : tie.Need-returns-2
 returns-2 c =
     let t = c .before in
-    let k = t .before .before .before in
-    let p = k .before .before .before in
-    let a = p .before .before in
-    let s = a .args .file .now in
-    let x = a .args .x in
-    postings-wrong s x (p .tail-place .ensures) (k .before .place .given .1) (t .read-tail .ensures) (not-true _ (c .if1 .taken))
+    let a = start (t .before) in
+    let k = known (t .before) in
+    postings-wrong (a .args .file .now) (a .args .x) (placed k .tail-place .ensures) (k .before .place .given .1) (t .read-tail .ensures) (not-true _ (c .if1 .taken))
 
 float-from-bits-new : tie.Need-float-from-bits-new
-float-from-bits-new c =
-    let t = c .before .before in
-    let k = t .before .before .before in
-    let p = k .before .before .before in
-    let a = p .before .before in
-    let s = a .args .file .now in
-    let x = a .args .x in
-    weight-number (x .weight) (a .pre .1 .weight)
+float-from-bits-new c = let a = start (c .before .before .before) in weight-number (a .args .x .weight) (a .pre .1 .weight)
 
 float-from-bits-new-2 : tie.Need-float-from-bits-new-2
-float-from-bits-new-2 c =
-    let t = c .before .before .before in
-    let k = t .before .before .before in
-    let p = k .before .before .before in
-    let a = p .before .before in
-    let s = a .args .file .now in
-    let x = a .args .x in
-    average-number (x .average) (a .pre .1 .average)
+float-from-bits-new-2 c = let a = start (c .before .before .before .before) in average-number (a .args .x .average) (a .pre .1 .average)
 
 new-requires : tie.Need-new-requires
 new-requires c κs = search needs
@@ -65,61 +62,70 @@ new-requires c κs = search needs
 max-score-requires : tie.Need-max-score-requires
 max-score-requires c κs = search needs
 
+-- the place behind the tail's test, from the list's bound
+abbrev read : tie.After-max-score → tie.Else1
+read c = c .before .before .before .before
+
+abbrev begun : tie.After-max-score → tie.Start
+begun c = start (read c .before .before)
+
+against : (c : tie.After-max-score) → Against (begun c .args .file .now) (begun c .args .x) (begun c .args .limit) (begun c .args .reader) (c .before .new .result .weight) (c .before .new .result .cache) (c .max-score .result)
+against c =
+    let a = begun c in
+    let w = c .before .new in
+    record {
+      limit-is = a .pre .2;
+      few = a .pre .3;
+      reader-is = a .pre .4;
+      limits = a .pre .1;
+      weighed = apart (a .args .x) (w .ensures);
+      max-score-is = list-bound-is (a .args .x) (w .result) (w .ensures) (c .max-score .ensures);
+    }
+
 check-blocks-requires : tie.Need-check-blocks-requires
 check-blocks-requires c κs =
-    let t = c .before .before .before .before .before .before .before in
-    let k = t .before .before .before in
-    let p = k .before .before .before in
-    let a = p .before .before in
-    let s = a .args .file .now in
-    let x = a .args .x in
     let m = c .before .before in
-    let w = m .before .new in
-    let right = not-false _ (m .before .before .before .before .if1 .left) in
-    (record { limit-is = a .pre .2; few = a .pre .3; reader-is = a .pre .4; limits = a .pre .1; weighed = apart x (w .ensures); top-is = top-is x (w .result) (w .ensures) (m .max-score .ensures) }, blocks-in s x (p .tail-place .ensures) (k .before .place .given .1) (t .read-tail .ensures) right (a .pre .0))
+    let a = begun m in
+    let t = read m .before in
+    let k = known (t .before) in
+    (against m, blocks-in (a .args .file .now) (a .args .x) (placed k .tail-place .ensures) (k .before .place .given .1) (t .read-tail .ensures) (not-false _ (read m .if1 .left)) (a .pre .0))
 
 returns-3 : tie.Need-returns-3
 returns-3 c =
-    let t = c .before .before .before .before .before .before .before .before .before in
-    let k = t .before .before .before in
-    let p = k .before .before .before in
-    let a = p .before .before in
-    let s = a .args .file .now in
-    let x = a .args .x in
-    let m = c .before .before .before .before in
-    let w = m .before .new in
-    let right = not-false _ (m .before .before .before .before .if1 .left) in
-    full-seven s x (p .tail-place .ensures) (k .before .place .given .1) (t .read-tail .ensures) right (c .before .check-blocks .ensures) (c .if2 .taken)
+    let b = c .before in
+    let m = b .before .before .before in
+    let a = begun m in
+    let t = read m .before in
+    let k = known (t .before) in
+    full-seven (a .args .file .now) (a .args .x) (placed k .tail-place .ensures) (k .before .place .given .1) (t .read-tail .ensures) (not-false _ (read m .if1 .left)) (b .check-blocks .ensures) (c .if2 .taken)
 
 check-tail-requires : tie.Need-check-tail-requires
 check-tail-requires c κs =
-    let t = c .before .before .before .before .before .before .before .before .before .before .before .before .before in
-    let k = t .before .before .before in
-    let p = k .before .before .before in
-    let a = p .before .before in
-    let s = a .args .file .now in
+    let e2 = c .before .before .before .before in
+    let m = e2 .before .before .before .before in
+    let a = begun m in
     let x = a .args .x in
-    let m = c .before .before .before .before .before .before .before .before in
-    let w = m .before .new in
-    let right = not-false _ (m .before .before .before .before .if1 .left) in
-    let q = skipped s x (p .tail-place .ensures) (k .before .place .given .1) (a .pre .0) in
-    (record { limit-is = a .pre .2; few = a .pre .3; reader-is = a .pre .4; limits = a .pre .1; weighed = apart x (w .ensures); top-is = top-is x (w .result) (w .ensures) (m .max-score .ensures) }, q, t .read-tail .ensures .values right, previous-same s x (fullBlocks x) (omega arith) (docs-before s x (p .tail-place .ensures) (k .before .place .given .1) (t .read-tail .ensures) right (c .before .before .before .before .before .check-blocks .ensures) (c .before .before .before .before .if2 .left)))
+    let t = read m .before in
+    let k = known (t .before) in
+    let right = not-false _ (read m .if1 .left) in (
+      against m,
+      skips-here (t .before),
+      t .read-tail .ensures .values right,
+      previous-same (a .args .file .now) x (fullBlocks x) (omega arith)
+          (docs-before (a .args .file .now) x (placed k .tail-place .ensures) (k .before .place .given .1) (t .read-tail .ensures) right (e2 .before .check-blocks .ensures) (e2 .if2 .left)),
+    )
 
 lower-of-requires : tie.Need-lower-of-requires
 lower-of-requires c κs = search needs
 
 returns-4 : tie.Need-returns-4
 returns-4 c =
-    let t = c .before .before .before .before .before .before .before .before .before .before .before .before .before .before .before in
-    let k = t .before .before .before in
-    let p = k .before .before .before in
-    let a = p .before .before in
-    let s = a .args .file .now in
-    let x = a .args .x in
-    let m = c .before .before .before .before .before .before .before .before .before .before in
-    let w = m .before .new in
-    let right = not-false _ (m .before .before .before .before .if1 .left) in
-    with-tail s x (p .tail-place .ensures) (k .before .place .given .1) (t .read-tail .ensures) right (c .before .before .before .before .before .before .before .check-blocks .ensures) (c .before .check-tail .ensures) (c .lower-of .ensures)
+    let b = c .before .before .before .before .before .before .before in
+    let m = b .before .before .before in
+    let a = begun m in
+    let t = read m .before in
+    let k = known (t .before) in
+    with-tail (a .args .file .now) (a .args .x) (placed k .tail-place .ensures) (k .before .place .given .1) (t .read-tail .ensures) (not-false _ (read m .if1 .left)) (b .check-blocks .ensures) (c .before .check-tail .ensures) (c .lower-of .ensures)
 
 pub check-list-spec : {M : Type 1} → statement M
 check-list-spec =

@@ -1,69 +1,82 @@
 -- `list::check_tail` meets its contract: the tail is a block of its own, which only the list's bound covers.
-use mathlib.Core.Path.{_∙_}
+use mathlib.Core.Path.{_≡_, _∙_}
+use mathlib.Core.Bool.{true, false}
+use Prim.Native.Nat.{ℕ}
 use native.Mathlib.Omega.{arith}
 use borrow.Author.Needs.{needs}
 use borrow.Author.Tests.{not-true, not-false}
+use Rattle.notefile.specs.Lists.{fullBlocks}
+use Rattle.notefile.specs.Inner.Reads.{blockRefusal}
 use Rattle.notefile.proofs.TailBlocks.{size-tail, docs-small, freqs-small, docs-tail, freqs-tail}
-use Rattle.listcheck.proofs.Judged.{docs-wrong, freqs-wrong, tail-bounds, bounds-wrong, all-right, top-in}
+use Rattle.listcheck.proofs.Judged.{docs-wrong, freqs-wrong, tail-bounds, bounds-wrong, all-right, max-score-in}
 use Rattle.listcheck.proofs.list.check_tail.Statement.{statement}
 use Rattle.listcheck.proofs.list.check_tail.Tie as tie
+
+-- the place of the call, from where the documents are made
+abbrev start : tie.After-documents-arg → tie.Start
+start c = c .before .before .before .before .before
+
+-- what the tail is refused for, if the tests so far let it through
+abbrev refusal-of : tie.After-documents → ℕ
+refusal-of c = let a = start (c .before) in blockRefusal (a .args .file .now) (a .args .x) (fullBlocks (a .args .x))
 
 last-before-requires : tie.Need-last-before-requires
 last-before-requires c κs = search needs
 
 documents-requires : tie.Need-documents-requires
-documents-requires c κs = let a = c .before .before .before .before .before in (omega arith, a .pre .2 .long-docs, λ k l. docs-small (a .pre .2) k (omega arith))
+documents-requires c κs = let a = start c in (omega arith, a .pre .2 .long-docs, λ k l. docs-small (a .pre .2) k (omega arith))
 
 returns : tie.Need-returns
 returns c =
     let d = c .before in
-    let l = d .before .before in
-    let a = l .before .before .before .before in
-    let s = a .args .file .now in
-    let D = docs-tail (a .pre .2) (l .last-before .ensures ∙ a .pre .3) (a .pre .0 .limit-is) (a .pre .0 .few) (d .documents .ensures) in
-    docs-wrong s (a .args .x) _ D (not-true _ (c .if1 .taken))
+    let a = start (d .before) in
+    let D = docs-tail (a .pre .2) (d .before .before .last-before .ensures ∙ a .pre .3) (a .pre .0 .limit-is) (a .pre .0 .few) (d .documents .ensures) in
+    docs-wrong (a .args .file .now) (a .args .x) _ D (not-true _ (c .if1 .taken))
 
 frequencies-requires : tie.Need-frequencies-requires
-frequencies-requires c κs = let a = c .before .before .before .before .before .before .before .before in (omega arith, a .pre .2 .long-freqs, λ k l. freqs-small (a .pre .2) k (omega arith))
+frequencies-requires c κs = let a = start (c .before .before .before) in (omega arith, a .pre .2 .long-freqs, λ k l. freqs-small (a .pre .2) k (omega arith))
 
 returns-2 : tie.Need-returns-2
 returns-2 c =
-    let d = c .before .before .before .before in
-    let l = d .before .before in
-    let a = l .before .before .before .before in
-    let s = a .args .file .now in
-    let D = docs-tail (a .pre .2) (l .last-before .ensures ∙ a .pre .3) (a .pre .0 .limit-is) (a .pre .0 .few) (d .documents .ensures) in
-    freqs-wrong s (a .args .x) _ D (not-false _ (c .before .before .before .if1 .left)) (freqs-tail (a .pre .2) (c .before .frequencies .ensures)) (not-true _ (c .if2 .taken))
+    let e = c .before .before .before in
+    let d = e .before in
+    let a = start (d .before) in
+    let D = docs-tail (a .pre .2) (d .before .before .last-before .ensures ∙ a .pre .3) (a .pre .0 .limit-is) (a .pre .0 .few) (d .documents .ensures) in
+    freqs-wrong (a .args .file .now) (a .args .x) _ D (not-false _ (e .if1 .left)) (freqs-tail (a .pre .2) (c .before .frequencies .ensures)) (not-true _ (c .if2 .taken))
+
+-- the place behind the frequencies' test, and behind the documents'
+abbrev freqs-right : tie.After-both-cover-arg2 → tie.Else2
+freqs-right c = c .before .before
+
+abbrev docs-right : tie.Else2 → tie.Else1
+docs-right c = c .before .before .before
 
 both-cover-requires : tie.Need-both-cover-requires
 both-cover-requires c κs =
-    let a = c .before .before .before .before .before .before .before .before .before .before .before .before in
-    let top = top-in (a .args .x) (a .pre .0 .limits) (a .pre .0 .top-is) in
-    (a .pre .0 .reader-is, a .pre .0 .weighed, search needs, top, top)
+    let a = start (docs-right (freqs-right c) .before .before) in
+    let t = max-score-in (a .args .x) (a .pre .0 .limits) (a .pre .0 .max-score-is) in
+    (a .pre .0 .reader-is, a .pre .0 .weighed, search needs, t, t)
+
+judged : (c : tie.After-both-cover)
+    → (c .both-cover .result ≡ false → 9 ≡ refusal-of (docs-right (freqs-right (c .before)) .before)) × (c .both-cover .result ≡ true → 0 ≡ refusal-of (docs-right (freqs-right (c .before)) .before))
+judged c =
+    let e2 = freqs-right (c .before) in
+    let e1 = docs-right e2 in
+    let d = e1 .before in
+    let a = start (d .before) in
+    let s = a .args .file .now in
+    let D = docs-tail (a .pre .2) (d .before .before .last-before .ensures ∙ a .pre .3) (a .pre .0 .limit-is) (a .pre .0 .few) (d .documents .ensures) in
+    let F = freqs-tail (a .pre .2) (e2 .before .frequencies .ensures) in
+    let d-right = not-false _ (e1 .if1 .left) in
+    let f-right = not-false _ (e2 .if2 .left) in
+    let B = tail-bounds s (a .args .x) _ D d-right F f-right (a .pre .0 .max-score-is) (size-tail (a .pre .2)) (omega arith) (c .both-cover .ensures) in
+    (bounds-wrong s (a .args .x) _ D d-right F f-right B, all-right s (a .args .x) _ D d-right F f-right B)
 
 returns-3 : tie.Need-returns-3
-returns-3 c =
-    let d = c .before .before .before .before .before .before .before .before in
-    let l = d .before .before in
-    let a = l .before .before .before .before in
-    let s = a .args .file .now in
-    let D = docs-tail (a .pre .2) (l .last-before .ensures ∙ a .pre .3) (a .pre .0 .limit-is) (a .pre .0 .few) (d .documents .ensures) in
-    let F = freqs-tail (a .pre .2) (c .before .before .before .before .before .frequencies .ensures) in
-    let d-right = not-false _ (c .before .before .before .before .before .before .before .if1 .left) in
-    let f-right = not-false _ (c .before .before .before .before .if2 .left) in
-    bounds-wrong s (a .args .x) _ D d-right F f-right (tail-bounds s (a .args .x) _ D d-right F f-right (a .pre .0 .top-is) (size-tail (a .pre .2)) (omega arith) (c .before .both-cover .ensures)) (not-true _ (c .if3 .taken))
+returns-3 c = judged (c .before) .0 (not-true _ (c .if3 .taken))
 
 returns-4 : tie.Need-returns-4
-returns-4 c =
-    let d = c .before .before .before .before .before .before .before .before in
-    let l = d .before .before in
-    let a = l .before .before .before .before in
-    let s = a .args .file .now in
-    let D = docs-tail (a .pre .2) (l .last-before .ensures ∙ a .pre .3) (a .pre .0 .limit-is) (a .pre .0 .few) (d .documents .ensures) in
-    let F = freqs-tail (a .pre .2) (c .before .before .before .before .before .frequencies .ensures) in
-    let d-right = not-false _ (c .before .before .before .before .before .before .before .if1 .left) in
-    let f-right = not-false _ (c .before .before .before .before .if2 .left) in
-    all-right s (a .args .x) _ D d-right F f-right (tail-bounds s (a .args .x) _ D d-right F f-right (a .pre .0 .top-is) (size-tail (a .pre .2)) (omega arith) (c .before .both-cover .ensures)) (not-false _ (c .if3 .left))
+returns-4 c = judged (c .before) .1 (not-false _ (c .if3 .left))
 
 pub check-tail-spec : {M : Type 1} → statement M
 check-tail-spec =

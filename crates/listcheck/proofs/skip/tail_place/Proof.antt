@@ -14,10 +14,10 @@ abbrev μ-loop : tie.MeasureT-loop
 μ-loop file x blocks at₀ b₀ at b = blocks - b
 
 mul-if1 : tie.Need-mul-if1 Inv-loop μ-loop
-mul-if1 c = let a = c .before .before .before in omega (arith, skips-small (a .args .x .entry) (a .args .x .count) (a .pre .most) (a .pre .few))
+mul-if1 c = let a = c .before .before .before in omega (arith, skips-small (a .args .x .«skip_entry_len») (a .args .x .count) (a .pre .most) (a .pre .few))
 
 add-if1 : tie.Need-add-if1 Inv-loop μ-loop
-add-if1 c = let a = c .before .before .before .before in omega (arith, skips-small (a .args .x .entry) (a .args .x .count) (a .pre .most) (a .pre .few), a .pre, a .good)
+add-if1 c = let a = c .before .before .before .before in omega (arith, skips-small (a .args .x .«skip_entry_len») (a .args .x .count) (a .pre .most) (a .pre .few), a .pre, a .good)
 
 returns : tie.Need-returns Inv-loop μ-loop
 returns c = let a = c .before .before .before .before .before .before in wrong-length (a .args .file .now) (a .args .x) (c .if1 .taken)

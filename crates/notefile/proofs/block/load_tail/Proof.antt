@@ -25,11 +25,7 @@ pad-requires : tie.Need-pad-requires
 pad-requires c κs = search needs
 
 pad-requires-2 : tie.Need-pad-requires-2
-pad-requires-2 c κs =
-    let r = c .before .before .before .before .before .before in
-    let a = r .before .before .before .before .before .before .before .before .before in
-    let v = r .read-tail .ensures .values (r .read-tail .ensures .same ∙ a .pre .2) in
-    v .long-freqs
+pad-requires-2 c κs = search needs
 
 returns : tie.Need-returns
 returns c =

@@ -21,11 +21,11 @@ load-packed-requires c κs =
 enum-known-info : tie.Need-enum-known-info
 enum-known-info c = search needs
 
-fill-terminated-requires : tie.Need-fill-terminated-requires
-fill-terminated-requires c κs = search needs
+pad-requires : tie.Need-pad-requires
+pad-requires c κs = search needs
 
-fill-terminated-requires-2 : tie.Need-fill-terminated-requires-2
-fill-terminated-requires-2 c κs = search needs
+pad-requires-2 : tie.Need-pad-requires-2
+pad-requires-2 c κs = search needs
 
 load-tail-requires : tie.Need-load-tail-requires
 load-tail-requires c κs =
@@ -49,7 +49,7 @@ returns-2 c =
     let m = t .before .before in
     let a = m .before .before .before in
     let s = a .args .file .now in let x = a .args .x in let r = a .args .reader in
-    empty-is s x (r .block) (sym (tail-info s x r (a .pre .1) (m .info .given .1) .1) ∙ t .if1 .taken) (c .before .before .fill-terminated .ensures) (c .fill-terminated2 .ensures)
+    empty-is s x (r .block) (sym (tail-info s x r (a .pre .1) (m .info .given .1) .1) ∙ t .if1 .taken) (c .before .before .pad .ensures) (c .pad2 .ensures)
 
 returns-3 : tie.Need-returns-3
 returns-3 c =
@@ -67,8 +67,8 @@ load-block-spec =
     enum-told
     load-packed-requires
     enum-known-info
-    fill-terminated-requires
-    fill-terminated-requires-2
+    pad-requires
+    pad-requires-2
     load-tail-requires
     returns
     returns-2
