@@ -1,4 +1,5 @@
-// The intersection's skipping run: windows in which all block bounds hold, and in each the leader's candidates against the secondaries.
+// The intersection's skipping run: windows in which all block bounds hold, and in each the leader's candidates
+// against the secondaries.
 mod run;
 mod walk;
 
@@ -32,8 +33,12 @@ pub fn block_wand_intersection(
     documents: &mut [u32],
     scores: &mut [f32],
 ) -> Ended
-    requires { ⌜ Fresh scoring (now file) (now lists) n norms (now weights) (now caches) (now «max_scores») (held (now places) (now docs) (now freqs)) (now bounds) × Keeps rule ⌝ }
-    ensures { λ r. ⌜ Answers scoring (before file) (before lists) n rule (before script) (before documents) (before scores) r (after places) (after documents) (after scores) ⌝ }
+    requires { let slots = held (now places) (now docs) (now freqs) in
+        ⌜ Fresh scoring (now file) (now lists) n norms (now weights) (now caches) (now «max_scores») slots (now bounds)
+        × Keeps rule ⌝ }
+    ensures { λ r.
+        ⌜ Answers scoring (before file) (before lists) n rule (before script) (before documents) (before scores)
+        r (after places) (after documents) (after scores) ⌝ }
 {
     let order = by_size(n, lists);
     run_in_order(

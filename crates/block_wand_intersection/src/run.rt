@@ -71,8 +71,16 @@ fn step(
     documents: &mut [u32],
     scores: &mut [f32],
 ) -> Stepped
-    requires { ⌜ InOrder (query scoring (now file) (now lists) n (now order)) × WeightsIn (query scoring (now file) (now lists) n (now order)) norms (now weights) (now caches) × Ready (query scoring (now file) (now lists) n (now order)) (held (now places) (now docs) (now freqs)) (now bounds) × Keeps rule × Begun rule (now script) t (now documents) (now scores) × («max_sum» ≡ maxSum (query scoring (now file) (now lists) n (now order))) × (doc < 2147483647) ⌝ }
-    ensures { λ r. ⌜ Steps (query scoring (before file) (before lists) n (before order)) rule (before script) t doc (held (before places) (before docs) (before freqs)) (before documents) (before scores) r (held (after places) (after docs) (after freqs)) (after bounds) (after documents) (after scores) ⌝ }
+    requires { let asked = query scoring (now file) (now lists) n (now order) in
+        let slots = held (now places) (now docs) (now freqs) in
+        ⌜ InOrder asked × WeightsIn asked norms (now weights) (now caches) × Ready asked slots (now bounds) × Keeps rule
+        × Begun rule (now script) t (now documents) (now scores) × («max_sum» ≡ maxSum asked) × (doc < 2147483647) ⌝ }
+    ensures { λ r.
+        let asked = query scoring (before file) (before lists) n (before order) in
+        let old = held (before places) (before docs) (before freqs) in
+        let new = held (after places) (after docs) (after freqs) in
+        ⌜ Steps asked rule (before script) t doc old (before documents) (before scores)
+        r new (after bounds) (after documents) (after scores) ⌝ }
 {
     let window = next_window(
         file,
@@ -160,8 +168,15 @@ fn windows(
     documents: &mut [u32],
     scores: &mut [f32],
 ) -> Ended
-    requires { ⌜ InOrder (query scoring (now file) (now lists) n (now order)) × WeightsIn (query scoring (now file) (now lists) n (now order)) norms (now weights) (now caches) × Ready (query scoring (now file) (now lists) n (now order)) (held (now places) (now docs) (now freqs)) (now bounds) × Keeps rule × Begun rule (now script) t (now documents) (now scores) × («max_sum» ≡ maxSum (query scoring (now file) (now lists) n (now order))) × («first_doc» ≤ 2147483648) ⌝ }
-    ensures { λ r. ⌜ Ends (query scoring (before file) (before lists) n (before order)) rule (before script) t «first_doc» (held (before places) (before docs) (before freqs)) (before documents) (before scores) r (after places) (after documents) (after scores) ⌝ }
+    requires { let asked = query scoring (now file) (now lists) n (now order) in
+        let slots = held (now places) (now docs) (now freqs) in
+        ⌜ InOrder asked × WeightsIn asked norms (now weights) (now caches) × Ready asked slots (now bounds) × Keeps rule
+        × Begun rule (now script) t (now documents) (now scores) × («max_sum» ≡ maxSum asked) × («first_doc» ≤ 2147483648) ⌝ }
+    ensures { λ r.
+        let asked = query scoring (before file) (before lists) n (before order) in
+        let old = held (before places) (before docs) (before freqs) in
+        ⌜ Ends asked rule (before script) t «first_doc» old (before documents) (before scores)
+        r (after places) (after documents) (after scores) ⌝ }
 {
     let mut threshold = t;
     let mut doc = first_doc;
@@ -228,8 +243,14 @@ pub fn run_in_order(
     documents: &mut [u32],
     scores: &mut [f32],
 ) -> Ended
-    requires { ⌜ InOrder (query scoring (now file) (now lists) n (now order)) × WeightsIn (query scoring (now file) (now lists) n (now order)) norms (now weights) (now caches) × Ready (query scoring (now file) (now lists) n (now order)) (held (now places) (now docs) (now freqs)) (now bounds) × Keeps rule × TopsIn (query scoring (now file) (now lists) n (now order)) (now «max_scores») ⌝ }
-    ensures { λ r. ⌜ Runs (query scoring (before file) (before lists) n (before order)) rule (before script) (before places) (before documents) (before scores) r (after places) (after documents) (after scores) ⌝ }
+    requires { let asked = query scoring (now file) (now lists) n (now order) in
+        let slots = held (now places) (now docs) (now freqs) in
+        ⌜ InOrder asked × WeightsIn asked norms (now weights) (now caches) × Ready asked slots (now bounds) × Keeps rule
+        × TopsIn asked (now «max_scores») ⌝ }
+    ensures { λ r.
+        let asked = query scoring (before file) (before lists) n (before order) in
+        ⌜ Runs asked rule (before script) (before places) (before documents) (before scores)
+        r (after places) (after documents) (after scores) ⌝ }
 {
     let max_sum = max_score_sum(n, order, max_scores);
     let threshold = Threshold::new(rule);

@@ -51,8 +51,16 @@ pub fn walk(
     documents: &mut [u32],
     scores: &mut [f32],
 ) -> Walked
-    requires { ⌜ InOrder (query scoring (now file) (now lists) n (now order)) × WeightsIn (query scoring (now file) (now lists) n (now order)) norms (now weights) (now caches) × Seated (query scoring (now file) (now lists) n (now order)) (held (now places) (now docs) (now freqs)) × Keeps rule × Begun rule (now script) t (now documents) (now scores) × («max_sum» ≡ maxSum (query scoring (now file) (now lists) n (now order))) ⌝ }
-    ensures { λ r. ⌜ Walks (query scoring (before file) (before lists) n (before order)) rule (before script) t doc «window_end» «block_max_sum» (before suffix) (held (before places) (before docs) (before freqs)) (before documents) (before scores) r (held (after places) (after docs) (after freqs)) (after documents) (after scores) ⌝ }
+    requires { let asked = query scoring (now file) (now lists) n (now order) in
+        let slots = held (now places) (now docs) (now freqs) in
+        ⌜ InOrder asked × WeightsIn asked norms (now weights) (now caches) × Seated asked slots × Keeps rule
+        × Begun rule (now script) t (now documents) (now scores) × («max_sum» ≡ maxSum asked) ⌝ }
+    ensures { λ r.
+        let asked = query scoring (before file) (before lists) n (before order) in
+        let old = held (before places) (before docs) (before freqs) in
+        let new = held (after places) (after docs) (after freqs) in
+        ⌜ Walks asked rule (before script) t doc «window_end» «block_max_sum» (before suffix) old (before documents) (before scores)
+        r new (after documents) (after scores) ⌝ }
 {
     let leader = order[0];
     let room = rows(documents, scores);

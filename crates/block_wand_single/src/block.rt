@@ -79,7 +79,8 @@ fn after_walk(
     walked: Walked,
     docs: &[u32; 128],
 ) -> Scanned
-    requires { ⌜ ListIn (now file) x × Stands (now file) x (p .«skip_reader») × (p .«skip_reader» .block ≤ suc (fullBlocks x)) × (walked .full ≡ true → walked .place < 128) ⌝ }
+    requires { ⌜ ListIn (now file) x × Stands (now file) x (p .«skip_reader») × (p .«skip_reader» .block ≤ suc (fullBlocks x))
+        × (walked .full ≡ true → walked .place < 128) ⌝ }
     ensures { λ r. ⌜ AfterWalk (before file) x p n (before docs) walked r ⌝ }
 {
     let threshold = walked.threshold;
@@ -122,8 +123,11 @@ pub fn scan_block(
     documents: &mut [u32],
     scores: &mut [f32],
 ) -> Scanned
-    requires { ⌜ TermIn (now file) norms x w × Keeps rule × Begun rule (now script) t (now documents) (now scores) × Placed (now file) x p (now docs) (now freqs) × SingleKept 128 (listOf scoring (now file) x) hunt (cursorOf p) d ⌝ }
-    ensures { λ r. ⌜ ScansBlock (before file) x scoring rule (before script) t p d (before documents) (before scores) r (after docs) (after freqs) (after documents) (after scores) ⌝ }
+    requires { ⌜ TermIn (now file) norms x w × Keeps rule × Begun rule (now script) t (now documents) (now scores)
+        × Placed (now file) x p (now docs) (now freqs) × SingleKept 128 (listOf scoring (now file) x) hunt (cursorOf p) d ⌝ }
+    ensures { λ r.
+        ⌜ ScansBlock (before file) x scoring rule (before script) t p d (before documents) (before scores)
+        r (after docs) (after freqs) (after documents) (after scores) ⌝ }
 {
     let now = t.now;
     let scan = approach(file, norms, x, w, scoring, now, p, d, docs, freqs, values);

@@ -51,7 +51,11 @@ pub fn block_wand_single_scorer(
     scores: &mut [f32],
 ) -> SingleRun
     requires { ⌜ TermIn (now file) norms x w × Keeps rule ⌝ }
-    ensures { λ r. ⌜ ((ord : ℕ) → Ran (singleRoute scoring (before file) x ord) rule (before script) (before documents) (before scores) (r .full) (r .count) (after documents) (after scores) (placeOf (endPhase (r .full)) (r .postings) (r .doc))) ⌝ }
+    ensures { λ r.
+        let stopped = placeOf (endPhase (r .full)) (r .postings) (r .doc) in
+        ⌜ ((ord : ℕ)
+        → Ran (singleRoute scoring (before file) x ord) rule (before script) (before documents) (before scores)
+        (r .full) (r .count) (after documents) (after scores) stopped) ⌝ }
 {
     let mut docs = [0u32; 128];
     let mut freqs = [0u32; 128];

@@ -42,7 +42,9 @@ pub fn walk(
     scores: &mut [f32],
 ) -> Walked
     requires { ⌜ Keeps rule × (from ≤ n) × (n ≤ 128) × Begun rule (now script) t (now documents) (now scores) ⌝ }
-    ensures { λ r. ⌜ Walks rule (before script) t from n (before docs) (before values) (before documents) (before scores) r (after documents) (after scores) ⌝ }
+    ensures { λ r.
+        ⌜ Walks rule (before script) t from n (before docs) (before values) (before documents) (before scores)
+        r (after documents) (after scores) ⌝ }
 {
     let room = rows(documents, scores);
     let mut threshold = t;

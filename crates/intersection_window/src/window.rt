@@ -49,8 +49,13 @@ fn gather(
     freqs: &[[u32; 128]; 16],
     bounds: &mut [f32; 16],
 ) -> Secondaries
-    requires { ⌜ InOrder (query scoring (now file) (now lists) n (now order)) × WeightsIn (query scoring (now file) (now lists) n (now order)) norms (now weights) (now caches) × Ready (query scoring (now file) (now lists) n (now order)) (held (now places) (now docs) (now freqs)) (now bounds) × (doc ≤ 2147483647) ⌝ }
-    ensures { λ r. ⌜ Gathers (query scoring (before file) (before lists) n (before order)) doc «leader_end» (held (before places) (before docs) (before freqs)) (after places) (after bounds) r ⌝ }
+    requires { let asked = query scoring (now file) (now lists) n (now order) in
+        let slots = held (now places) (now docs) (now freqs) in
+        ⌜ InOrder asked × WeightsIn asked norms (now weights) (now caches) × Ready asked slots (now bounds) × (doc ≤ 2147483647) ⌝ }
+    ensures { λ r.
+        let asked = query scoring (before file) (before lists) n (before order) in
+        let old = held (before places) (before docs) (before freqs) in
+        ⌜ Gathers asked doc «leader_end» old (after places) (after bounds) r ⌝ }
 {
     let mut window_end = leader_end;
     let mut block_max_sum = 0.0f32;
@@ -106,8 +111,14 @@ pub fn next_window(
     freqs: &mut [[u32; 128]; 16],
     bounds: &mut [f32; 16],
 ) -> Window
-    requires { ⌜ InOrder (query scoring (now file) (now lists) n (now order)) × WeightsIn (query scoring (now file) (now lists) n (now order)) norms (now weights) (now caches) × Ready (query scoring (now file) (now lists) n (now order)) (held (now places) (now docs) (now freqs)) (now bounds) × (doc < 2147483647) ⌝ }
-    ensures { λ r. ⌜ Turns (query scoring (before file) (before lists) n (before order)) threshold doc (held (before places) (before docs) (before freqs)) r (held (after places) (after docs) (after freqs)) (after bounds) ⌝ }
+    requires { let asked = query scoring (now file) (now lists) n (now order) in
+        let slots = held (now places) (now docs) (now freqs) in
+        ⌜ InOrder asked × WeightsIn asked norms (now weights) (now caches) × Ready asked slots (now bounds) × (doc < 2147483647) ⌝ }
+    ensures { λ r.
+        let asked = query scoring (before file) (before lists) n (before order) in
+        let old = held (before places) (before docs) (before freqs) in
+        let new = held (after places) (after docs) (after freqs) in
+        ⌜ Turns asked threshold doc old r new (after bounds) ⌝ }
 {
     let leader = order[0];
     slot::seek_block(file, lists, leader, doc, places);

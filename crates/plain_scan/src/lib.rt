@@ -116,8 +116,12 @@ fn take_document(
     docs: &mut [[u32; 128]; 16],
     freqs: &mut [[u32; 128]; 16],
 ) -> Found
-    requires { ⌜ (n ≤ 16) × (norms ≡ normReader (now file)) × AllWeighed (now lists) (now weights) (now caches) n × Standing scoring (now file) (now lists) n doc (held (now places) (now docs) (now freqs)) (now heads) × (doc < 2147483647) ⌝ }
-    ensures { λ r. ⌜ Taken scoring (before file) (before lists) n doc r (held (after places) (after docs) (after freqs)) (after heads) ⌝ }
+    requires { let slots = held (now places) (now docs) (now freqs) in
+        ⌜ (n ≤ 16) × (norms ≡ normReader (now file)) × AllWeighed (now lists) (now weights) (now caches) n
+        × Standing scoring (now file) (now lists) n doc slots (now heads) × (doc < 2147483647) ⌝ }
+    ensures { λ r.
+        let new = held (after places) (after docs) (after freqs) in
+        ⌜ Taken scoring (before file) (before lists) n doc r new (after heads) ⌝ }
 {
     let mut found = Found {
         matched: 0,
@@ -167,8 +171,12 @@ fn scan(
     documents: &mut [u32],
     scores: &mut [f32],
 ) -> PlainRun
-    requires { ⌜ (n ≤ 16) × (norms ≡ normReader (now file)) × AllWeighed (now lists) (now weights) (now caches) n × Standing scoring (now file) (now lists) n 0 (held (now places) (now docs) (now freqs)) (now heads) × Keeps rule ⌝ }
-    ensures { λ r. ⌜ PlainRan (scanned scoring (before file) (before lists) n all rule (before script)) (before documents) (before scores) r (after documents) (after scores) ⌝ }
+    requires { let slots = held (now places) (now docs) (now freqs) in
+        ⌜ (n ≤ 16) × (norms ≡ normReader (now file)) × AllWeighed (now lists) (now weights) (now caches) n
+        × Standing scoring (now file) (now lists) n 0 slots (now heads) × Keeps rule ⌝ }
+    ensures { λ r.
+        ⌜ PlainRan (scanned scoring (before file) (before lists) n all rule (before script)) (before documents) (before scores)
+        r (after documents) (after scores) ⌝ }
 {
     let room = rows(documents, scores);
     let mut threshold = Threshold::new(rule);
@@ -225,8 +233,13 @@ pub fn plain_scan(
     documents: &mut [u32],
     scores: &mut [f32],
 ) -> PlainRun
-    requires { ⌜ (length (now query) ≤ 16) × (norms ≡ normReader (now file)) × Ready (now file) (now query) (now lists) (now weights) (now caches) (held (now places) (now docs) (now freqs)) scorers × Keeps rule ⌝ }
-    ensures { λ r. ⌜ ((m : Mode) → needsAll m ≡ all → PlainRan (plainOf scoring (before file) (before query) m rule (before script)) (before documents) (before scores) r (after documents) (after scores)) ⌝ }
+    requires { let slots = held (now places) (now docs) (now freqs) in
+        ⌜ (length (now query) ≤ 16) × (norms ≡ normReader (now file))
+        × Ready (now file) (now query) (now lists) (now weights) (now caches) slots scorers × Keeps rule ⌝ }
+    ensures { λ r.
+        ⌜ ((m : Mode) → needsAll m ≡ all
+        → PlainRan (plainOf scoring (before file) (before query) m rule (before script)) (before documents) (before scores)
+        r (after documents) (after scores)) ⌝ }
 {
     let n = query.len();
     let mut heads = heads_of(scorers, n);

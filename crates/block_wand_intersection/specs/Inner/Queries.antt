@@ -24,7 +24,8 @@ abbrev pub listsOf : Scoring → List ℕ → List (List ℕ) → ℕ → List (
 listsOf scoring file lists n = map (listAt scoring file lists) (slotsFrom 0 n)
 
 -- each of the n slots holds its list, on the first posting, with its weight, norms and list bound
-pub record Fresh (scoring : Scoring) (file : List ℕ) (lists : List (List ℕ)) (n : ℕ) (norms : FieldNormReader) (weights : List Float) (caches : List (List Float)) (maxScores : List Float) (h : Held) (bounds : List Float) : Type 0 where
+pub record Fresh (scoring : Scoring) (file : List ℕ) (lists : List (List ℕ)) (n : ℕ) (norms : FieldNormReader)
+    (weights : List Float) (caches : List (List Float)) (maxScores : List Float) (h : Held) (bounds : List Float) : Type 0 where
   pub two : 2 ≤ n
   pub few : n ≤ 16
   pub norms-are : norms ≡ normReader file
@@ -37,6 +38,7 @@ pub record Fresh (scoring : Scoring) (file : List ℕ) (lists : List (List ℕ))
   pub first : (q : ℕ) → q < n → cursorAt (h .places) q ≡ fresh
 
 -- the run is the route's over the query's lists, and so is where it leaves each slot
-abbrev pub Answers : Scoring → List ℕ → List (List ℕ) → ℕ → Rule → List Float → List ℕ → List Float → Ended → List (List ℕ) → List ℕ → List Float → Type 0
+abbrev pub Answers : Scoring → List ℕ → List (List ℕ) → ℕ → Rule → List Float → List ℕ → List Float
+    → Ended → List (List ℕ) → List ℕ → List Float → Type 0
 Answers scoring file lists n rule script documents scores r places′ =
     Rests (route 128 f32 intersection (listsOf scoring file lists n)) rule script documents scores (cursorAt places′) (r .full) (r .count)

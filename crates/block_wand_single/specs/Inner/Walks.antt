@@ -39,10 +39,12 @@ WalkStopped false n values rows t place = place ≡ n
 WalkStopped true n values rows t place = (place < n) × (lt (t .now) (getD values place nan) ≡ true) × (t .reports ≡ rows)
 
 -- what `walk` leaves: the postings before its place were offered, whatever was reported before
-pub record Walks (rule : Rule) (script : List Float) (t : Threshold) (from n : ℕ) (docs : List ℕ) (values : List Float) (documents : List ℕ) (scores : List Float) (r : Walked) (documents′ : List ℕ) (scores′ : List Float) : Type 0 where
+pub record Walks (rule : Rule) (script : List Float) (t : Threshold) (from n : ℕ) (docs : List ℕ) (values : List Float)
+    (documents : List ℕ) (scores : List Float) (r : Walked) (documents′ : List ℕ) (scores′ : List Float) : Type 0 where
   pub taken : ℕ
   pub place-is : r .place ≡ from + taken
   pub within : r .place ≤ n
-  pub kept : (rs : List (Report Float)) (documents₀ : List ℕ) (scores₀ : List Float) → Kept rule script rs documents₀ scores₀ t documents scores
+  pub kept : (rs : List (Report Float)) (documents₀ : List ℕ) (scores₀ : List Float)
+      → Kept rule script rs documents₀ scores₀ t documents scores
       → Kept rule script (offered (callbackOf rule script) docs values from taken rs) documents₀ scores₀ (r .threshold) documents′ scores′
   pub stopped : WalkStopped (r .full) n values (rowsOf documents scores) (r .threshold) (r .place)

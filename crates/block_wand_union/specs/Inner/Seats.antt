@@ -1,6 +1,6 @@
 -- The scorers of a union over the slots: what the lent arrays hold of each, and the route's scorer that it stands for.
 use mathlib.Core.Path.{_≡_}
-use mathlib.Core.List.{List}
+use mathlib.Core.List.{List, map}
 use Prim.Native.Nat.{ℕ, _≤_, _<_}
 use lib.ListN.{getD}
 use lib.Ieee.{Float, nan}
@@ -29,6 +29,10 @@ module _ (file : List ℕ) (lists : List (List ℕ)) where
   -- the route's scorer: its position is the slot
   abbrev pub scorerAt : Scoring → List (List ℕ) → TermScorer → Scorer Float
   scorerAt scoring places s = record { ord = s .slot; list = listAt scoring file lists (s .slot); cur = cursorAt places (s .slot) }
+
+  -- the route's scorers
+  abbrev pub onRoute : Scoring → Held → List TermScorer → List (Scorer Float)
+  onRoute scoring h l = map (scorerAt scoring (h .places)) l
 
   -- a scorer stands in its slot, on the document of its place there
   pub record Stand (h : Held) (s : TermScorer) : Type 0 where

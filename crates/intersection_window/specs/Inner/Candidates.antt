@@ -35,8 +35,10 @@ pub record Tries (x : Query) (c : ℕ) (score t : Float) (suffix : List Float) (
   pub seated : Seated x h′
   pub leader : Unmoved (slotAt x 0) h h′
   pub bounds : StillKept x (h .places) (h′ .places)
-  pub secs-are : (bs : List Float) → Suffixes (x .len) bs suffix → tryCandidate 128 f32 c t score (secondariesIn x (h .places)) bs .secs ≡ secondariesIn x (h′ .places)
-  pub answer-is : (bs : List Float) → Suffixes (x .len) bs suffix → r ≡ candidateOf t (tryCandidate 128 f32 c t score (secondariesIn x (h .places)) bs .found)
+  pub secs-are : (bs : List Float) → Suffixes (x .len) bs suffix
+      → tryCandidate 128 f32 c t score (secondariesIn x (h .places)) bs .secs ≡ secondariesIn x (h′ .places)
+  pub answer-is : (bs : List Float) → Suffixes (x .len) bs suffix
+      → r ≡ candidateOf t (tryCandidate 128 f32 c t score (secondariesIn x (h .places)) bs .found)
 
 -- ---- the candidates of a window, one after another
 
@@ -64,10 +66,14 @@ leaderBlock x h = cursorAt (h .places) (slotAt x 0) .dec
 
 -- quiet turns lead to a turn whose report is due, with the secondaries where they stand now; or to the next window
 abbrev pub HitBy : Query → Float → Float → ℕ → List Float → ℕ → ℕ → ℕ → Held → Held → Hit → Type 0
-HitBy x t ts e bs d b from h h′ Nowhere = Quietly interTurn interEnded t (withinAt x (h .places) b ts e bs d from) (placeAt x (h′ .places) window (suc e))
+HitBy x t ts e bs d b from h h′ Nowhere =
+    Quietly interTurn interEnded t (withinAt x (h .places) b ts e bs d from) (placeAt x (h′ .places) window (suc e))
 HitBy x t ts e bs d b from h h′ (At next doc score) =
     (p : InterPlace Float) × Quietly interTurn interEnded t (withinAt x (h .places) b ts e bs d from) p
-    × (interTurn t p ≡ record { next = placeAt x (h′ .places) (called (candidatesLeft x b ts e next) e bs) d; due = some (record { doc = doc; score = score }) })
+    × (interTurn t p ≡ record {
+      next = placeAt x (h′ .places) (called (candidatesLeft x b ts e next) e bs) d;
+      due = some (record { doc = doc; score = score });
+    })
 
 -- a report's candidate lies behind `from`
 abbrev pub HitIn : ℕ → Hit → Type 0

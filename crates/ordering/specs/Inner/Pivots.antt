@@ -18,7 +18,8 @@ abbrev pub countOn : ℕ → List TermScorer → ℕ
 countOn d [] = 0
 countOn d (s ∷ ss) = cond (eqb (s .doc) d) (suc (countOn d ss)) 0
 
--- the pivot's places, of the scorers from place b on: the first is on it, with those that follow on its document; a finished scorer is on none
+-- the pivot's places, of the scorers from place b on: the first is on it, with those that follow on its document;
+-- a finished scorer is on none
 abbrev pub pivotAt : ℕ → List TermScorer → Pivot
 pivotAt b [] = Nowhere
 pivotAt b (s ∷ ss) = cond (eqb (s .doc) TERMINATED) Nowhere (At b (b + 1 + countOn (s .doc) ss) (s .doc))

@@ -57,13 +57,15 @@ module _ (scoring : Scoring) (file : List ℕ) (lists : List (List ℕ)) where
     pub standing : Standing n (suc d) h heads
 
 -- slot q has list l of the file, on its first posting, with its weight and norms
-pub record ReadySlot (file : List ℕ) (lists : List (List ℕ)) (weights : List Float) (caches : List (List Float)) (h : Held) (l q : ℕ) : Type 0 where
+pub record ReadySlot (file : List ℕ) (lists : List (List ℕ)) (weights : List Float) (caches : List (List Float)) (h : Held)
+    (l q : ℕ) : Type 0 where
   pub slot : SlotIn file lists h q
   pub part-is : partAt lists q ≡ partOf file l
   pub cursor-is : cursorAt (h .places) q ≡ fresh
   pub weighed : Weighed lists weights caches q
 
 -- the query's lists stand ready in their slots, with their scorers
-pub record Ready (file query : List ℕ) (lists : List (List ℕ)) (weights : List Float) (caches : List (List Float)) (h : Held) (scorers : List TermScorer) : Type 0 where
+pub record Ready (file query : List ℕ) (lists : List (List ℕ)) (weights : List Float) (caches : List (List Float)) (h : Held)
+    (scorers : List TermScorer) : Type 0 where
   pub slots : (q : ℕ) → q < length query → ReadySlot file lists weights caches h (getD query q 0) q
   pub docs-are : (q : ℕ) → q < length query → getD scorers q noScorer .doc ≡ docIn file (partOf file (getD query q 0)) 0

@@ -41,7 +41,8 @@ module _ (scoring : Scoring) (file : List ℕ) (lists : List (List ℕ)) (n : �
   scanned rule script = scan f32 (callbackOf rule script) hits (documents file) 0 []
 
 -- a run over a list of reports: 01's outcome of it, with the reports in the rows and every other cell as before
-pub record PlainRan (whole : List (Report Float)) (documents₀ : List ℕ) (scores₀ : List Float) (r : PlainRun) (documents : List ℕ) (values : List Float) : Type 0 where
+pub record PlainRan (whole : List (Report Float)) (documents₀ : List ℕ) (scores₀ : List Float) (r : PlainRun) (documents : List ℕ)
+    (values : List Float) : Type 0 where
   pub outcome : outcomeOf (r .full) (limited (rowsOf documents₀ scores₀) whole .rows) ≡ limited (rowsOf documents₀ scores₀) whole
   pub count-is : r .count ≡ length (limited (rowsOf documents₀ scores₀) whole .rows)
   pub written : Written (limited (rowsOf documents₀ scores₀) whole .rows) documents₀ scores₀ documents values

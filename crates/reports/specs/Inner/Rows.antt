@@ -12,12 +12,14 @@ use Rattle.rule.specs.declared.Threshold.{Threshold}
 use Rattle.reports.specs.Rows.{Written}
 
 -- and the threshold is the rule's after them
-pub record Kept (rule : Rule) (script : List Float) (rs : List (Report Float)) (documents₀ : List ℕ) (scores₀ : List Float) (t : Threshold) (documents : List ℕ) (values : List Float) : Type 0 where
+pub record Kept (rule : Rule) (script : List Float) (rs : List (Report Float)) (documents₀ : List ℕ) (scores₀ : List Float)
+    (t : Threshold) (documents : List ℕ) (values : List Float) : Type 0 where
   pub written : Written rs documents₀ scores₀ documents values
   pub follows : Follows rule script (scores rs) t
 
 -- what `report` leaves: one cell of each buffer is written, in the row after the reports so far, and the threshold has followed
-pub record Reported (rule : Rule) (script : List Float) (t : Threshold) (doc : ℕ) (score : Float) (documents₀ : List ℕ) (scores₀ : List Float) (r : Threshold) (documents : List ℕ) (values : List Float) : Type 0 where
+pub record Reported (rule : Rule) (script : List Float) (t : Threshold) (doc : ℕ) (score : Float) (documents₀ : List ℕ)
+    (scores₀ : List Float) (r : Threshold) (documents : List ℕ) (values : List Float) : Type 0 where
   pub documents-are : documents ≡ set documents₀ (t .reports) doc
   pub scores-are : values ≡ set scores₀ (t .reports) score
   pub follows : (before : List Float) → Follows rule script before t → Follows rule script (before ++ (score ∷ [])) r

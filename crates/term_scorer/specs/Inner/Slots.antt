@@ -59,7 +59,8 @@ module _ (file : List ℕ) (lists : List (List ℕ)) where
     pub places-only : after .places ≡ set (before .places) q (getD (after .places) q [])
     pub docs-only : after .docs ≡ set (before .docs) q (getD (after .docs) q [])
     pub freqs-only : after .freqs ≡ set (before .freqs) q (getD (after .freqs) q [])
-    pub moved : MovedRow file (partAt lists q) to (getD (before .places) q []) (getD (after .places) q []) (getD (after .docs) q []) (getD (after .freqs) q []) doc
+    pub moved : MovedRow file (partAt lists q) to (getD (before .places) q [])
+        (getD (after .places) q []) (getD (after .docs) q []) (getD (after .freqs) q []) doc
 
   -- slot q's skip reader has moved
   pub record Shallowed (q : ℕ) (to : Scoring → Cursor) (before after : List (List ℕ)) : Type 0 where
