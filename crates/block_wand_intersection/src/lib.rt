@@ -12,7 +12,7 @@ use run::run_in_order;
 ghost use Rattle.arrays.specs.Lent.{before, after};
 ghost use Rattle.rule.specs.Inner.Follows.{Keeps};
 ghost use Rattle.term_scorer.specs.Inner.Slots.{held};
-ghost use Rattle.block_wand_intersection.specs.Inner.Queries.{Answers, Fresh};
+ghost use Rattle.block_wand_intersection.specs.Inner.Queries.{Answers, FreshLists};
 
 // `block_wand_intersection`, over n lists that are fresh in their slots: the rarest leads.
 pub fn block_wand_intersection(
@@ -34,7 +34,7 @@ pub fn block_wand_intersection(
     scores: &mut [f32],
 ) -> Ended
     requires { let slots = held (now places) (now docs) (now freqs) in
-        ⌜ Fresh scoring (now file) (now lists) n norms (now weights) (now caches) (now «max_scores») slots (now bounds)
+        ⌜ FreshLists scoring (now file) (now lists) n norms (now weights) (now caches) (now «max_scores») slots (now bounds)
         × Keeps rule ⌝ }
     ensures { λ r.
         ⌜ Answers scoring (before file) (before lists) n rule (before script) (before documents) (before scores)

@@ -15,13 +15,14 @@ ghost use Prim.Native.Nat.{ℕ, _≤_, _<_};
 ghost use lib.ListN.{getD};
 ghost use Rattle.arrays.specs.Lent.{before, after};
 ghost use Rattle.rule.specs.Inner.Follows.{Keeps};
+ghost use Rattle.reports.specs.Inner.Rows.{Begun};
 ghost use Rattle.term_scorer.specs.Inner.Slots.{held, Sixteen};
 ghost use Rattle.intersection_window.specs.Inner.Scorers.{query, InOrder, Ready, WeightsIn};
-ghost use Rattle.block_wand_intersection.specs.Inner.Walks.{maxAlong, maxSum, Begun};
+ghost use Rattle.block_wand_intersection.specs.Inner.Walks.{maxAlong, maxSum};
 ghost use Rattle.block_wand_intersection.specs.Inner.Steps.{Ends, Runs, Steps, TopsIn};
 
 // The threshold behind a window, how it was left, and where the next begins.
-pub struct Stepped {
+pub struct AfterWindow {
     pub threshold: Threshold,
     pub stop: Stop,
     pub doc: u32,
@@ -70,7 +71,7 @@ fn step(
     bounds: &mut [f32; 16],
     documents: &mut [u32],
     scores: &mut [f32],
-) -> Stepped
+) -> AfterWindow
     requires { let asked = query scoring (now file) (now lists) n (now order) in
         let slots = held (now places) (now docs) (now freqs) in
         ⌜ InOrder asked × WeightsIn asked norms (now weights) (now caches) × Ready asked slots (now bounds) × Keeps rule
@@ -99,12 +100,12 @@ fn step(
         bounds,
     );
     match window {
-        Window::Over => Stepped {
+        Window::Over => AfterWindow {
             threshold: t,
             stop: Stop::Over,
             doc,
         },
-        Window::Low(window_end) => Stepped {
+        Window::Low(window_end) => AfterWindow {
             threshold: t,
             stop: Stop::Next,
             doc: window_end + 1,
@@ -137,7 +138,7 @@ fn step(
             );
             let threshold = walked.threshold;
             let stop = walked.stop;
-            Stepped {
+            AfterWindow {
                 threshold,
                 stop,
                 doc: window_end + 1,

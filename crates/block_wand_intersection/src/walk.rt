@@ -11,9 +11,10 @@ use rule::Threshold;
 ghost use mathlib.Core.Path.{_≡_};
 ghost use Rattle.arrays.specs.Lent.{before, after};
 ghost use Rattle.rule.specs.Inner.Follows.{Keeps};
+ghost use Rattle.reports.specs.Inner.Rows.{Begun};
 ghost use Rattle.term_scorer.specs.Inner.Slots.{held};
-ghost use Rattle.intersection_window.specs.Inner.Scorers.{query, InOrder, Seated, WeightsIn};
-ghost use Rattle.block_wand_intersection.specs.Inner.Walks.{maxSum, Begun, Walks};
+ghost use Rattle.intersection_window.specs.Inner.Scorers.{query, InOrder, SlotsIn, WeightsIn};
+ghost use Rattle.block_wand_intersection.specs.Inner.Walks.{maxSum, Walks};
 
 // The next window; over, since no document can exceed the threshold; or a report is due and every row is full.
 pub enum Stop {
@@ -53,7 +54,7 @@ pub fn walk(
 ) -> Walked
     requires { let asked = query scoring (now file) (now lists) n (now order) in
         let slots = held (now places) (now docs) (now freqs) in
-        ⌜ InOrder asked × WeightsIn asked norms (now weights) (now caches) × Seated asked slots × Keeps rule
+        ⌜ InOrder asked × WeightsIn asked norms (now weights) (now caches) × SlotsIn asked slots × Keeps rule
         × Begun rule (now script) t (now documents) (now scores) × («max_sum» ≡ maxSum asked) ⌝ }
     ensures { λ r.
         let asked = query scoring (before file) (before lists) n (before order) in

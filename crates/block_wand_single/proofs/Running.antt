@@ -21,11 +21,11 @@ use Rattle.reports.specs.Rows.{rowsOf}
 use Rattle.reports.specs.Inner.Runs.{runAfter, Going, Ran}
 use Rattle.reports.proofs.RowLaws.{documents-long, scores-long, count-is}
 use Rattle.reports.proofs.RunLaws.{run-begun, run-kept, run-ends, run-full}
+use Rattle.reports.specs.Inner.Rows.{Begun}
 use Rattle.decoded.specs.Lists.{listOf}
 use Rattle.postings.specs.Inner.Decoded.{ListIn}
 use Rattle.postings.specs.Inner.Places.{Placed, Moved, Here, cursorOf}
 use Rattle.postings.specs.declared.cursor.SegmentPostings.{SegmentPostings}
-use Rattle.block_wand_single.specs.Inner.Walks.{Begun}
 use Rattle.block_wand_single.specs.Inner.Scans.{singleRoute, placeOf}
 use Rattle.block_wand_single.specs.Inner.Blocks.{phaseAfter, ScansBlock}
 use Rattle.block_wand_single.specs.Inner.Stops.{endPhase, runOf}

@@ -19,11 +19,11 @@ ghost use Rattle.route.specs.Single.{hunt};
 ghost use Rattle.route.specs.Inner.Singles.{SingleKept};
 ghost use Rattle.rule.specs.Inner.Follows.{Keeps};
 ghost use Rattle.notefile.specs.Lists.{fullBlocks};
+ghost use Rattle.reports.specs.Inner.Rows.{Begun};
 ghost use Rattle.decoded.specs.Lists.{listOf};
 ghost use Rattle.postings.specs.Inner.Decoded.{ListIn};
 ghost use Rattle.postings.specs.Inner.Reader.{Stands};
 ghost use Rattle.postings.specs.Inner.Places.{Placed, cursorOf};
-ghost use Rattle.block_wand_single.specs.Inner.Walks.{Begun};
 ghost use Rattle.block_wand_single.specs.Inner.Scans.{TermIn};
 ghost use Rattle.block_wand_single.specs.Inner.Blocks.{Left, AfterWalk, ScansBlock};
 

@@ -6,7 +6,8 @@ use rule::Threshold;
 ghost use Prim.Native.Nat.{_≤_};
 ghost use Rattle.arrays.specs.Lent.{before, after};
 ghost use Rattle.rule.specs.Inner.Follows.{Keeps};
-ghost use Rattle.block_wand_single.specs.Inner.Walks.{Begun, FirstAbove, Walks};
+ghost use Rattle.reports.specs.Inner.Rows.{Begun};
+ghost use Rattle.block_wand_single.specs.Inner.Walks.{FirstAbove, Walks};
 
 // The threshold after the walk, the place that it came to, and whether a report was due there with no row left.
 pub struct Walked {

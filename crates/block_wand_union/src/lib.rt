@@ -25,8 +25,7 @@ ghost use Rattle.rule.specs.Inner.Follows.{Keeps};
 ghost use Rattle.notefile.specs.Header.{normReader};
 ghost use Rattle.reports.specs.Inner.Runs.{Rests};
 ghost use Rattle.term_scorer.specs.Inner.Slots.{cursorAt, held};
-ghost use Rattle.block_wand_union.specs.Inner.Seats.{Seated, onRoute, terms};
-ghost use Rattle.block_wand_union.specs.Inner.Fresh.{Fresh};
+ghost use Rattle.block_wand_union.specs.Inner.Seats.{Seated, onRoute, terms, OnFirst};
 
 // Whether a report found every row full, and how many rows are written.
 pub struct Ended {
@@ -58,7 +57,7 @@ pub fn block_wand(
     requires { let T = terms scoring (now weights) (now caches) (now bounds) in
         let slots = held (now places) (now docs) (now freqs) in
         ⌜ (n ≤ 16) × (norms ≡ normReader (now file)) × Keeps rule
-        × Seated (now file) (now lists) T (now «max_scores») slots (take n scorers) × All (Fresh (now places)) (take n scorers) ⌝ }
+        × Seated (now file) (now lists) T (now «max_scores») slots (take n scorers) × All (OnFirst (now places)) (take n scorers) ⌝ }
     ensures { λ r.
         let old = held (before places) (before docs) (before freqs) in
         let opened = onRoute (before file) (before lists) scoring old (take n scorers) in

@@ -6,7 +6,7 @@ use term_scorer::slot;
 ghost use Prim.Native.Nat.{_<_};
 ghost use Rattle.arrays.specs.Lent.{before, after};
 ghost use Rattle.term_scorer.specs.Inner.Slots.{held};
-ghost use Rattle.intersection_window.specs.Inner.Scorers.{query, InOrder, Seated, WeightsIn};
+ghost use Rattle.intersection_window.specs.Inner.Scorers.{query, InOrder, SlotsIn, WeightsIn};
 ghost use Rattle.intersection_window.specs.Inner.Candidates.{Tries};
 
 // Due with its score, or passed: a secondary lacks it, or it cannot exceed the threshold.
@@ -36,7 +36,7 @@ pub fn try_candidate(
 ) -> Candidate
     requires { let asked = query scoring (now file) (now lists) n (now order) in
         let slots = held (now places) (now docs) (now freqs) in
-        ⌜ InOrder asked × WeightsIn asked norms (now weights) (now caches) × Seated asked slots × («candidate_doc» < 2147483647) ⌝ }
+        ⌜ InOrder asked × WeightsIn asked norms (now weights) (now caches) × SlotsIn asked slots × («candidate_doc» < 2147483647) ⌝ }
     ensures { λ r.
         let asked = query scoring (before file) (before lists) n (before order) in
         let old = held (before places) (before docs) (before freqs) in

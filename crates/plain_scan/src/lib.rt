@@ -13,13 +13,17 @@ ghost use mathlib.Core.Path.{_≡_};
 ghost use Prim.Native.Nat.{_≤_, _<_};
 ghost use lib.ListN.{length};
 ghost use Rattle.arrays.specs.Lent.{before, after};
-ghost use Rattle.route.specs.Plain.{Mode};
+ghost use Rattle.route.specs.Plain.{Mode, plain};
+ghost use Rattle.route.specs.F32.{f32};
 ghost use Rattle.rule.specs.Inner.Follows.{Keeps};
+ghost use Rattle.rule.specs.Rules.{ruleOf, startOf};
+ghost use Rattle.notefile.specs.Header as header;
 ghost use Rattle.notefile.specs.Header.{normReader};
+ghost use Rattle.decoded.specs.Lists.{queried};
 ghost use Rattle.term_scorer.specs.Inner.Slots.{held};
 ghost use Rattle.plain_scan.specs.Inner.Found.{dueIn, withScore};
-ghost use Rattle.plain_scan.specs.Inner.Heads.{leastIn, AllWeighed, HeadsOf, Ready, Standing, Taken};
-ghost use Rattle.plain_scan.specs.Inner.Runs.{needsAll, plainOf, PlainRan, scanned};
+ghost use Rattle.plain_scan.specs.Inner.Heads.{leastIn, AllWeighed, HeadsOf, ReadyLists, Standing, Taken};
+ghost use Rattle.plain_scan.specs.Inner.Runs.{needsAll, PlainRan, scanned};
 
 // What the lists have of a document: how many have it, and the sum of its scores there.
 struct Found {
@@ -235,11 +239,12 @@ pub fn plain_scan(
 ) -> PlainRun
     requires { let slots = held (now places) (now docs) (now freqs) in
         ⌜ (length (now query) ≤ 16) × (norms ≡ normReader (now file))
-        × Ready (now file) (now query) (now lists) (now weights) (now caches) slots scorers × Keeps rule ⌝ }
+        × ReadyLists (now file) (now query) (now lists) (now weights) (now caches) slots scorers × Keeps rule ⌝ }
     ensures { λ r.
+        let named = queried scoring (before file) (before query) in
         ⌜ ((m : Mode) → needsAll m ≡ all
-        → PlainRan (plainOf scoring (before file) (before query) m rule (before script)) (before documents) (before scores)
-        r (after documents) (after scores)) ⌝ }
+        → PlainRan (plain f32 m named (ruleOf rule (before script)) (startOf rule) (header.documents (before file)))
+        (before documents) (before scores) r (after documents) (after scores)) ⌝ }
 {
     let n = query.len();
     let mut heads = heads_of(scorers, n);

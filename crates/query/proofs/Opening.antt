@@ -11,6 +11,7 @@ use lib.Ieee.{Float, nan, binary32, ofBits}
 use Rattle.arrays.proofs.Order.{lt-or-ge}
 use Rattle.route.specs.Cursor.{Cursor, fresh}
 use Rattle.route.specs.Scorer.{Scorer, scorersFrom}
+use Rattle.route.specs.Postings.{Postings}
 use Rattle.bm25.specs.Scoring.{scored}
 use Rattle.bm25.specs.Inner.Bound.{maxScore}
 use Rattle.bm25.specs.declared.Bm25Weight.{Bm25Weight}
@@ -31,9 +32,9 @@ use Rattle.decoded.specs.Lists.{listOf, postingsOf, queried}
 use Rattle.postings.specs.Inner.Decoded.{docIn, ListIn}
 use Rattle.slot_rows.specs.Inner.Rows.{partIn, partRow, PartRow}
 use Rattle.slot_rows.proofs.Rows.{part-back}
-use Rattle.term_scorer.specs.Inner.Slots.{Held, Sixteen, Opened, partAt, listAt, cursorAt}
+use Rattle.term_scorer.specs.Inner.Slots.{Held, Sixteen, Opened, partAt, listAt, cursorAt, listsFrom}
 use Rattle.term_scorer.specs.Inner.Weights.{Weighed}
-use Rattle.query.specs.Inner.Fresh.{Arrays, Room, FreshSlot, OnlySlot, OneOpened, QueryOpened}
+use Rattle.query.specs.Inner.Openings.{Arrays, Room, FreshSlot, OnlySlot, OneOpened, QueryOpened}
 
 -- a list's number is below the header's
 pub listed : (file : List ℕ) (h : Header) → h ≡ headerOf file → (l : ℕ) → l < listCount file → l < h .lists
@@ -75,16 +76,18 @@ module _ (scoring : Scoring) (file : List ℕ) (l q : ℕ) (h : q < 16) {x : Par
   pub one-opened : OneOpened scoring file l q a b doc
   one-opened = record {
     fresh-slot = record {
-      slot = record {
-        sixteen = (same-long (a .held .places) q _ (O .opened .places-only) (R .places), same-long (a .held .docs) q _ (O .opened .docs-only) (R .docs), same-long (a .held .freqs) q _ (O .opened .freqs-only) (R .freqs));
-        part-row = subst PartRow (sym row-is) (O .part-row);
-        list = subst (ListIn file) (sym part-there) L;
-        place = O .opened .moved .place;
+      open-slot = record {
+        slot = record {
+          sixteen = (same-long (a .held .places) q _ (O .opened .places-only) (R .places), same-long (a .held .docs) q _ (O .opened .docs-only) (R .docs), same-long (a .held .freqs) q _ (O .opened .freqs-only) (R .freqs));
+          part-row = subst PartRow (sym row-is) (O .part-row);
+          list = subst (ListIn file) (sym part-there) L;
+          place = O .opened .moved .place;
+        };
+        part-is = part-there ∙ part-is;
+        cursor-is = O .opened .moved .cursor-is Unstepped;
+        weighed = weight-there;
       };
-      part-is = part-there ∙ part-is;
-      cursor-is = O .opened .moved .cursor-is Unstepped;
       unknown = O .unknown;
-      weighed = weight-there;
       max-is = top-there;
     };
     only = record {
@@ -130,11 +133,13 @@ module _ (scoring : Scoring) (file : List ℕ) (a b : Arrays) (n : ℕ) (O : Onl
       let ec = other (a .caches) q n _ [] (O .caches) ne in
       let em = other (a .max-scores) q n _ nan (O .max-scores) ne in
       record {
-        slot = record { sixteen = (R .places, R .docs, R .freqs); part-row = rw el (F .slot .part-row); list = rw el (F .slot .list); place = rw (el, ep, ed, ef) (F .slot .place) };
-        part-is = rw el (F .part-is);
-        cursor-is = rw ep (F .cursor-is);
+        open-slot = let S = F .open-slot in record {
+          slot = record { sixteen = (R .places, R .docs, R .freqs); part-row = rw el (S .slot .part-row); list = rw el (S .slot .list); place = rw (el, ep, ed, ef) (S .slot .place) };
+          part-is = rw el (S .part-is);
+          cursor-is = rw ep (S .cursor-is);
+          weighed = rw (el, ew, ec) (S .weighed);
+        };
         unknown = rw ep (F .unknown);
-        weighed = rw (el, ew, ec) (F .weighed);
         max-is = rw (el, em) (F .max-is);
       }
 
@@ -163,6 +168,23 @@ module _ (scoring : Scoring) (file query : List ℕ) where
       only-n : (q m : ℕ) → m ≤ q → q < m + 1 → m ≡ q
       only-n q m g k = omega arith
 
+-- ---- the slots' lists are the query's
+
+module _ (scoring : Scoring) (file : List ℕ) (lists : List (List ℕ)) where
+  lists-from : (ls : List ℕ) (i : ℕ) → ((k : ℕ) → k < length ls → partAt lists (i + k) ≡ partOf file (getD ls k 0)) → listsFrom scoring file lists i (length ls) ≡ queried scoring file ls
+  unfolding queried
+  lists-from [] i e = refl
+  lists-from (l ∷ ls) i e =
+      let here : partAt lists i ≡ partOf file l = ap (partAt lists) (sym (add-zero i)) ∙ e 0 (omega arith) in
+      ap (λ (x : Part). listOf scoring file x ∷ listsFrom scoring file lists (suc i) (length ls)) here
+      ∙ ap (λ (z : List (Postings Float)). postingsOf scoring file l ∷ z) (lists-from ls (suc i) (λ k h. ap (partAt lists) (next i k) ∙ e (suc k) (omega arith)))
+    where
+      next : (i k : ℕ) → suc i + k ≡ i + suc k
+      next i k = omega arith
+
+  pub lists-are : (query : List ℕ) → ((q : ℕ) → q < length query → partAt lists q ≡ partOf file (getD query q 0)) → listsFrom scoring file lists 0 (length query) ≡ queried scoring file query
+  lists-are query e = lists-from query 0 (λ k h. ap (partAt lists) (zero-add k) ∙ e k h)
+
 -- ---- the route's scorers
 
 module _ (scoring : Scoring) (file query : List ℕ) (a : Arrays) (scorers : List TermScorer) (Q : QueryOpened scoring file query (length query) a scorers) where
@@ -172,7 +194,7 @@ module _ (scoring : Scoring) (file query : List ℕ) (a : Arrays) (scorers : Lis
 
   one-scorer : (q l : ℕ) → q < length query → getD query q 0 ≡ l → scorerIn (getD scorers q noScorer) ≡ record { ord = q; list = postingsOf scoring file l; cur = fresh }
   one-scorer q l h e =
-      let F = Q .fresh-slots q h in
+      let F = Q .fresh-slots q h .open-slot in
       ap scorerIn (Q .scorers-are q h)
       ∙ ap (λ (x : Part). record { ord = q; list = listOf scoring file x; cur = cursorAt (a .held .places) q }) (F .part-is ∙ ap (partOf file) e)
       ∙ ap (λ (c : Cursor). record { ord = q; list = postingsOf scoring file l; cur = c }) (F .cursor-is)

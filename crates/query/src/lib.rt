@@ -12,7 +12,7 @@ ghost use Rattle.arrays.specs.Lent.{before, after};
 ghost use Rattle.notefile.specs.Header.{listCount};
 ghost use Rattle.notefile.specs.Refusal.{fileRefusal};
 ghost use Rattle.notefile.specs.Inner.Structs.{headerOf};
-ghost use Rattle.query.specs.Inner.Fresh.{arrays, Named, OneOpened, QueryOpened, Room};
+ghost use Rattle.query.specs.Inner.Openings.{arrays, Named, OneOpened, QueryOpened, Room};
 
 // List l in slot q, on its first posting, with its weight, its norms and its bound.
 fn open_list(

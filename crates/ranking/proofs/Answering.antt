@@ -2,13 +2,11 @@
 use mathlib.Core.Path.{_≡_, refl, sym, ap, _∙_, subst}
 use mathlib.Core.List.{List, []}
 use Prim.Native.Nat.{ℕ, zero, suc}
-use lib.ListN.{length}
 use lib.Ieee.{Float}
 use Rattle.route.specs.Report.{Report}
 use Rattle.route.specs.Rule as rules
 use Rattle.route.specs.Rule.{limited}
 use Rattle.bm25.specs.declared.Scoring.{Scoring}
-use Rattle.ordering.specs.declared.TermScorer.{TermScorer}
 use Rattle.rule.specs.declared.Rule.{Rule}
 use Rattle.notefile.specs.Refusal.{fileRefusal}
 use Rattle.notefile.specs.Inner.Structs.{headerOf}
@@ -17,10 +15,8 @@ use Rattle.notefile.specs.declared.header.Header.{Header}
 use Rattle.notefile.proofs.Accepted.{header-inside}
 use Rattle.reports.specs.Rows.{rowsOf}
 use Rattle.reports.proofs.RowLaws.{none-written}
-use Rattle.query.specs.Inner.Fresh.{Arrays, QueryOpened}
 use Rattle.request.specs.Request.{refusalOf}
 use Rattle.request.specs.declared.Mode.{Mode}
-use Rattle.plain_scan.specs.Inner.Heads.{Ready}
 use Rattle.plain_scan.specs.Inner.Runs.{PlainRan}
 use Rattle.plain_scan.specs.declared.PlainRun.{PlainRun}
 use Rattle.ranking.specs.Answers.{numberOf, countOf, answer, finished, Answered, Listed, RunIs}
@@ -42,14 +38,6 @@ let-answered r n list e {documents₀} {scores₀} {o} {documents} {scores} A = 
 -- the header read is the file's
 pub header-of : (file : List ℕ) → fileRefusal file ≡ 0 → {h : Header} → h ≡ headerOf file → HeaderIn file h
 header-of file accepted e = subst (HeaderIn file) (sym e) (header-inside file accepted)
-
--- the slots that a query has been given stand ready for the plain scan
-pub ready : (scoring : Scoring) (file query : List ℕ) (a : Arrays) (scorers : List TermScorer) → QueryOpened scoring file query (length query) a scorers
-    → Ready file query (a .lists) (a .weights) (a .caches) (a .held) scorers
-ready scoring file query a scorers Q = record {
-  slots = λ q h. let F = Q .fresh-slots q h in record { slot = F .slot; part-is = F .part-is; cursor-is = F .cursor-is; weighed = F .weighed };
-  docs-are = λ q h. ap (λ (s : TermScorer). s .doc) (Q .scorers-are q h);
-}
 
 -- what the plain scan leaves is its list's answer
 pub plain-answered : (whole : List (Report Float)) {documents₀ : List ℕ} {scores₀ : List Float} (p : PlainRun) {documents : List ℕ} {scores : List Float} → PlainRan whole documents₀ scores₀ p documents scores

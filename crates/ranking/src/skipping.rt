@@ -28,7 +28,7 @@ ghost use Rattle.notefile.specs.Header.{listCount};
 ghost use Rattle.notefile.specs.Refusal.{fileRefusal};
 ghost use Rattle.notefile.specs.Inner.Structs.{headerOf};
 ghost use Rattle.decoded.specs.Lists.{queried};
-ghost use Rattle.query.specs.Inner.Fresh.{Named};
+ghost use Rattle.query.specs.Inner.Openings.{Named};
 ghost use Rattle.request.specs.Request.{refusalOf};
 ghost use Rattle.ranking.specs.Answers.{scorerOf, Finished, Listed, RunIs};
 

@@ -10,11 +10,12 @@ use Rattle.route.specs.Intersection.{leaderRoute, window}
 use Rattle.rule.specs.declared.Rule.{Rule}
 use Rattle.rule.specs.declared.Threshold.{Threshold}
 use Rattle.reports.specs.Inner.Runs.{Going}
+use Rattle.reports.specs.Inner.Rows.{Begun}
 use Rattle.term_scorer.specs.Inner.Slots.{Held}
 use Rattle.intersection_window.specs.Inner.Scorers.{Query, Ready, leaderIn, listIn, placeAt, secondariesIn}
-use Rattle.block_wand_intersection.specs.Inner.Walks.{Begun, Returned, WalkedBy}
+use Rattle.block_wand_intersection.specs.Inner.Walks.{Returned, WalkedBy}
 use Rattle.block_wand_intersection.specs.declared.run.Ended.{Ended}
-use Rattle.block_wand_intersection.specs.declared.run.Stepped.{Stepped}
+use Rattle.block_wand_intersection.specs.declared.run.AfterWindow.{AfterWindow}
 use Rattle.block_wand_intersection.specs.declared.walk.Stop.the-variants.{Next}
 
 -- each list's bound stands at its slot
@@ -29,7 +30,7 @@ pub record Onward (x : Query) (d : ℕ) (h : Held) (bounds : List Float) (d′ :
 
 -- what one window leaves, whatever the run's beginning
 pub record Steps (x : Query) (rule : Rule) (script : List Float) (t : Threshold) (d : ℕ) (h : Held) (documents : List ℕ)
-    (scores : List Float) (r : Stepped) (h′ : Held) (bounds′ : List Float) (documents′ : List ℕ) (scores′ : List Float) : Type 0 where
+    (scores : List Float) (r : AfterWindow) (h′ : Held) (bounds′ : List Float) (documents′ : List ℕ) (scores′ : List Float) : Type 0 where
   pub begun : Begun rule script (r .threshold) documents′ scores′
   pub documents-long : length documents′ ≡ length documents
   pub scores-long : length scores′ ≡ length scores

@@ -2,20 +2,19 @@
 use mathlib.Core.Path.{_≡_}
 use mathlib.Core.Bool.{Bool, true, false}
 use mathlib.Core.List.{List, map}
-use Prim.Native.Nat.{ℕ, suc, _≤_}
+use Prim.Native.Nat.{ℕ, suc}
 use lib.ListN.{drop, getD, length, take}
 use lib.Ieee.{Float, nan}
 use Rattle.route.specs.F32.{f32}
 use Rattle.route.specs.Score.{sum}
 use Rattle.route.specs.Scorer.{Scorer}
 use Rattle.route.specs.Intersection.{candidatesIn, leaderRoute, window, within}
-use Rattle.rule.specs.Inner.Follows.{Follows}
 use Rattle.rule.specs.declared.Rule.{Rule}
 use Rattle.rule.specs.declared.Threshold.{Threshold}
-use Rattle.reports.specs.Rows.{rowsOf}
 use Rattle.reports.specs.Inner.Runs.{Going, Rests}
+use Rattle.reports.specs.Inner.Rows.{Begun}
 use Rattle.term_scorer.specs.Inner.Slots.{Held, cursorAt}
-use Rattle.intersection_window.specs.Inner.Scorers.{Query, Seated, StillKept, listIn, placeAt, slotAt}
+use Rattle.intersection_window.specs.Inner.Scorers.{Query, SlotsIn, StillKept, listIn, placeAt, slotAt}
 use Rattle.intersection_window.specs.Inner.Candidates.{Suffixes, leaderBlock}
 use Rattle.block_wand_intersection.specs.declared.walk.Stop.{Stop}
 use Rattle.block_wand_intersection.specs.declared.walk.Stop.the-variants.{Full, Next, Over}
@@ -29,12 +28,6 @@ maxSum x = f32 .add (listIn x (slotAt x 0) .top) (sum f32 (map (λ q. listIn x q
 abbrev pub maxAlong : ℕ → List ℕ → List Float → Float
 maxAlong len order maxScores =
     f32 .add (getD maxScores (getD order 0 0) nan) (sum f32 (map (λ q. getD maxScores q nan) (drop 1 (take len order))))
-
--- a threshold follows some reports, for which there are rows
-pub record Begun (rule : Rule) (script : List Float) (t : Threshold) (documents : List ℕ) (scores : List Float) : Type 0 where
-  pub before : List Float
-  pub follows : Follows rule script before t
-  pub fits : t .reports ≤ rowsOf documents scores
 
 -- a run that has returned, its scorers where the slots' places say
 abbrev pub Returned : Scorer Float → List (Scorer Float) → Rule → List Float → List ℕ → List Float
@@ -56,7 +49,7 @@ WalkedBy x d ld ss rule script documents₀ scores₀ Full t h documents scores 
 pub record Walks (x : Query) (rule : Rule) (script : List Float) (t : Threshold) (d e : ℕ) (total : Float) (suffix : List Float)
     (h : Held) (documents : List ℕ) (scores : List Float)
     (r : Walked) (h′ : Held) (documents′ : List ℕ) (scores′ : List Float) : Type 0 where
-  pub seated : Seated x h′
+  pub seated : SlotsIn x h′
   pub bounds : StillKept x (h .places) (h′ .places)
   pub begun : Begun rule script (r .threshold) documents′ scores′
   pub documents-long : length documents′ ≡ length documents

@@ -7,7 +7,6 @@ use lib.ListN.{getD}
 use lib.Ieee.{Float, nan, lt}
 use Rattle.route.specs.F32.{f32}
 use Rattle.route.specs.Report.{Report, Callback, offer}
-use Rattle.rule.specs.Inner.Follows.{Follows}
 use Rattle.rule.specs.declared.Rule.{Rule}
 use Rattle.rule.specs.declared.Threshold.{Threshold}
 use Rattle.reports.specs.Rows.{rowsOf}
@@ -21,12 +20,6 @@ pub record FirstAbove (values : List Float) (from n : ℕ) (t : Float) (r : ℕ)
   pub high : r ≤ n
   pub quiet : (k : ℕ) → from ≤ k → k < r → lt t (getD values k nan) ≡ false
   pub due : r < n → lt t (getD values r nan) ≡ true
-
--- a threshold follows some reports, for which there are rows
-pub record Begun (rule : Rule) (script : List Float) (t : Threshold) (documents : List ℕ) (scores : List Float) : Type 0 where
-  pub before : List Float
-  pub follows : Follows rule script before t
-  pub fits : t .reports ≤ rowsOf documents scores
 
 -- m postings from a place on, each offered to the callback
 abbrev pub offered : (K : Callback Float) → List ℕ → List Float → ℕ → ℕ → K .State → K .State

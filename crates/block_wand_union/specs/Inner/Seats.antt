@@ -7,6 +7,7 @@ use lib.Ieee.{Float, nan}
 use Rattle.route.specs.Lists.{All}
 use Rattle.route.specs.Postings.{TERMINATED}
 use Rattle.route.specs.Scorer.{Scorer}
+use Rattle.route.specs.Cursor.{fresh}
 use Rattle.bm25.specs.declared.Scoring.{Scoring}
 use Rattle.ordering.specs.Inner.Scorers.{Apart}
 use Rattle.ordering.specs.declared.TermScorer.{TermScorer}
@@ -24,6 +25,10 @@ pub record Terms : Type 0 where
 
 abbrev pub terms : Scoring → List Float → List (List Float) → List Float → Terms
 terms scoring weights caches bounds = record { scoring = scoring; weights = weights; caches = caches; bounds = bounds }
+
+-- a scorer that has just been opened stands on its list's first posting
+abbrev pub OnFirst : List (List ℕ) → TermScorer → Type 0
+OnFirst places s = cursorAt places (s .slot) ≡ fresh
 
 module _ (file : List ℕ) (lists : List (List ℕ)) where
   -- the route's scorer: its position is the slot

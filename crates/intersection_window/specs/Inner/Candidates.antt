@@ -15,7 +15,7 @@ use Rattle.route.specs.Route.{Turn}
 use Rattle.route.specs.Intersection.{InterPlace, called, candidatesFrom, interBy, isOver, tryCandidate, window, within}
 use Rattle.reports.specs.Inner.Runs.{Quietly}
 use Rattle.term_scorer.specs.Inner.Slots.{Held, cursorAt}
-use Rattle.intersection_window.specs.Inner.Scorers.{Query, listIn, placeAt, secondariesIn, slotAt, Seated, StillKept, Unmoved}
+use Rattle.intersection_window.specs.Inner.Scorers.{Query, listIn, placeAt, secondariesIn, slotAt, SlotsIn, StillKept, Unmoved}
 use Rattle.intersection_window.specs.declared.candidate.Candidate.{Candidate}
 use Rattle.intersection_window.specs.declared.candidate.Candidate.the-variants.{Due, Passed}
 use Rattle.intersection_window.specs.declared.hit.Hit.{Hit}
@@ -32,7 +32,7 @@ candidateOf t (some total) = cond (f32 .above total t) (Due total) Passed
 
 -- what the secondaries made of candidate c: they stand where the route's do, and the leader stays
 pub record Tries (x : Query) (c : ℕ) (score t : Float) (suffix : List Float) (h h′ : Held) (r : Candidate) : Type 0 where
-  pub seated : Seated x h′
+  pub seated : SlotsIn x h′
   pub leader : Unmoved (slotAt x 0) h h′
   pub bounds : StillKept x (h .places) (h′ .places)
   pub secs-are : (bs : List Float) → Suffixes (x .len) bs suffix
@@ -82,7 +82,7 @@ HitIn from (At next doc score) = (from < next) × (next ≤ 128)
 
 -- what is found of the candidates from place `from` on
 pub record Hits (x : Query) (t ts : Float) (e : ℕ) (suffix : List Float) (from : ℕ) (h h′ : Held) (r : Hit) : Type 0 where
-  pub seated : Seated x h′
+  pub seated : SlotsIn x h′
   pub leader : Unmoved (slotAt x 0) h h′
   pub bounds : StillKept x (h .places) (h′ .places)
   pub place : HitIn from r

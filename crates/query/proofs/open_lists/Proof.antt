@@ -4,7 +4,7 @@ use Prim.Native.Nat.{ℕ, _-_, _≤_, _<_}
 use native.Mathlib.Omega.{arith}
 use lib.ListN.{length}
 use borrow.Author.Needs.{needs}
-use Rattle.query.specs.Inner.Fresh.{arrays, QueryOpened}
+use Rattle.query.specs.Inner.Openings.{arrays, QueryOpened}
 use Rattle.query.proofs.Opening.{none-opened, one-more}
 use Rattle.query.proofs.open_lists.Statement.{statement}
 use Rattle.query.proofs.open_lists.Tie as tie

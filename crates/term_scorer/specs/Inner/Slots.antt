@@ -1,7 +1,7 @@
 -- The slots of a run: what the lent arrays hold of each scorer, and what a move of one leaves.
 use mathlib.Core.Path.{_≡_}
-use mathlib.Core.List.{List, []}
-use Prim.Native.Nat.{ℕ}
+use mathlib.Core.List.{List, [], _∷_, map}
+use Prim.Native.Nat.{ℕ, zero, suc}
 use lib.ListN.{length, getD, set}
 use lib.Ieee.{Float}
 use Rattle.route.specs.Postings.{Postings}
@@ -31,6 +31,14 @@ partAt lists q = partIn (getD lists q [])
 
 abbrev pub listAt : Scoring → List ℕ → List (List ℕ) → ℕ → Postings Float
 listAt scoring file lists q = listOf scoring file (partAt lists q)
+
+-- m slots, from slot a on, and their lists
+abbrev pub slotsFrom : ℕ → ℕ → List ℕ
+slotsFrom a zero = []
+slotsFrom a (suc m) = a ∷ slotsFrom (suc a) m
+
+abbrev pub listsFrom : Scoring → List ℕ → List (List ℕ) → ℕ → ℕ → List (Postings Float)
+listsFrom scoring file lists a m = map (listAt scoring file lists) (slotsFrom a m)
 
 -- the route's cursor in a slot, and the last document of its skip reader's block
 abbrev pub cursorAt : List (List ℕ) → ℕ → Cursor

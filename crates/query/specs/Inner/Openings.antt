@@ -41,13 +41,18 @@ pub record Room (a : Arrays) : Type 0 where
   pub caches : Sixteen (a .caches)
   pub max-scores : Sixteen (a .max-scores)
 
--- slot q has list l of the file, on its first posting, with its weight, norms and bound, and no block bound known
+-- slot q has list l of the file, on its first posting, with its weight and norms
+pub record OpenSlot (file : List ℕ) (lists : List (List ℕ)) (weights : List Float) (caches : List (List Float)) (h : Held)
+    (l q : ℕ) : Type 0 where
+  pub slot : SlotIn file lists h q
+  pub part-is : partAt lists q ≡ partOf file l
+  pub cursor-is : cursorAt (h .places) q ≡ fresh
+  pub weighed : Weighed lists weights caches q
+
+-- and with its list bound, and no block bound known
 pub record FreshSlot (scoring : Scoring) (file : List ℕ) (a : Arrays) (l q : ℕ) : Type 0 where
-  pub slot : SlotIn file (a .lists) (a .held) q
-  pub part-is : partAt (a .lists) q ≡ partOf file l
-  pub cursor-is : cursorAt (a .held .places) q ≡ fresh
+  pub open-slot : OpenSlot file (a .lists) (a .weights) (a .caches) (a .held) l q
   pub unknown : getD (getD (a .held .places) q []) 7 0 ≡ 0
-  pub weighed : Weighed (a .lists) (a .weights) (a .caches) q
   pub max-is : getD (a .max-scores) q nan ≡ listAt scoring file (a .lists) q .top
 
 -- every array has changed in slot q at most
