@@ -10,7 +10,7 @@ ghost use Rattle.arrays.specs.Lent.{before, after};
 ghost use Rattle.term_scorer.specs.Inner.Slots.{held, Sixteen};
 ghost use Rattle.intersection_window.specs.Inner.Scorers.{query, InOrder, Ready, WeightsIn};
 ghost use Rattle.intersection_window.specs.Inner.Windows.{boundsAlong, Gathers, Turns};
-ghost use Rattle.intersection_window.specs.Inner.Candidates.{Suffixes};
+ghost use Rattle.intersection_window.specs.Inner.Candidates.{SameOutside, Suffixes};
 
 // Whether every secondary has documents left, where the first of all present blocks ends, and the secondaries' bounds summed.
 pub struct Secondaries {
@@ -165,7 +165,9 @@ pub fn next_window(
 // Behind each secondary the sum of the bounds that follow, added from the last on.
 pub fn sum_suffixes(n: usize, order: &[usize; 16], bounds: &[f32; 16], suffix: &mut [f32; 16])
     requires { ⌜ (0 < n) × (n ≤ 16) × Sixteen (now order) × ((i : ℕ) → i < n → getD (now order) i 0 < 16) × Sixteen (now suffix) ⌝ }
-    ensures { λ _. ⌜ Suffixes n (boundsAlong n (before order) (before bounds)) (after suffix) × Sixteen (after suffix) ⌝ }
+    ensures { λ _.
+        ⌜ Suffixes n (boundsAlong n (before order) (before bounds)) (after suffix) × Sixteen (after suffix)
+        × SameOutside n (before suffix) (after suffix) ⌝ }
 {
     let mut running = 0.0f32;
     let mut i = n;

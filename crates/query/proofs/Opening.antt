@@ -5,7 +5,7 @@ use mathlib.Core.Logic.{inl, inr}
 use Prim.Native.Nat.{ℕ, suc, _+_, _≤_, _<_}
 use native.Mathlib.Nat.{add-zero, zero-add}
 use native.Mathlib.Omega.{arith}
-use lib.ListN.{length, getD, set, take, drop, length-set}
+use lib.ListN.{length, getD, set, take, drop, length-set, getD-replicate, replicate}
 use lib.Seq.{drop-cons, getD-set-same, getD-set-other}
 use lib.Ieee.{Float, nan, binary32, ofBits}
 use Rattle.arrays.proofs.Order.{lt-or-ge}
@@ -34,7 +34,7 @@ use Rattle.slot_rows.specs.Inner.Rows.{partIn, partRow, PartRow}
 use Rattle.slot_rows.proofs.Rows.{part-back}
 use Rattle.term_scorer.specs.Inner.Slots.{Held, Sixteen, Opened, partAt, listAt, cursorAt, listsFrom}
 use Rattle.term_scorer.specs.Inner.Weights.{Weighed}
-use Rattle.query.specs.Inner.Openings.{Arrays, Room, FreshSlot, OnlySlot, OneOpened, QueryOpened}
+use Rattle.query.specs.Inner.Openings.{Arrays, Room, FreshSlot, OnlySlot, OneOpened, QueryOpened, Untouched}
 
 -- a list's number is below the header's
 pub listed : (file : List ℕ) (h : Header) → h ≡ headerOf file → (l : ℕ) → l < listCount file → l < h .lists
@@ -143,9 +143,41 @@ module _ (scoring : Scoring) (file : List ℕ) (a b : Arrays) (n : ℕ) (O : Onl
         max-is = rw (el, em) (F .max-is);
       }
 
+-- and so are the slots behind
+pub none-touched : (a : Arrays) → Untouched 0 a a
+none-touched a = record {
+  lists = λ q h. refl;
+  places = λ q h. refl;
+  docs = λ q h. refl;
+  freqs = λ q h. refl;
+  weights = λ q h. refl;
+  caches = λ q h. refl;
+  max-scores = λ q h. refl;
+}
+
+pub behind-as : {n m : ℕ} {a b : Arrays} → n ≡ m → Untouched n a b → Untouched m a b
+behind-as {a = a} {b = b} e U = subst (λ (z : ℕ). Untouched z a b) e U
+
+pub behind-one : (n : ℕ) (a₀ a b : Arrays) → Untouched n a₀ a → OnlySlot n a b → Untouched (n + 1) a₀ b
+behind-one n a₀ a b U O = record {
+  lists = λ q h. other (a .lists) q n _ [] (O .lists) (λ e. omega (arith, e)) ∙ U .lists q (omega arith);
+  places = λ q h. other (a .held .places) q n _ [] (O .places) (λ e. omega (arith, e)) ∙ U .places q (omega arith);
+  docs = λ q h. other (a .held .docs) q n _ [] (O .docs) (λ e. omega (arith, e)) ∙ U .docs q (omega arith);
+  freqs = λ q h. other (a .held .freqs) q n _ [] (O .freqs) (λ e. omega (arith, e)) ∙ U .freqs q (omega arith);
+  weights = λ q h. other (a .weights) q n _ nan (O .weights) (λ e. omega (arith, e)) ∙ U .weights q (omega arith);
+  caches = λ q h. other (a .caches) q n _ [] (O .caches) (λ e. omega (arith, e)) ∙ U .caches q (omega arith);
+  max-scores = λ q h. other (a .max-scores) q n _ nan (O .max-scores) (λ e. omega (arith, e)) ∙ U .max-scores q (omega arith);
+}
+
 module _ (scoring : Scoring) (file query : List ℕ) where
-  pub none-opened : (a : Arrays) (scorers : List TermScorer) → Room a → length scorers ≡ 16 → QueryOpened scoring file query 0 a scorers
-  none-opened a scorers R k = record { room = R; fresh-slots = λ q h. absurd (omega (arith, h)); long = k; scorers-are = λ q h. absurd (omega (arith, h)) }
+  pub none-opened : (a : Arrays) → Room a → QueryOpened scoring file query 0 a (replicate 16 noScorer)
+  none-opened a R = record {
+    room = R;
+    fresh-slots = λ q h. absurd (omega (arith, h));
+    long = refl;
+    scorers-are = λ q h. absurd (omega (arith, h));
+    behind = record { blank = λ q h k. getD-replicate 16 q noScorer noScorer k };
+  }
 
   pub one-more : (n : ℕ) (a b : Arrays) (scorers : List TermScorer) {doc : ℕ} → n < 16 → QueryOpened scoring file query n a scorers → OneOpened scoring file (getD query n 0) n a b doc
       → QueryOpened scoring file query (n + 1) b (set scorers n (record { doc = doc; slot = n }))
@@ -163,6 +195,7 @@ module _ (scoring : Scoring) (file query : List ℕ) where
           | inr g ↦ subst (λ (z : ℕ). getD (set scorers n (record { doc = doc; slot = n })) z noScorer ≡ record { doc = docIn file (partOf file (getD query z 0)) 0; slot = z }) (only-n q n g k)
               (getD-set-same scorers n _ noScorer (omega (arith, h, Q .long)) ∙ ap (λ (d : ℕ). record { doc = d; slot = n }) (O .doc-is))
         ];
+        behind = record { blank = λ q g k. getD-set-other scorers n q _ noScorer (λ e. omega (arith, e, g)) ∙ Q .behind .blank q (omega arith) k };
       }
     where
       only-n : (q m : ℕ) → m ≤ q → q < m + 1 → m ≡ q

@@ -12,7 +12,7 @@ ghost use Rattle.arrays.specs.Lent.{before, after};
 ghost use Rattle.notefile.specs.Header.{listCount};
 ghost use Rattle.notefile.specs.Refusal.{fileRefusal};
 ghost use Rattle.notefile.specs.Inner.Structs.{headerOf};
-ghost use Rattle.query.specs.Inner.Openings.{arrays, Named, OneOpened, QueryOpened, Room};
+ghost use Rattle.query.specs.Inner.Openings.{arrays, Named, OneOpened, QueryOpened, Room, Untouched};
 
 // List l in slot q, on its first posting, with its weight, its norms and its bound.
 fn open_list(
@@ -67,9 +67,12 @@ pub fn open_lists(
         ⌜ (fileRefusal (now file) ≡ 0) × (h ≡ headerOf (now file)) × (length (now query) ≤ 16) × Named (now file) (now query)
         × Room slots ⌝ }
     ensures { λ r.
+        let old = arrays (before lists) (before places) (before docs) (before freqs)
+        (before weights) (before caches) (before «max_scores») in
         let new = arrays (after lists) (after places) (after docs) (after freqs)
         (after weights) (after caches) (after «max_scores») in
-        ⌜ QueryOpened scoring (before file) (before query) (length (before query)) new r ⌝ }
+        ⌜ QueryOpened scoring (before file) (before query) (length (before query)) new r
+        × Untouched (length (before query)) old new ⌝ }
 {
     let mut scorers = [TermScorer { doc: 0, slot: 0 }; 16];
     let mut q = 0usize;

@@ -53,6 +53,8 @@ module _ (file : List ℕ) (lists : List (List ℕ)) where
               (onRoute file lists scoring h (drop len l)));
           due = dueAt f32 t p (sum f32 (map scoreHere (onRoute file lists scoring h (take len l))));
         }
+    pub doc-is : r .doc ≡ p
+    pub score-is : r .score ≡ sum f32 (map scoreHere (onRoute file lists scoring h (take len l)))
     pub few : r .len ≤ n
     pub long : Sixteen (r .scorers)
 

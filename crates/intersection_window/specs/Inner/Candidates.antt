@@ -25,6 +25,10 @@ use Rattle.intersection_window.specs.declared.hit.Hit.the-variants.{At, 
 abbrev pub Suffixes : ℕ → List Float → List Float → Type 0
 Suffixes len bs suffix = (k : ℕ) → 1 ≤ k → k < len → getD suffix k nan ≡ sumBack f32 (drop k bs)
 
+-- and at every other place the array is as it was
+abbrev pub SameOutside : ℕ → List Float → List Float → Type 0
+SameOutside len suffix suffix′ = (k : ℕ) → (1 ≤ k → len ≤ k) → getD suffix′ k nan ≡ getD suffix k nan
+
 -- a report is due where all secondaries have the candidate and its score is above the threshold
 abbrev pub candidateOf : Float → Option Float → Candidate
 candidateOf t none = Passed

@@ -11,7 +11,7 @@ use Rattle.ordering.specs.Inner.Scorers.{noScorer}
 use Rattle.ordering.specs.declared.TermScorer.{TermScorer}
 use Rattle.notefile.specs.Parts.{partOf}
 use Rattle.postings.specs.Inner.Decoded.{docIn}
-use Rattle.term_scorer.specs.Inner.Slots.{Held, Sixteen, SlotIn, partAt, listAt, cursorAt, listsFrom}
+use Rattle.term_scorer.specs.Inner.Slots.{Held, Sixteen, SlotIn, partAt, listAt, cursorAt, listsFrom, Blank}
 use Rattle.term_scorer.specs.Inner.Weights.{Weighed}
 use Rattle.query.specs.Inner.Openings.{OpenSlot}
 use Rattle.plain_scan.specs.Inner.Found.{foundOf}
@@ -22,10 +22,11 @@ abbrev pub leastIn : List ℕ → ℕ → ℕ
 leastIn heads zero = 2147483647
 leastIn heads (suc n) = min (leastIn heads n) (getD heads n 0)
 
--- the documents of the first n scorers
+-- the documents of the first n scorers, and behind them TERMINATED
 pub record HeadsOf (scorers : List TermScorer) (n : ℕ) (heads : List ℕ) : Type 0 where
   pub long : Sixteen heads
   pub are : (q : ℕ) → q < n → getD heads q 0 ≡ getD scorers q noScorer .doc
+  pub behind : Blank 2147483647 n heads
 
 -- each of the first n slots has its list's weight and norms
 abbrev pub AllWeighed : List (List ℕ) → List Float → List (List Float) → ℕ → Type 0

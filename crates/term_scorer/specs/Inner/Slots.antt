@@ -1,7 +1,7 @@
 -- The slots of a run: what the lent arrays hold of each scorer, and what a move of one leaves.
 use mathlib.Core.Path.{_≡_}
 use mathlib.Core.List.{List, [], _∷_, map}
-use Prim.Native.Nat.{ℕ, zero, suc}
+use Prim.Native.Nat.{ℕ, zero, suc, _≤_, _<_}
 use lib.ListN.{length, getD, set}
 use lib.Ieee.{Float}
 use Rattle.route.specs.Postings.{Postings}
@@ -15,6 +15,10 @@ use Rattle.slot_rows.specs.Inner.Rows.{partIn, partRow, PartRow, cursorIn, Stan
 -- an array of 16 slots
 abbrev pub Sixteen : {A : Type 0} → List A → Type 0
 Sixteen xs = length xs ≡ 16
+
+-- the cells of an array of 16 from place n on are d
+pub record Blank {A : Type 0} (d : A) (n : ℕ) (xs : List A) : Type 0 where
+  pub blank : (k : ℕ) → n ≤ k → k < 16 → getD xs k d ≡ d
 
 -- the arrays that change as scorers move
 pub record Held : Type 0 where

@@ -41,7 +41,7 @@ plain-scan-requires c κs =
     let n = o .before .before .before .before .before .before .before .before .before in
     let a = n .before .before .before .before .before .before .before in
     let t = through a in
-    (t .few, n .norm-reader .ensures, opened-ready (a .args .scoring) (a .args .file .now) (a .args .query .now) _ _ (o .open-lists .ensures), keeps (a .args .rule) (a .args .scoring) (a .args .script .now) (t .rule-right))
+    (t .few, n .norm-reader .ensures, opened-ready (a .args .scoring) (a .args .file .now) (a .args .query .now) _ _ (o .open-lists .ensures .0), keeps (a .args .rule) (a .args .scoring) (a .args .script .now) (t .rule-right))
 
 finish-requires : tie.Need-finish-requires
 finish-requires c κs = search needs
