@@ -28,7 +28,7 @@ use Rattle.term_scorer.specs.Inner.Slots.{Held, cursorAt, listsFrom, slotsFrom}
 use Rattle.intersection_window.specs.Inner.Scorers.{InOrder, Query, Ready, WeightsIn, leaderIn, listIn, query, scorerAt, scorersBetween, secondariesIn}
 use Rattle.intersection_window.specs.Inner.Sizes.{BySize, sizeIn}
 use Rattle.intersection_window.proofs.Parts.{part-first}
-use Rattle.block_wand_intersection.specs.Inner.Steps.{Runs, TopsIn}
+use Rattle.block_wand_intersection.specs.Inner.Steps.{Runs, MaxScoresIn}
 use Rattle.block_wand_intersection.specs.Inner.Queries.{Answers, FreshLists}
 use Rattle.block_wand_intersection.specs.declared.run.Ended.{Ended}
 
@@ -104,8 +104,8 @@ module _ {scoring : Scoring} {file : List ℕ} {lists : List (List ℕ)} {n : �
     pub ready : Ready x h bounds
     ready = record { seated = record { sixteen = F .sixteen; slot = F .slot }; kept = F .kept; long = F .long }
 
-    pub tops : TopsIn x maxScores
-    tops = F .top
+    pub max-scores-in : MaxScoresIn x maxScores
+    max-scores-in = F .max-score
 
     -- ---- the scorers
 

@@ -26,7 +26,7 @@ use Rattle.intersection_window.specs.Inner.Scorers.{InOrder, Query, Ready, lead
 use Rattle.intersection_window.proofs.Parts.{part-same}
 use Rattle.intersection_window.proofs.Seats.{list-right}
 use Rattle.block_wand_intersection.specs.Inner.Walks.{WalkedBy, maxAlong, maxSum}
-use Rattle.block_wand_intersection.specs.Inner.Steps.{Ends, Runs, Steps, TopsIn}
+use Rattle.block_wand_intersection.specs.Inner.Steps.{Ends, Runs, Steps, MaxScoresIn}
 use Rattle.block_wand_intersection.specs.declared.walk.Stop.{Stop}
 use Rattle.block_wand_intersection.specs.declared.walk.Stop.the-variants.{Full, Next, Over}
 use Rattle.block_wand_intersection.specs.declared.run.Ended.{Ended}
@@ -85,7 +85,7 @@ module _ (x : Query) (rule : Rule) (script : List Float) (t₀ : Threshold) (d�
 -- ---- from the early exit
 
 -- the list bounds, from the array
-pub max-along : (x : Query) → InOrder x → (maxScores : List Float) → TopsIn x maxScores → maxAlong (x .len) (x .order) maxScores ≡ maxSum x
+pub max-along : (x : Query) → InOrder x → (maxScores : List Float) → MaxScoresIn x maxScores → maxAlong (x .len) (x .order) maxScores ≡ maxSum x
 max-along x O maxScores T =
     let long = O .long in
     let few = O .few in

@@ -19,7 +19,7 @@ ghost use Rattle.reports.specs.Inner.Rows.{Begun};
 ghost use Rattle.term_scorer.specs.Inner.Slots.{held, Sixteen};
 ghost use Rattle.intersection_window.specs.Inner.Scorers.{query, InOrder, Ready, WeightsIn};
 ghost use Rattle.block_wand_intersection.specs.Inner.Walks.{maxAlong, maxSum};
-ghost use Rattle.block_wand_intersection.specs.Inner.Steps.{Ends, Runs, Steps, TopsIn};
+ghost use Rattle.block_wand_intersection.specs.Inner.Steps.{Ends, Runs, Steps, MaxScoresIn};
 
 // The threshold behind a window, how it was left, and where the next begins.
 pub struct AfterWindow {
@@ -247,7 +247,7 @@ pub fn run_in_order(
     requires { let asked = query scoring (now file) (now lists) n (now order) in
         let slots = held (now places) (now docs) (now freqs) in
         ⌜ InOrder asked × WeightsIn asked norms (now weights) (now caches) × Ready asked slots (now bounds) × Keeps rule
-        × TopsIn asked (now «max_scores») ⌝ }
+        × MaxScoresIn asked (now «max_scores») ⌝ }
     ensures { λ r.
         let asked = query scoring (before file) (before lists) n (before order) in
         ⌜ Runs asked rule (before script) (before places) (before documents) (before scores)

@@ -23,6 +23,7 @@ pub enum Stop {
     Full,
 }
 
+// The threshold behind the window's reports, and how the window was left.
 pub struct Walked {
     pub threshold: Threshold,
     pub stop: Stop,

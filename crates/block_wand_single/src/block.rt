@@ -106,6 +106,7 @@ fn after_walk(
     }
 }
 
+// One block of the scan, from hunt to hunt: the next that may hold a report is walked, and left.
 pub fn scan_block(
     file: &[u8],
     norms: FieldNormReader,

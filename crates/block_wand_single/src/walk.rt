@@ -31,6 +31,7 @@ fn first_above(values: &[f32; 128], from: usize, n: usize, threshold: f32) -> us
     n
 }
 
+// Reports each posting above the threshold of the moment, up to place n or to a report that has no row.
 pub fn walk(
     rule: Rule,
     script: &[f32],

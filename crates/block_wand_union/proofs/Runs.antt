@@ -36,7 +36,7 @@ use Rattle.reports.proofs.RunLaws.{rests-ended, rests-full, run-begun, run-quie
 use Rattle.reports.proofs.RowLaws.{count-is, documents-long, scores-long}
 use Rattle.decoded.proofs.AcceptedLists.{list-ok}
 use Rattle.term_scorer.specs.Inner.Slots.{Held, cursorAt, listAt, partAt, Sixteen}
-use Rattle.block_wand_union.specs.Inner.Seats.{Seat, Seated, Stand, Terms, Topped, scorerAt, terms, OnFirst}
+use Rattle.block_wand_union.specs.Inner.Seats.{Seat, Seated, Stand, Terms, MaxScoreAt, scorerAt, terms, OnFirst}
 use Rattle.block_wand_union.specs.Inner.Turns.{Turned, turnOf}
 use Rattle.block_wand_union.specs.declared.turn.Step.{Step}
 use Rattle.block_wand_union.proofs.Seats.{same-doc}
@@ -169,7 +169,7 @@ module _ (file : List ℕ) (lists : List (List ℕ)) (maxScores : List Float) wh
       seated = rw e (record {
         seats = kept-all (Seat file lists T h) (sort-kept byDoc l) (S .seats);
         apart = kept-apart (sort-kept byDoc l) (S .apart);
-        tops = kept-all (Topped file lists (T .scoring) maxScores) (sort-kept byDoc l) (S .tops);
+        max-scores = kept-all (MaxScoreAt file lists (T .scoring) maxScores) (sort-kept byDoc l) (S .max-scores);
         sixteen = S .sixteen;
       });
       few = few;

@@ -26,6 +26,7 @@ pub enum Window {
     Open(u32, f32),
 }
 
+// The lower of two documents.
 fn least(a: u32, b: u32) -> u32
     ensures { λ r. ⌜ r ≡ min a b ⌝ }
 {

@@ -51,10 +51,10 @@ there xs q x d h l = getD-set-same xs q x d (omega (arith, h, l))
 put : {A : Type 0} (xs : List A) (q : ℕ) (x d : A) → q < 16 → Sixteen xs → set xs q x ≡ set xs q (getD (set xs q x) q d)
 put xs q x d h l = ap (set xs q) (sym (there xs q x d h l))
 
-module _ (scoring : Scoring) (file : List ℕ) (l q : ℕ) (h : q < 16) {x : Part} (part-is : x ≡ partOf file l) (L : ListIn file x) {w : Bm25Weight} (W : WeightIn x w) {top : Float} (top-is : top ≡ scored scoring (maxScore w))
+module _ (scoring : Scoring) (file : List ℕ) (l q : ℕ) (h : q < 16) {x : Part} (part-is : x ≡ partOf file l) (L : ListIn file x) {w : Bm25Weight} (W : WeightIn x w) {max-score : Float} (max-known : max-score ≡ scored scoring (maxScore w))
     (a : Arrays) (R : Room a) {lists′ : List (List ℕ)} {held′ : Held} {doc : ℕ} (O : Opened file x q (a .lists) lists′ (a .held) held′ doc) where
   abbrev b : Arrays
-  b = record { lists = lists′; held = held′; weights = set (a .weights) q (w .weight); caches = set (a .caches) q (w .cache); max-scores = set (a .max-scores) q top }
+  b = record { lists = lists′; held = held′; weights = set (a .weights) q (w .weight); caches = set (a .caches) q (w .cache); max-scores = set (a .max-scores) q max-score }
 
   row-is : getD lists′ q [] ≡ partRow x
   row-is = ap (λ (z : List (List ℕ)). getD z q []) (O .lists-only) ∙ there (a .lists) q (partRow x) [] h (R .lists)
@@ -67,10 +67,10 @@ module _ (scoring : Scoring) (file : List ℕ) (l q : ℕ) (h : q < 16) {x : Par
       rw (there (a .weights) q (w .weight) nan h (R .weights), there (a .caches) q (w .cache) [] h (R .caches))
       (subst (λ (z : Part). WeighedIn z (w .weight) (w .cache)) (sym part-there) (apart x W))
 
-  top-there : getD (b .max-scores) q nan ≡ listAt scoring file lists′ q .top
+  max-there : getD (b .max-scores) q nan ≡ listAt scoring file lists′ q .top
   unfolding listOf listBound scoreFor
-  top-there =
-      there (a .max-scores) q top nan h (R .max-scores) ∙ top-is ∙ ap (scored scoring) (max-score-is (ofBits binary32 (x .weight)) (ofBits binary32 (x .average)) w W)
+  max-there =
+      there (a .max-scores) q max-score nan h (R .max-scores) ∙ max-known ∙ ap (scored scoring) (max-score-is (ofBits binary32 (x .weight)) (ofBits binary32 (x .average)) w W)
       ∙ ap (λ (z : Part). listOf scoring file z .top) (sym part-there)
 
   pub one-opened : OneOpened scoring file l q a b doc
@@ -88,7 +88,7 @@ module _ (scoring : Scoring) (file : List ℕ) (l q : ℕ) (h : q < 16) {x : Par
         weighed = weight-there;
       };
       unknown = O .unknown;
-      max-is = top-there;
+      max-is = max-there;
     };
     only = record {
       lists = O .lists-only ∙ ap (set (a .lists) q) (sym row-is);
@@ -97,7 +97,7 @@ module _ (scoring : Scoring) (file : List ℕ) (l q : ℕ) (h : q < 16) {x : Par
       freqs = O .opened .freqs-only;
       weights = put (a .weights) q (w .weight) nan h (R .weights);
       caches = put (a .caches) q (w .cache) [] h (R .caches);
-      max-scores = put (a .max-scores) q top nan h (R .max-scores);
+      max-scores = put (a .max-scores) q max-score nan h (R .max-scores);
     };
     doc-is =
         O .opened .moved .doc-is ∙ ap (λ (z : Part). docIn file z (cursorAt (held′ .places) q .at)) (part-there ∙ part-is)

@@ -37,7 +37,7 @@ module _ (scoring : Scoring) (file query : List ℕ) (a : Arrays) (scorers : Lis
     slot = λ q h. Q .fresh-slots q h .open-slot .slot;
     weighed = λ q h. Q .fresh-slots q h .open-slot .weighed;
     kept = λ q h k. absurd (omega (arith, k, Q .fresh-slots q h .unknown));
-    top = λ q h. Q .fresh-slots q h .max-is;
+    max-score = λ q h. Q .fresh-slots q h .max-is;
     first = λ q h. Q .fresh-slots q h .open-slot .cursor-is;
   }
 

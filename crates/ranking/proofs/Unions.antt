@@ -31,7 +31,7 @@ use Rattle.postings.specs.Inner.Decoded.{docIn, doc-is}
 use Rattle.term_scorer.specs.Inner.Slots.{Sixteen, cursorAt, partAt}
 use Rattle.query.specs.Inner.Openings.{Arrays, QueryOpened}
 use Rattle.query.proofs.Opening.{opened-scorers}
-use Rattle.block_wand_union.specs.Inner.Seats.{Seat, Seated, Topped, scorerAt, terms, OnFirst}
+use Rattle.block_wand_union.specs.Inner.Seats.{Seat, Seated, MaxScoreAt, scorerAt, terms, OnFirst}
 use Rattle.ranking.specs.Answers.{scorerOf, Finished}
 use Rattle.ranking.specs.declared.outcome.Outcome.{Outcome}
 
@@ -63,7 +63,7 @@ module _ (scoring : Scoring) (file query : List ℕ) (few : length query ≤ 16)
   -- what holds of each scorer that was opened
   record Opened (s : TermScorer) : Type 0 where
     seat : (bounds : List Float) → Seat file (a .lists) (terms scoring (a .weights) (a .caches) bounds) (a .held) s
-    top : Topped file (a .lists) scoring (a .max-scores) s
+    max-score : MaxScoreAt file (a .lists) scoring (a .max-scores) s
     begins : OnFirst (a .held .places) s
     doc : SameDoc f s
     slot-in : s .slot < n
@@ -83,7 +83,7 @@ module _ (scoring : Scoring) (file query : List ℕ) (few : length query ≤ 16)
           weighed = S .weighed;
           bound = λ k. absurd (omega (arith, k, F .unknown));
         };
-        top = sym (F .max-is);
+        max-score = sym (F .max-is);
         begins = S .cursor-is;
         doc = doc-is file (partAt (a .lists) q) scoring (cursorAt (a .held .places) q .at) ∙ sym d;
         slot-in = h;
@@ -116,7 +116,7 @@ module _ (scoring : Scoring) (file query : List ℕ) (few : length query ≤ 16)
     left-seated bounds sixteen = record {
       seats = imp _ (λ s o. o .seat bounds) left left-opened;
       apart = subst Apart (sym (L .are)) (kept-apart (retain-kept byDoc (take n scorers)) all-apart);
-      tops = imp _ (λ s o. o .top) left left-opened;
+      max-scores = imp _ (λ s o. o .max-score) left left-opened;
       sixteen = sixteen;
     }
 

@@ -28,7 +28,7 @@ pub record FreshLists (scoring : Scoring) (file : List ℕ) (lists : List (List 
   pub slot : (q : ℕ) → q < n → SlotIn file lists h q
   pub weighed : (q : ℕ) → q < n → Weighed lists weights caches q
   pub kept : (q : ℕ) → q < n → BoundKept scoring file lists (h .places) bounds q
-  pub top : (q : ℕ) → q < n → getD maxScores q nan ≡ listAt scoring file lists q .top
+  pub max-score : (q : ℕ) → q < n → getD maxScores q nan ≡ listAt scoring file lists q .top
   pub first : (q : ℕ) → q < n → cursorAt (h .places) q ≡ fresh
 
 -- the run is the route's over the query's lists, and so is where it leaves each slot

@@ -19,8 +19,8 @@ use Rattle.block_wand_intersection.specs.declared.run.AfterWindow.{After
 use Rattle.block_wand_intersection.specs.declared.walk.Stop.the-variants.{Next}
 
 -- each list's bound stands at its slot
-abbrev pub TopsIn : Query → List Float → Type 0
-TopsIn x maxScores = (q : ℕ) → q < x .len → getD maxScores q nan ≡ listIn x q .top
+abbrev pub MaxScoresIn : Query → List Float → Type 0
+MaxScoresIn x maxScores = (q : ℕ) → q < x .len → getD maxScores q nan ≡ listIn x q .top
 
 -- where a run goes on behind a window: its arrays are ready, and the next window begins later
 pub record Onward (x : Query) (d : ℕ) (h : Held) (bounds : List Float) (d′ : ℕ) : Type 0 where

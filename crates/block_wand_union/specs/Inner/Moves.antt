@@ -15,7 +15,7 @@ use Rattle.ordering.specs.Inner.Scorers.{Moving}
 use Rattle.ordering.specs.declared.Scorers.{Scorers}
 use Rattle.ordering.specs.declared.TermScorer.{TermScorer}
 use Rattle.term_scorer.specs.Inner.Slots.{Held, lastAt, Sixteen}
-use Rattle.block_wand_union.specs.Inner.Seats.{Carried, Seat, Terms, Topped, onRoute, scorerAt, terms}
+use Rattle.block_wand_union.specs.Inner.Seats.{Carried, Seat, Terms, MaxScoreAt, onRoute, scorerAt, terms}
 use Rattle.block_wand_union.specs.declared.align.Alignment.{Alignment}
 
 -- the least of t and the last documents of the scorers' present blocks
@@ -40,7 +40,7 @@ module _ (file : List ℕ) (lists : List (List ℕ)) where
   -- the blocks of the first len were too low, and one of them has gone on: the route's next scorers, whatever the scoring
   pub record TooLow (maxScores : List Float) (h : Held) (l : List TermScorer) (len : ℕ) (h′ : Held) (l′ : List TermScorer) : Type 0 where
     pub carried : Carried file lists h l h′ l′
-    pub scorers-are : (scoring : Scoring) → All (Topped file lists scoring maxScores) l
+    pub scorers-are : (scoring : Scoring) → All (MaxScoreAt file lists scoring maxScores) l
         → onRoute file lists scoring h′ l′
         ≡ blockMaxWasTooLow 128 f32 (onRoute file lists scoring h (take len l)) (onRoute file lists scoring h (drop len l))
 

@@ -62,8 +62,8 @@ module _ (file : List ℕ) (lists : List (List ℕ)) where
   Inside h s = cursorAt (h .places) (s .slot) .blk ≤ fullBlocks (partAt lists (s .slot))
 
   -- the list bound of a scorer stands by its slot
-  abbrev pub Topped : Scoring → List Float → TermScorer → Type 0
-  Topped scoring maxScores s = listAt scoring file lists (s .slot) .top ≡ getD maxScores (s .slot) nan
+  abbrev pub MaxScoreAt : Scoring → List Float → TermScorer → Type 0
+  MaxScoreAt scoring maxScores s = listAt scoring file lists (s .slot) .top ≡ getD maxScores (s .slot) nan
 
   -- and its list's weight and norms
   abbrev pub WeighedAt : List Float → List (List Float) → TermScorer → Type 0
@@ -75,11 +75,11 @@ module _ (file : List ℕ) (lists : List (List ℕ)) where
     pub apart : Apart l′
     pub seats : (T : Terms) → All (Seat T h) l → All (Seat T h′) l′
     pub weights : (weights : List Float) (caches : List (List Float)) → All (WeighedAt weights caches) l → All (WeighedAt weights caches) l′
-    pub tops : (scoring : Scoring) (maxScores : List Float) → All (Topped scoring maxScores) l → All (Topped scoring maxScores) l′
+    pub max-scores : (scoring : Scoring) (maxScores : List Float) → All (MaxScoreAt scoring maxScores) l → All (MaxScoreAt scoring maxScores) l′
 
   -- the scorers of a run, with what stands by their slots
   pub record Seated (T : Terms) (maxScores : List Float) (h : Held) (l : List TermScorer) : Type 0 where
     pub seats : All (Seat T h) l
     pub apart : Apart l
-    pub tops : All (Topped (T .scoring) maxScores) l
+    pub max-scores : All (MaxScoreAt (T .scoring) maxScores) l
     pub sixteen : Sixteen (T .bounds)

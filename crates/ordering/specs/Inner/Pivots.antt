@@ -54,7 +54,7 @@ module _ (maxScores : List Float) where
   placeToSeek [] = 0
   placeToSeek (x ∷ xs) = placeOfHighest x xs
 
--- the scorers from before on, up to len, stand on doc, which is a document
+-- the scorers from place `before` on, up to len, stand on doc, which is a document
 pub record Found (l : List TermScorer) (before len doc : ℕ) : Type 0 where
   pub first : before < len
   pub inside : len ≤ length l
