@@ -24,12 +24,12 @@ use Rattle.rule.specs.declared.Rule.{Rule}
 use Rattle.reports.specs.Inner.Runs.{Rests}
 use Rattle.decoded.specs.Lists.{listOf}
 use Rattle.slot_rows.specs.Inner.Rows.{partIn}
-use Rattle.term_scorer.specs.Inner.Slots.{Held, cursorAt}
+use Rattle.term_scorer.specs.Inner.Slots.{Held, cursorAt, listsFrom, slotsFrom}
 use Rattle.intersection_window.specs.Inner.Scorers.{InOrder, Query, Ready, WeightsIn, leaderIn, listIn, query, scorerAt, scorersBetween, secondariesIn}
-use Rattle.intersection_window.specs.Inner.Sizes.{BySize, sizeIn, slotsFrom}
+use Rattle.intersection_window.specs.Inner.Sizes.{BySize, sizeIn}
 use Rattle.intersection_window.proofs.Parts.{part-first}
-use Rattle.block_wand_intersection.specs.Inner.Steps.{Runs, TopsIn}
-use Rattle.block_wand_intersection.specs.Inner.Queries.{Answers, Fresh, listsOf}
+use Rattle.block_wand_intersection.specs.Inner.Steps.{Runs, MaxScoresIn}
+use Rattle.block_wand_intersection.specs.Inner.Queries.{Answers, FreshLists}
 use Rattle.block_wand_intersection.specs.declared.run.Ended.{Ended}
 
 -- no slot twice
@@ -71,7 +71,7 @@ slots-length a zero = refl
 slots-length a (suc m) = ap suc (slots-length (suc a) m)
 
 module _ {scoring : Scoring} {file : List ℕ} {lists : List (List ℕ)} {n : ℕ} {norms : FieldNormReader} {weights : List Float} {caches : List (List Float)} {maxScores : List Float} {h : Held} {bounds : List Float}
-    (F : Fresh scoring file lists n norms weights caches maxScores h bounds) where
+    (F : FreshLists scoring file lists n norms weights caches maxScores h bounds) where
   -- every list has few postings
   pub sizes-small : (q : ℕ) → q < n → sizeIn lists q < 4294967296
   unfolding partIn
@@ -104,8 +104,8 @@ module _ {scoring : Scoring} {file : List ℕ} {lists : List (List ℕ)} {n : �
     pub ready : Ready x h bounds
     ready = record { seated = record { sixteen = F .sixteen; slot = F .slot }; kept = F .kept; long = F .long }
 
-    pub tops : TopsIn x maxScores
-    tops = F .top
+    pub max-scores-in : MaxScoresIn x maxScores
+    max-scores-in = F .max-score
 
     -- ---- the scorers
 
@@ -120,7 +120,7 @@ module _ {scoring : Scoring} {file : List ℕ} {lists : List (List ℕ)} {n : �
     same-sizes [] = tt
     same-sizes (q ∷ l) = (refl, same-sizes l)
 
-    sorted-is : map (scorerAt x (h .places)) (take n order) ≡ sortBy sizeHint (scorersFrom 0 (listsOf scoring file lists n))
+    sorted-is : map (scorerAt x (h .places)) (take n order) ≡ sortBy sizeHint (scorersFrom 0 (listsFrom scoring file lists 0 n))
     sorted-is =
         ap (map (scorerAt x (h .places))) (S .sorted) ∙ sort-map (sizeIn lists) sizeHint (scorerAt x (h .places)) (slotsFrom 0 n) (same-sizes (slotsFrom 0 n))
         ∙ ap (sortBy sizeHint) (fresh-scorers 0 n (omega arith))
@@ -131,7 +131,7 @@ module _ {scoring : Scoring} {file : List ℕ} {lists : List (List ℕ)} {n : �
     secs-are : secondariesIn x (h .places) ≡ second ∷ scorersBetween x (h .places) 2 n
     secs-are = part-first order (scorerAt x (h .places)) 1 n (F .two) (let a = F .few in let b = S .long in omega arith)
 
-    split : sortBy sizeHint (scorersFrom 0 (listsOf scoring file lists n)) ≡ leaderIn x (h .places) ∷ second ∷ scorersBetween x (h .places) 2 n
+    split : sortBy sizeHint (scorersFrom 0 (listsFrom scoring file lists 0 n)) ≡ leaderIn x (h .places) ∷ second ∷ scorersBetween x (h .places) 2 n
     split =
         sym sorted-is ∙ part-first order (scorerAt x (h .places)) 0 n (let t = F .two in omega arith) (let a = F .few in let b = S .long in omega arith)
         ∙ ap (λ (z : List (Scorer Float)). leaderIn x (h .places) ∷ z) secs-are

@@ -18,18 +18,19 @@ use Rattle.rule.specs.declared.Rule.{Rule}
 use Rattle.rule.specs.declared.Threshold.{Threshold}
 use Rattle.notefile.specs.Header.{documents as documentsOf}
 use Rattle.reports.specs.Inner.Runs.{Going, Rests}
+use Rattle.reports.specs.Inner.Rows.{Begun}
 use Rattle.reports.proofs.RunLaws.{rests-ended, run-begun, run-quiet}
 use Rattle.postings.specs.Inner.Decoded.{doc-is, docIn}
 use Rattle.term_scorer.specs.Inner.Slots.{Held, cursorAt, partAt}
 use Rattle.intersection_window.specs.Inner.Scorers.{InOrder, Query, Ready, leaderIn, listIn, placeAt, secondariesIn, slotAt}
 use Rattle.intersection_window.proofs.Parts.{part-same}
 use Rattle.intersection_window.proofs.Seats.{list-right}
-use Rattle.block_wand_intersection.specs.Inner.Walks.{Begun, WalkedBy, maxAlong, maxSum}
-use Rattle.block_wand_intersection.specs.Inner.Steps.{Ends, Runs, Steps, TopsIn}
+use Rattle.block_wand_intersection.specs.Inner.Walks.{WalkedBy, maxAlong, maxSum}
+use Rattle.block_wand_intersection.specs.Inner.Steps.{Ends, Runs, Steps, MaxScoresIn}
 use Rattle.block_wand_intersection.specs.declared.walk.Stop.{Stop}
 use Rattle.block_wand_intersection.specs.declared.walk.Stop.the-variants.{Full, Next, Over}
 use Rattle.block_wand_intersection.specs.declared.run.Ended.{Ended}
-use Rattle.block_wand_intersection.specs.declared.run.Stepped.{Stepped}
+use Rattle.block_wand_intersection.specs.declared.run.AfterWindow.{AfterWindow}
 use Rattle.block_wand_intersection.proofs.Walking.{in-slots, max-is}
 
 -- ---- the loop
@@ -61,7 +62,7 @@ module _ (x : Query) (rule : Rule) (script : List Float) (t₀ : Threshold) (d�
           (run-quiet W rule script documents₀ scores₀ (N .goes ld ss documents₀ scores₀ G) {q = placeAt x (h .places) over d} (rw l)) (cursorAt (h .places)) refl (in-slots x (h .places));
     }
 
-    module _ {r : Stepped} {h′ : Held} {bounds′ : List Float} {documents′ : List ℕ} {scores′ : List Float} (S : Steps x rule script t d h documents scores r h′ bounds′ documents′ scores′) where
+    module _ {r : AfterWindow} {h′ : Held} {bounds′ : List Float} {documents′ : List ℕ} {scores′ : List Float} (S : Steps x rule script t d h documents scores r h′ bounds′ documents′ scores′) where
       abbrev By : Scorer Float → List (Scorer Float) → List ℕ → List Float → Stop → Type 0
       By ld ss documents₀ scores₀ stop = WalkedBy x (r .doc) ld ss rule script documents₀ scores₀ stop (r .threshold) h′ documents′ scores′
 
@@ -84,7 +85,7 @@ module _ (x : Query) (rule : Rule) (script : List Float) (t₀ : Threshold) (d�
 -- ---- from the early exit
 
 -- the list bounds, from the array
-pub max-along : (x : Query) → InOrder x → (maxScores : List Float) → TopsIn x maxScores → maxAlong (x .len) (x .order) maxScores ≡ maxSum x
+pub max-along : (x : Query) → InOrder x → (maxScores : List Float) → MaxScoresIn x maxScores → maxAlong (x .len) (x .order) maxScores ≡ maxSum x
 max-along x O maxScores T =
     let long = O .long in
     let few = O .few in

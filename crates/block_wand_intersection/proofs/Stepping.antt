@@ -1,5 +1,4 @@
 -- One window of a run: one turn of the route, and those of its candidates; and the list bounds summed.
-use mathlib.Core.Bool.{true}
 use mathlib.Core.List.{List, map}
 use mathlib.Core.Path.{ap, refl, subst, sym, _∙_, _≡_}
 use Prim.Native.Nat.{ℕ, _+_, _<_, _≤_}
@@ -10,9 +9,10 @@ use lib.Ieee.{Float, nan}
 use Rattle.route.specs.F32.{f32}
 use Rattle.route.specs.Score.{sum, sumFrom}
 use Rattle.route.specs.Route.{quiet}
-use Rattle.route.specs.Intersection.{candidatesIn, leaderRoute, over, window, windowTurn, within}
+use Rattle.route.specs.Intersection.{candidatesIn, leaderRoute, over, windowTurn, within}
 use Rattle.rule.specs.declared.Rule.{Rule}
 use Rattle.rule.specs.declared.Threshold.{Threshold}
+use Rattle.reports.specs.Inner.Rows.{Begun}
 use Rattle.reports.proofs.RunLaws.{rests-ended, run-quiet}
 use Rattle.term_scorer.specs.Inner.Slots.{Held, Sixteen, cursorAt}
 use Rattle.intersection_window.specs.Inner.Scorers.{Query, leaderIn, listIn, placeAt, secondariesIn, slotAt}
@@ -21,7 +21,7 @@ use Rattle.intersection_window.specs.Inner.Candidates.{Suffixes, leaderBlock}
 use Rattle.intersection_window.specs.declared.window.Window.{Window}
 use Rattle.intersection_window.specs.declared.window.Window.the-variants.{Low, Open, Over}
 use Rattle.intersection_window.proofs.Parts.{part-first, part-none}
-use Rattle.block_wand_intersection.specs.Inner.Walks.{Begun, Walks, maxAlong}
+use Rattle.block_wand_intersection.specs.Inner.Walks.{Walks, maxAlong}
 use Rattle.block_wand_intersection.specs.Inner.Steps.{Steps}
 use Rattle.block_wand_intersection.specs.declared.walk.Stop.the-variants.{Next, Over as Stopped}
 use Rattle.block_wand_intersection.specs.declared.walk.Walked.{Walked}

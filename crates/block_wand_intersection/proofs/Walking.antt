@@ -22,7 +22,7 @@ use Rattle.route.proofs.Lists.{all-each}
 use Rattle.rule.specs.declared.Rule.{Rule}
 use Rattle.rule.specs.declared.Threshold.{Threshold}
 use Rattle.reports.specs.Rows.{rowsOf}
-use Rattle.reports.specs.Inner.Rows.{Reported}
+use Rattle.reports.specs.Inner.Rows.{Reported, Begun}
 use Rattle.reports.specs.Inner.Runs.{AtRest, Going}
 use Rattle.reports.proofs.RowLaws.{documents-long as same-documents, scores-long as same-scores}
 use Rattle.reports.proofs.RunLaws.{rests-ended, rests-full, run-quiet, run-quietly, run-reports}
@@ -30,14 +30,14 @@ use Rattle.postings.proofs.Blocks.{decoded-sorted}
 use Rattle.postings.proofs.Moves.{find-is}
 use Rattle.slot_rows.specs.Inner.Rows.{cursorIn}
 use Rattle.term_scorer.specs.Inner.Slots.{Held, cursorAt}
-use Rattle.intersection_window.specs.Inner.Scorers.{InOrder, Query, Seated, StillKept, Unmoved, leaderIn, listIn, placeAt, scorerAt, secondariesIn, slotAt}
+use Rattle.intersection_window.specs.Inner.Scorers.{InOrder, Query, SlotsIn, StillKept, Unmoved, leaderIn, listIn, placeAt, scorerAt, secondariesIn, slotAt}
 use Rattle.intersection_window.specs.Inner.Candidates.{HitBy, HitIn, Hits, Suffixes, candidatesLeft, interTurn, leaderBlock, withinAt}
 use Rattle.intersection_window.specs.declared.hit.Hit.{Hit}
 use Rattle.intersection_window.specs.declared.hit.Hit.the-variants.{At, Nowhere}
 use Rattle.intersection_window.proofs.Seats.{unmoved, unmoved-trans}
 use Rattle.intersection_window.proofs.Gathering.{map-map}
 use Rattle.intersection_window.proofs.Hitting.{decoded}
-use Rattle.block_wand_intersection.specs.Inner.Walks.{Begun, Walks, maxSum}
+use Rattle.block_wand_intersection.specs.Inner.Walks.{Walks, maxSum}
 use Rattle.block_wand_intersection.specs.declared.walk.Stop.the-variants.{Full, Next, Over}
 
 -- the list bounds do not move
@@ -70,7 +70,7 @@ module _ (x : Query) (rule : Rule) (script : List Float) (t₀ : Threshold) (d e
   opening bs = placeAt x (h₀ .places) (within (candidatesIn 128 f32 (listIn x q) ts b₀ d e) e bs) d
 
   pub record Walking (i : ℕ) (t : Threshold) (h : Held) (documents : List ℕ) (scores : List Float) : Type 0 where
-    pub seated : Seated x h
+    pub seated : SlotsIn x h
     pub leader : Unmoved q h₀ h
     pub bounds : StillKept x (h₀ .places) (h .places)
     pub high : i ≤ 128
@@ -80,7 +80,7 @@ module _ (x : Query) (rule : Rule) (script : List Float) (t₀ : Threshold) (d e
     pub goes : (bs : List Float) → Suffixes (x .len) bs suffix → (ld : Scorer Float) (ss : List (Scorer Float)) (documents₀ : List ℕ) (scores₀ : List Float)
         → Goes ld ss documents₀ scores₀ t₀ documents₁ scores₁ (opening bs) → Goes ld ss documents₀ scores₀ t documents scores (withinAt x (h .places) b₀ ts e bs d i)
 
-  module _ (O : InOrder x) (S : Seated x h₀) {from : ℕ} (ef : from ≡ countBelow 128 (getD (h₀ .docs) q []) d) where
+  module _ (O : InOrder x) (S : SlotsIn x h₀) {from : ℕ} (ef : from ≡ countBelow 128 (getD (h₀ .docs) q []) d) where
     first-candidates : candidatesIn 128 f32 (listIn x q) ts b₀ d e ≡ candidatesLeft x b₀ ts e from
     first-candidates =
         ap (λ (p : ℕ). candidatesFrom f32 (listIn x q) ts (min (findIn (listIn x q) (suc e) 128 (start 128 b₀)) (listIn x q .len) - p) p)

@@ -1,4 +1,5 @@
-// The intersection's skipping run: windows in which all block bounds hold, and in each the leader's candidates against the secondaries.
+// The intersection's skipping run: windows in which all block bounds hold, and in each the leader's candidates
+// against the secondaries.
 mod run;
 mod walk;
 
@@ -11,7 +12,7 @@ use run::run_in_order;
 ghost use Rattle.arrays.specs.Lent.{before, after};
 ghost use Rattle.rule.specs.Inner.Follows.{Keeps};
 ghost use Rattle.term_scorer.specs.Inner.Slots.{held};
-ghost use Rattle.block_wand_intersection.specs.Inner.Queries.{Answers, Fresh};
+ghost use Rattle.block_wand_intersection.specs.Inner.Queries.{Answers, FreshLists};
 
 // `block_wand_intersection`, over n lists that are fresh in their slots: the rarest leads.
 pub fn block_wand_intersection(
@@ -32,8 +33,12 @@ pub fn block_wand_intersection(
     documents: &mut [u32],
     scores: &mut [f32],
 ) -> Ended
-    requires { ⌜ Fresh scoring (now file) (now lists) n norms (now weights) (now caches) (now «max_scores») (held (now places) (now docs) (now freqs)) (now bounds) × Keeps rule ⌝ }
-    ensures { λ r. ⌜ Answers scoring (before file) (before lists) n rule (before script) (before documents) (before scores) r (after places) (after documents) (after scores) ⌝ }
+    requires { let slots = held (now places) (now docs) (now freqs) in
+        ⌜ FreshLists scoring (now file) (now lists) n norms (now weights) (now caches) (now «max_scores») slots (now bounds)
+        × Keeps rule ⌝ }
+    ensures { λ r.
+        ⌜ Answers scoring (before file) (before lists) n rule (before script) (before documents) (before scores)
+        r (after places) (after documents) (after scores) ⌝ }
 {
     let order = by_size(n, lists);
     run_in_order(

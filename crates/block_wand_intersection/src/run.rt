@@ -15,13 +15,14 @@ ghost use Prim.Native.Nat.{ℕ, _≤_, _<_};
 ghost use lib.ListN.{getD};
 ghost use Rattle.arrays.specs.Lent.{before, after};
 ghost use Rattle.rule.specs.Inner.Follows.{Keeps};
+ghost use Rattle.reports.specs.Inner.Rows.{Begun};
 ghost use Rattle.term_scorer.specs.Inner.Slots.{held, Sixteen};
 ghost use Rattle.intersection_window.specs.Inner.Scorers.{query, InOrder, Ready, WeightsIn};
-ghost use Rattle.block_wand_intersection.specs.Inner.Walks.{maxAlong, maxSum, Begun};
-ghost use Rattle.block_wand_intersection.specs.Inner.Steps.{Ends, Runs, Steps, TopsIn};
+ghost use Rattle.block_wand_intersection.specs.Inner.Walks.{maxAlong, maxSum};
+ghost use Rattle.block_wand_intersection.specs.Inner.Steps.{Ends, Runs, Steps, MaxScoresIn};
 
 // The threshold behind a window, how it was left, and where the next begins.
-pub struct Stepped {
+pub struct AfterWindow {
     pub threshold: Threshold,
     pub stop: Stop,
     pub doc: u32,
@@ -70,9 +71,17 @@ fn step(
     bounds: &mut [f32; 16],
     documents: &mut [u32],
     scores: &mut [f32],
-) -> Stepped
-    requires { ⌜ InOrder (query scoring (now file) (now lists) n (now order)) × WeightsIn (query scoring (now file) (now lists) n (now order)) norms (now weights) (now caches) × Ready (query scoring (now file) (now lists) n (now order)) (held (now places) (now docs) (now freqs)) (now bounds) × Keeps rule × Begun rule (now script) t (now documents) (now scores) × («max_sum» ≡ maxSum (query scoring (now file) (now lists) n (now order))) × (doc < 2147483647) ⌝ }
-    ensures { λ r. ⌜ Steps (query scoring (before file) (before lists) n (before order)) rule (before script) t doc (held (before places) (before docs) (before freqs)) (before documents) (before scores) r (held (after places) (after docs) (after freqs)) (after bounds) (after documents) (after scores) ⌝ }
+) -> AfterWindow
+    requires { let asked = query scoring (now file) (now lists) n (now order) in
+        let slots = held (now places) (now docs) (now freqs) in
+        ⌜ InOrder asked × WeightsIn asked norms (now weights) (now caches) × Ready asked slots (now bounds) × Keeps rule
+        × Begun rule (now script) t (now documents) (now scores) × («max_sum» ≡ maxSum asked) × (doc < 2147483647) ⌝ }
+    ensures { λ r.
+        let asked = query scoring (before file) (before lists) n (before order) in
+        let old = held (before places) (before docs) (before freqs) in
+        let new = held (after places) (after docs) (after freqs) in
+        ⌜ Steps asked rule (before script) t doc old (before documents) (before scores)
+        r new (after bounds) (after documents) (after scores) ⌝ }
 {
     let window = next_window(
         file,
@@ -91,12 +100,12 @@ fn step(
         bounds,
     );
     match window {
-        Window::Over => Stepped {
+        Window::Over => AfterWindow {
             threshold: t,
             stop: Stop::Over,
             doc,
         },
-        Window::Low(window_end) => Stepped {
+        Window::Low(window_end) => AfterWindow {
             threshold: t,
             stop: Stop::Next,
             doc: window_end + 1,
@@ -129,7 +138,7 @@ fn step(
             );
             let threshold = walked.threshold;
             let stop = walked.stop;
-            Stepped {
+            AfterWindow {
                 threshold,
                 stop,
                 doc: window_end + 1,
@@ -160,8 +169,15 @@ fn windows(
     documents: &mut [u32],
     scores: &mut [f32],
 ) -> Ended
-    requires { ⌜ InOrder (query scoring (now file) (now lists) n (now order)) × WeightsIn (query scoring (now file) (now lists) n (now order)) norms (now weights) (now caches) × Ready (query scoring (now file) (now lists) n (now order)) (held (now places) (now docs) (now freqs)) (now bounds) × Keeps rule × Begun rule (now script) t (now documents) (now scores) × («max_sum» ≡ maxSum (query scoring (now file) (now lists) n (now order))) × («first_doc» ≤ 2147483648) ⌝ }
-    ensures { λ r. ⌜ Ends (query scoring (before file) (before lists) n (before order)) rule (before script) t «first_doc» (held (before places) (before docs) (before freqs)) (before documents) (before scores) r (after places) (after documents) (after scores) ⌝ }
+    requires { let asked = query scoring (now file) (now lists) n (now order) in
+        let slots = held (now places) (now docs) (now freqs) in
+        ⌜ InOrder asked × WeightsIn asked norms (now weights) (now caches) × Ready asked slots (now bounds) × Keeps rule
+        × Begun rule (now script) t (now documents) (now scores) × («max_sum» ≡ maxSum asked) × («first_doc» ≤ 2147483648) ⌝ }
+    ensures { λ r.
+        let asked = query scoring (before file) (before lists) n (before order) in
+        let old = held (before places) (before docs) (before freqs) in
+        ⌜ Ends asked rule (before script) t «first_doc» old (before documents) (before scores)
+        r (after places) (after documents) (after scores) ⌝ }
 {
     let mut threshold = t;
     let mut doc = first_doc;
@@ -228,8 +244,14 @@ pub fn run_in_order(
     documents: &mut [u32],
     scores: &mut [f32],
 ) -> Ended
-    requires { ⌜ InOrder (query scoring (now file) (now lists) n (now order)) × WeightsIn (query scoring (now file) (now lists) n (now order)) norms (now weights) (now caches) × Ready (query scoring (now file) (now lists) n (now order)) (held (now places) (now docs) (now freqs)) (now bounds) × Keeps rule × TopsIn (query scoring (now file) (now lists) n (now order)) (now «max_scores») ⌝ }
-    ensures { λ r. ⌜ Runs (query scoring (before file) (before lists) n (before order)) rule (before script) (before places) (before documents) (before scores) r (after places) (after documents) (after scores) ⌝ }
+    requires { let asked = query scoring (now file) (now lists) n (now order) in
+        let slots = held (now places) (now docs) (now freqs) in
+        ⌜ InOrder asked × WeightsIn asked norms (now weights) (now caches) × Ready asked slots (now bounds) × Keeps rule
+        × MaxScoresIn asked (now «max_scores») ⌝ }
+    ensures { λ r.
+        let asked = query scoring (before file) (before lists) n (before order) in
+        ⌜ Runs asked rule (before script) (before places) (before documents) (before scores)
+        r (after places) (after documents) (after scores) ⌝ }
 {
     let max_sum = max_score_sum(n, order, max_scores);
     let threshold = Threshold::new(rule);

@@ -11,9 +11,10 @@ use rule::Threshold;
 ghost use mathlib.Core.Path.{_≡_};
 ghost use Rattle.arrays.specs.Lent.{before, after};
 ghost use Rattle.rule.specs.Inner.Follows.{Keeps};
+ghost use Rattle.reports.specs.Inner.Rows.{Begun};
 ghost use Rattle.term_scorer.specs.Inner.Slots.{held};
-ghost use Rattle.intersection_window.specs.Inner.Scorers.{query, InOrder, Seated, WeightsIn};
-ghost use Rattle.block_wand_intersection.specs.Inner.Walks.{maxSum, Begun, Walks};
+ghost use Rattle.intersection_window.specs.Inner.Scorers.{query, InOrder, SlotsIn, WeightsIn};
+ghost use Rattle.block_wand_intersection.specs.Inner.Walks.{maxSum, Walks};
 
 // The next window; over, since no document can exceed the threshold; or a report is due and every row is full.
 pub enum Stop {
@@ -22,6 +23,7 @@ pub enum Stop {
     Full,
 }
 
+// The threshold behind the window's reports, and how the window was left.
 pub struct Walked {
     pub threshold: Threshold,
     pub stop: Stop,
@@ -51,8 +53,16 @@ pub fn walk(
     documents: &mut [u32],
     scores: &mut [f32],
 ) -> Walked
-    requires { ⌜ InOrder (query scoring (now file) (now lists) n (now order)) × WeightsIn (query scoring (now file) (now lists) n (now order)) norms (now weights) (now caches) × Seated (query scoring (now file) (now lists) n (now order)) (held (now places) (now docs) (now freqs)) × Keeps rule × Begun rule (now script) t (now documents) (now scores) × («max_sum» ≡ maxSum (query scoring (now file) (now lists) n (now order))) ⌝ }
-    ensures { λ r. ⌜ Walks (query scoring (before file) (before lists) n (before order)) rule (before script) t doc «window_end» «block_max_sum» (before suffix) (held (before places) (before docs) (before freqs)) (before documents) (before scores) r (held (after places) (after docs) (after freqs)) (after documents) (after scores) ⌝ }
+    requires { let asked = query scoring (now file) (now lists) n (now order) in
+        let slots = held (now places) (now docs) (now freqs) in
+        ⌜ InOrder asked × WeightsIn asked norms (now weights) (now caches) × SlotsIn asked slots × Keeps rule
+        × Begun rule (now script) t (now documents) (now scores) × («max_sum» ≡ maxSum asked) ⌝ }
+    ensures { λ r.
+        let asked = query scoring (before file) (before lists) n (before order) in
+        let old = held (before places) (before docs) (before freqs) in
+        let new = held (after places) (after docs) (after freqs) in
+        ⌜ Walks asked rule (before script) t doc «window_end» «block_max_sum» (before suffix) old (before documents) (before scores)
+        r new (after documents) (after scores) ⌝ }
 {
     let leader = order[0];
     let room = rows(documents, scores);

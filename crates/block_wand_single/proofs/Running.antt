@@ -19,13 +19,14 @@ use Rattle.rule.specs.declared.Threshold.{Threshold}
 use Rattle.notefile.specs.declared.part.Part.{Part}
 use Rattle.reports.specs.Rows.{rowsOf}
 use Rattle.reports.specs.Inner.Runs.{runAfter, Going, Ran}
+use Rattle.reports.specs.Inner.Rows.{Begun}
 use Rattle.reports.proofs.RowLaws.{documents-long, scores-long, count-is}
 use Rattle.reports.proofs.RunLaws.{run-begun, run-kept, run-ends, run-full}
 use Rattle.decoded.specs.Lists.{listOf}
 use Rattle.postings.specs.Inner.Decoded.{ListIn}
 use Rattle.postings.specs.Inner.Places.{Placed, Moved, Here, cursorOf}
+use Rattle.postings.specs.Inner.Reader.{Stands}
 use Rattle.postings.specs.declared.cursor.SegmentPostings.{SegmentPostings}
-use Rattle.block_wand_single.specs.Inner.Walks.{Begun}
 use Rattle.block_wand_single.specs.Inner.Scans.{singleRoute, placeOf}
 use Rattle.block_wand_single.specs.Inner.Blocks.{phaseAfter, ScansBlock}
 use Rattle.block_wand_single.specs.Inner.Stops.{endPhase, runOf}
@@ -76,6 +77,10 @@ module _ {file : List ℕ} {x : Part} (L : ListIn file x) (scoring : Scoring) (r
 
       pub running-on : r .full ≡ false → r .scan .over ≡ false → Running file x scoring rule script documents₀ scores₀ (r .scan .postings) (r .scan .doc) (r .threshold) docs′ freqs′ documents′ scores′
       running-on f e = record { placed = B .placed; going = λ ord. comes ord f e }
+
+      -- the skip reader stands on its block
+      pub stands : (s : SingleRun) → s ≡ runOf r → Stands file x (s .postings .«skip_reader»)
+      stands s h = subst (λ (z : SingleRun). Stands file x (z .postings .«skip_reader»)) (sym h) (B .placed .stands)
 
       -- the run as it stopped
       RanAs : SingleRun → ℕ → Type 0

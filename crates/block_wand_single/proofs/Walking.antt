@@ -14,10 +14,10 @@ use Rattle.route.proofs.Cases.{lt-of-ne}
 use Rattle.rule.specs.declared.Rule.{Rule}
 use Rattle.rule.specs.declared.Threshold.{Threshold}
 use Rattle.reports.specs.Rows.{rowsOf}
-use Rattle.reports.specs.Inner.Rows.{Kept, Reported}
+use Rattle.reports.specs.Inner.Rows.{Kept, Reported, Begun}
 use Rattle.reports.specs.Inner.Runs.{callbackOf}
 use Rattle.reports.proofs.RowLaws.{threshold-is, one-more, documents-long as same-documents, scores-long as same-scores}
-use Rattle.block_wand_single.specs.Inner.Walks.{FirstAbove, Begun, offered, Walks}
+use Rattle.block_wand_single.specs.Inner.Walks.{FirstAbove, offered, Walks}
 
 -- ---- the first score above
 

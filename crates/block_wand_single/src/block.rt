@@ -19,11 +19,11 @@ ghost use Rattle.route.specs.Single.{hunt};
 ghost use Rattle.route.specs.Inner.Singles.{SingleKept};
 ghost use Rattle.rule.specs.Inner.Follows.{Keeps};
 ghost use Rattle.notefile.specs.Lists.{fullBlocks};
+ghost use Rattle.reports.specs.Inner.Rows.{Begun};
 ghost use Rattle.decoded.specs.Lists.{listOf};
 ghost use Rattle.postings.specs.Inner.Decoded.{ListIn};
 ghost use Rattle.postings.specs.Inner.Reader.{Stands};
 ghost use Rattle.postings.specs.Inner.Places.{Placed, cursorOf};
-ghost use Rattle.block_wand_single.specs.Inner.Walks.{Begun};
 ghost use Rattle.block_wand_single.specs.Inner.Scans.{TermIn};
 ghost use Rattle.block_wand_single.specs.Inner.Blocks.{Left, AfterWalk, ScansBlock};
 
@@ -79,7 +79,8 @@ fn after_walk(
     walked: Walked,
     docs: &[u32; 128],
 ) -> Scanned
-    requires { ⌜ ListIn (now file) x × Stands (now file) x (p .«skip_reader») × (p .«skip_reader» .block ≤ suc (fullBlocks x)) × (walked .full ≡ true → walked .place < 128) ⌝ }
+    requires { ⌜ ListIn (now file) x × Stands (now file) x (p .«skip_reader») × (p .«skip_reader» .block ≤ suc (fullBlocks x))
+        × (walked .full ≡ true → walked .place < 128) ⌝ }
     ensures { λ r. ⌜ AfterWalk (before file) x p n (before docs) walked r ⌝ }
 {
     let threshold = walked.threshold;
@@ -105,6 +106,7 @@ fn after_walk(
     }
 }
 
+// One block of the scan, from hunt to hunt: the next that may hold a report is walked, and left.
 pub fn scan_block(
     file: &[u8],
     norms: FieldNormReader,
@@ -122,8 +124,11 @@ pub fn scan_block(
     documents: &mut [u32],
     scores: &mut [f32],
 ) -> Scanned
-    requires { ⌜ TermIn (now file) norms x w × Keeps rule × Begun rule (now script) t (now documents) (now scores) × Placed (now file) x p (now docs) (now freqs) × SingleKept 128 (listOf scoring (now file) x) hunt (cursorOf p) d ⌝ }
-    ensures { λ r. ⌜ ScansBlock (before file) x scoring rule (before script) t p d (before documents) (before scores) r (after docs) (after freqs) (after documents) (after scores) ⌝ }
+    requires { ⌜ TermIn (now file) norms x w × Keeps rule × Begun rule (now script) t (now documents) (now scores)
+        × Placed (now file) x p (now docs) (now freqs) × SingleKept 128 (listOf scoring (now file) x) hunt (cursorOf p) d ⌝ }
+    ensures { λ r.
+        ⌜ ScansBlock (before file) x scoring rule (before script) t p d (before documents) (before scores)
+        r (after docs) (after freqs) (after documents) (after scores) ⌝ }
 {
     let now = t.now;
     let scan = approach(file, norms, x, w, scoring, now, p, d, docs, freqs, values);

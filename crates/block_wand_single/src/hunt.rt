@@ -33,7 +33,8 @@ fn hunt(
     docs: &[u32; 128],
     freqs: &[u32; 128],
 ) -> Scan
-    requires { ⌜ TermIn (now file) norms x w × Placed (now file) x from (now docs) (now freqs) × SingleKept 128 (listOf scoring (now file) x) hunt (cursorOf from) «from_doc» ⌝ }
+    requires { ⌜ TermIn (now file) norms x w × Placed (now file) x from (now docs) (now freqs)
+        × SingleKept 128 (listOf scoring (now file) x) hunt (cursorOf from) «from_doc» ⌝ }
     ensures { λ r. ⌜ Hunted (before file) x scoring threshold from «from_doc» (before docs) (before freqs) r ⌝ }
 {
     let mut postings = from;
@@ -101,7 +102,8 @@ pub fn approach(
     freqs: &mut [u32; 128],
     values: &mut [f32; 128],
 ) -> Scan
-    requires { ⌜ TermIn (now file) norms x w × Placed (now file) x p (now docs) (now freqs) × SingleKept 128 (listOf scoring (now file) x) hunt (cursorOf p) d ⌝ }
+    requires { ⌜ TermIn (now file) norms x w × Placed (now file) x p (now docs) (now freqs)
+        × SingleKept 128 (listOf scoring (now file) x) hunt (cursorOf p) d ⌝ }
     ensures { λ r. ⌜ Approached (before file) x scoring t p d r (after docs) (after freqs) (after values) ⌝ }
 {
     let found = hunt(file, norms, x, w, scoring, t, p, d, docs, freqs);

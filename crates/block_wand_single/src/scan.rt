@@ -13,6 +13,7 @@ ghost use Prim.Native.Nat.{ℕ};
 ghost use Rattle.arrays.specs.Lent.{before, after};
 ghost use Rattle.rule.specs.Inner.Follows.{Keeps};
 ghost use Rattle.reports.specs.Inner.Runs.{Ran};
+ghost use Rattle.postings.specs.Inner.Reader.{Stands};
 ghost use Rattle.block_wand_single.specs.Inner.Scans.{TermIn, singleRoute, placeOf};
 ghost use Rattle.block_wand_single.specs.Inner.Stops.{endPhase, runOf};
 
@@ -39,6 +40,7 @@ fn stopped(last: Scanned) -> SingleRun
     }
 }
 
+// A whole run over one list, by the route of the Rust's function of this name.
 pub fn block_wand_single_scorer(
     file: &[u8],
     norms: FieldNormReader,
@@ -51,7 +53,12 @@ pub fn block_wand_single_scorer(
     scores: &mut [f32],
 ) -> SingleRun
     requires { ⌜ TermIn (now file) norms x w × Keeps rule ⌝ }
-    ensures { λ r. ⌜ ((ord : ℕ) → Ran (singleRoute scoring (before file) x ord) rule (before script) (before documents) (before scores) (r .full) (r .count) (after documents) (after scores) (placeOf (endPhase (r .full)) (r .postings) (r .doc))) ⌝ }
+    ensures { λ r.
+        let stopped = placeOf (endPhase (r .full)) (r .postings) (r .doc) in
+        ⌜ ((ord : ℕ)
+        → Ran (singleRoute scoring (before file) x ord) rule (before script) (before documents) (before scores)
+        (r .full) (r .count) (after documents) (after scores) stopped)
+        × Stands (before file) x (r .postings .«skip_reader») ⌝ }
 {
     let mut docs = [0u32; 128];
     let mut freqs = [0u32; 128];

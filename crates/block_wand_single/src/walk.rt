@@ -6,7 +6,8 @@ use rule::Threshold;
 ghost use Prim.Native.Nat.{_≤_};
 ghost use Rattle.arrays.specs.Lent.{before, after};
 ghost use Rattle.rule.specs.Inner.Follows.{Keeps};
-ghost use Rattle.block_wand_single.specs.Inner.Walks.{Begun, FirstAbove, Walks};
+ghost use Rattle.reports.specs.Inner.Rows.{Begun};
+ghost use Rattle.block_wand_single.specs.Inner.Walks.{FirstAbove, Walks};
 
 // The threshold after the walk, the place that it came to, and whether a report was due there with no row left.
 pub struct Walked {
@@ -30,6 +31,7 @@ fn first_above(values: &[f32; 128], from: usize, n: usize, threshold: f32) -> us
     n
 }
 
+// Reports each posting above the threshold of the moment, up to place n or to a report that has no row.
 pub fn walk(
     rule: Rule,
     script: &[f32],
@@ -42,7 +44,9 @@ pub fn walk(
     scores: &mut [f32],
 ) -> Walked
     requires { ⌜ Keeps rule × (from ≤ n) × (n ≤ 128) × Begun rule (now script) t (now documents) (now scores) ⌝ }
-    ensures { λ r. ⌜ Walks rule (before script) t from n (before docs) (before values) (before documents) (before scores) r (after documents) (after scores) ⌝ }
+    ensures { λ r.
+        ⌜ Walks rule (before script) t from n (before docs) (before values) (before documents) (before scores)
+        r (after documents) (after scores) ⌝ }
 {
     let room = rows(documents, scores);
     let mut threshold = t;

@@ -139,11 +139,11 @@ module _ (file : List ℕ) (lists : List (List ℕ)) (maxScores : List Float) (s
         let q : take n r ≡ out = e ∙ ap (λ z. moved z at) (take-set-lt n ss at x′ (omega (arith, inside))) in
         rw q (record {
           carried = carries;
-          scorers-are = λ scoring tops.
+          scorers-are = λ scoring max-scores.
               let f₀ = scorerAt file lists scoring (h .places) in
               let f₁ = scorerAt file lists scoring (h′ .places) in
               let first = rw cut at (all-take (Stand file lists h) len l a) in
-              too-low-on-route 128 maxScores f₀ f₁ l len at d x′ pos (omega (arith, length-take n ss)) (fair file lists maxScores scoring h l a tops) apart
+              too-low-on-route 128 maxScores f₀ f₁ l len at d x′ pos (omega (arith, length-take n ss)) (fair file lists maxScores scoring h l a max-scores) apart
               (rw cut at-is)
               (d-is ∙ ap (λ (z : ℕ). leastDocOf z (drop len l)) (after-is ∙ ap behind (last-is ∙ least-is file lists h scoring (take len ss) first ∙ ap (leastLast 128 f₀) (sym cut))))
               (rw there (same-off file lists M scoring)) (rw there (scorer-is file lists x M scoring))

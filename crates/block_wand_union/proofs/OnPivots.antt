@@ -2,25 +2,23 @@
 use mathlib.Core.Bool.{Bool, false, true}
 use mathlib.Core.List.{List, map, [], _++_, _∷_}
 use mathlib.Core.Path.{ap, refl, subst, sym, _∙_, _≡_}
-use Prim.Native.Nat.{suc, ℕ, _-_, _<_, _≤_}
+use Prim.Native.Nat.{ℕ, _-_, _<_, _≤_}
 use native.Mathlib.Omega.{arith}
-use lib.Dec.{leb}
 use lib.ListN.{drop, getD, take, take-append-drop}
 use lib.Seq.{take-take}
 use lib.Ieee.{Float}
-use borrow.Author.Tests.{leb-false, leb-true}
 use Rattle.route.specs.Lists.{All}
 use Rattle.route.specs.Score.{sum}
 use Rattle.route.specs.F32.{f32}
-use Rattle.route.specs.Postings.{TERMINATED, start}
+use Rattle.route.specs.Postings.{TERMINATED}
 use Rattle.route.specs.Report.{dueAt}
 use Rattle.route.specs.Scorer.{Scorer, docOf, scoreHere, seek}
 use Rattle.route.specs.Union.{goOn}
 use Rattle.route.specs.Route.{quiet}
 use Rattle.route.specs.Inner.Unions.{SafeS}
-use Rattle.route.proofs.Cases.{lt-of-ne, on-test}
+use Rattle.route.proofs.Cases.{lt-of-ne}
 use Rattle.route.proofs.Lists.{all-append, all-imp, all-map, all-zip}
-use Rattle.route.proofs.Places.{docAt-cap, docAt-lt, start-suc}
+use Rattle.route.proofs.Places.{docAt-cap}
 use Rattle.route.proofs.Union.Pivot.{AlignIs, align-is}
 use Rattle.route.proofs.Union.Safe.{inside, safe-seek}
 use Rattle.bm25.specs.declared.Scoring.{Scoring}
@@ -177,6 +175,8 @@ hit file lists scoring t h ss n len p few {h′} {left} D e =
       turn-is =
           ap (λ (z : Float). record { next = goOn next; due = dueAt f32 t p z }) (e ∙ rw q)
           ∙ ap (λ z. record { next = goOn z; due = dueAt f32 t p x }) (D .scorers-are scoring);
+      doc-is = refl;
+      score-is = e ∙ rw q;
       few = D .few;
       long = D .long;
     }

@@ -36,8 +36,7 @@ use Rattle.reports.proofs.RunLaws.{rests-ended, rests-full, run-begun, run-quie
 use Rattle.reports.proofs.RowLaws.{count-is, documents-long, scores-long}
 use Rattle.decoded.proofs.AcceptedLists.{list-ok}
 use Rattle.term_scorer.specs.Inner.Slots.{Held, cursorAt, listAt, partAt, Sixteen}
-use Rattle.block_wand_union.specs.Inner.Seats.{Seat, Seated, Stand, Terms, Topped, scorerAt, terms}
-use Rattle.block_wand_union.specs.Inner.Fresh.{Fresh}
+use Rattle.block_wand_union.specs.Inner.Seats.{Seat, Seated, Stand, Terms, MaxScoreAt, scorerAt, terms, OnFirst}
 use Rattle.block_wand_union.specs.Inner.Turns.{Turned, turnOf}
 use Rattle.block_wand_union.specs.declared.turn.Step.{Step}
 use Rattle.block_wand_union.proofs.Seats.{same-doc}
@@ -50,7 +49,7 @@ routeFrom ss =
 
 module _ (file : List ℕ) (lists : List (List ℕ)) (maxScores : List Float) where
   -- a scorer that was just opened is safe on the route
-  fresh-safe : (scoring : Scoring) (h : Held) (s : TermScorer) → Stand file lists h s → Fresh (h .places) s → SafeS 128 (documents file) (scorerAt file lists scoring (h .places) s)
+  fresh-safe : (scoring : Scoring) (h : Held) (s : TermScorer) → Stand file lists h s → OnFirst (h .places) s → SafeS 128 (documents file) (scorerAt file lists scoring (h .places) s)
   fresh-safe scoring h s S e =
       let l = listAt scoring file lists (s .slot) in
       let ok = list-ok scoring file (partAt lists (s .slot)) (S .slot .list .right) (S .slot .list .few) in
@@ -146,7 +145,7 @@ module _ (file : List ℕ) (lists : List (List ℕ)) (maxScores : List Float) wh
   -- ---- the beginning
 
   module _ (T : Terms) (rule : Rule) (script : List Float) (documents₀ : List ℕ) (scores₀ : List Float) (h : Held) (l : List TermScorer)
-      (S : Seated file lists T maxScores h l) (a : All (Fresh (h .places)) l) (alive : List TermScorer) (n : ℕ) (e : take n alive ≡ sortBy byDoc l) where
+      (S : Seated file lists T maxScores h l) (a : All (OnFirst (h .places)) l) (alive : List TermScorer) (n : ℕ) (e : take n alive ≡ sortBy byDoc l) where
     abbrev f : TermScorer → Scorer Float
     f = scorerAt file lists (T .scoring) (h .places)
 
@@ -159,7 +158,7 @@ module _ (file : List ℕ) (lists : List (List ℕ)) (maxScores : List Float) wh
     safe : All (SafeS 128 (documents file)) (map f l)
     safe =
         all-map (λ s. SafeS 128 (documents file) (f s)) (SafeS 128 (documents file)) f l (λ _ k. k)
-        (all-zip (Stand file lists h) (Fresh (h .places)) (λ s. SafeS 128 (documents file) (f s)) (fresh-safe (T .scoring) h) l stands a)
+        (all-zip (Stand file lists h) (OnFirst (h .places)) (λ s. SafeS 128 (documents file) (f s)) (fresh-safe (T .scoring) h) l stands a)
 
     pub running : n ≤ 16 → Sixteen alive → {t : Threshold} → Follows rule script [] t
         → Running T rule script documents₀ scores₀ (map f (take n alive)) t documents₀ scores₀ h (T .bounds) alive n true
@@ -169,7 +168,7 @@ module _ (file : List ℕ) (lists : List (List ℕ)) (maxScores : List Float) wh
       seated = rw e (record {
         seats = kept-all (Seat file lists T h) (sort-kept byDoc l) (S .seats);
         apart = kept-apart (sort-kept byDoc l) (S .apart);
-        tops = kept-all (Topped file lists (T .scoring) maxScores) (sort-kept byDoc l) (S .tops);
+        max-scores = kept-all (MaxScoreAt file lists (T .scoring) maxScores) (sort-kept byDoc l) (S .max-scores);
         sixteen = S .sixteen;
       });
       few = few;

@@ -25,7 +25,7 @@ use Rattle.postings.specs.Inner.Reader.{readerAt}
 use Rattle.slot_rows.specs.Inner.Rows.{cursorIn, placeRow, PlaceIn, postingsIn}
 use Rattle.term_scorer.specs.Inner.Slots.{cursorAt, held, Held, listAt, partAt, MovedSlot, Shallowed, Sixteen, StandingIn}
 use Rattle.term_scorer.specs.Inner.Weights.{Bounded, Weighed}
-use Rattle.block_wand_union.specs.Inner.Seats.{Carried, Seat, Stand, Terms, Topped, WeighedAt, scorerAt, terms}
+use Rattle.block_wand_union.specs.Inner.Seats.{Carried, Seat, Stand, Terms, MaxScoreAt, WeighedAt, scorerAt, terms}
 
 -- ---- rows
 
@@ -247,13 +247,13 @@ module _ (file : List ℕ) (lists : List (List ℕ)) where
   -- ---- all scorers
 
   -- on their documents, with their list bounds by slot
-  pub fair : (maxScores : List Float) (scoring : Scoring) (h : Held) (l : List TermScorer) → All (Stand file lists h) l → All (Topped file lists scoring maxScores) l
+  pub fair : (maxScores : List Float) (scoring : Scoring) (h : Held) (l : List TermScorer) → All (Stand file lists h) l → All (MaxScoreAt file lists scoring maxScores) l
       → All (Fair maxScores (scorerAt file lists scoring (h .places))) l
   fair maxScores scoring h [] a b = tt
   fair maxScores scoring h (y ∷ ys) a b = (record { doc-is = same-doc scoring h y (a .0); max-is = b .0 }, fair maxScores scoring h ys (a .1) (b .1))
 
   pub carried-refl : (h : Held) (l : List TermScorer) → Apart l → All (Stand file lists h) l → Carried file lists h l h l
-  carried-refl h l apart a = record { stands = a; apart = apart; seats = λ T s. s; weights = λ _ _ w. w; tops = λ _ _ t. t }
+  carried-refl h l apart a = record { stands = a; apart = apart; seats = λ T s. s; weights = λ _ _ w. w; max-scores = λ _ _ t. t }
 
   pub carried-trans : {h h′ h″ : Held} {l l′ l″ : List TermScorer} → Carried file lists h l h′ l′ → Carried file lists h′ l′ h″ l″ → Carried file lists h l h″ l″
   carried-trans C D = record {
@@ -261,7 +261,7 @@ module _ (file : List ℕ) (lists : List (List ℕ)) where
     apart = D .apart;
     seats = λ T s. D .seats T (C .seats T s);
     weights = λ weights caches w. D .weights weights caches (C .weights weights caches w);
-    tops = λ scoring maxScores t. D .tops scoring maxScores (C .tops scoring maxScores t);
+    max-scores = λ scoring maxScores t. D .max-scores scoring maxScores (C .max-scores scoring maxScores t);
   }
 
   -- some of them, in another order
@@ -271,7 +271,7 @@ module _ (file : List ℕ) (lists : List (List ℕ)) where
     apart = kept-apart k apart;
     seats = λ T s. kept-all (Seat file lists T h) k s;
     weights = λ weights caches w. kept-all (WeighedAt file lists weights caches) k w;
-    tops = λ scoring maxScores t. kept-all (Topped file lists scoring maxScores) k t;
+    max-scores = λ scoring maxScores t. kept-all (MaxScoreAt file lists scoring maxScores) k t;
   }
 
   -- the one at place i has moved in its slot
@@ -294,5 +294,5 @@ module _ (file : List ℕ) (lists : List (List ℕ)) where
           seats = λ T s. replaced-all l i x′ inside apart (Seat file lists T h) (Seat file lists T h′)
               (λ z o R. seat-same T (T .bounds) h h′ z n (others-rows M (z .slot) o) refl R) (moved-seat x M T (all-at (Seat file lists T h) l i noScorer inside s)) s;
           weights = λ weights caches w. slots-all (Weighed lists weights caches) l (set l i x′) slots w;
-          tops = λ scoring maxScores t. slots-all (λ (q : ℕ). listAt scoring file lists q .top ≡ getD maxScores q nan) l (set l i x′) slots t;
+          max-scores = λ scoring maxScores t. slots-all (λ (q : ℕ). listAt scoring file lists q .top ≡ getD maxScores q nan) l (set l i x′) slots t;
         }

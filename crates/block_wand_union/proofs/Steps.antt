@@ -44,7 +44,7 @@ module _ (file : List ℕ) (lists : List (List ℕ)) (T : Terms) (maxScores : Li
   pub nowhere : Nowhere ≡ pivotOf maxScores t l → (ss : List TermScorer) (n : ℕ) → take n ss ≡ l → Sixteen ss
       → Turned file lists T maxScores t h l n h (T .bounds) (quietStep ss n false)
   nowhere e ss n q long = record {
-    turn-is = nowhere-turn 128 t l maxScores f (fair file lists maxScores (T .scoring) h l stands (S .tops)) e ∙ rw q;
+    turn-is = nowhere-turn 128 t l maxScores f (fair file lists maxScores (T .scoring) h l stands (S .max-scores)) e ∙ rw q;
     seated = rw q S;
     few = omega arith;
     long = long;
@@ -89,8 +89,8 @@ module _ (file : List ℕ) (lists : List (List ℕ)) (T : Terms) (maxScores : Li
       -- at the pivot
       pub high : f32 .above upper t ≡ true → {n : ℕ} {h″ : Held} {r : Step} → Pivoted file lists (T .scoring) t h′ l n before len p h″ r → Turned file lists T maxScores t h l n h″ bounds′ r
       high q P = record {
-        turn-is = high-turn 128 t l maxScores f (fair file lists maxScores (T .scoring) h l stands (S .tops)) before len p e g (B .moving) _ (sum-above q) (P .turn-is);
-        seated = record { seats = P .carried .seats T′ (B .seats); apart = P .carried .apart; tops = P .carried .tops (T .scoring) maxScores (S .tops); sixteen = B .sixteen };
+        turn-is = high-turn 128 t l maxScores f (fair file lists maxScores (T .scoring) h l stands (S .max-scores)) before len p e g (B .moving) _ (sum-above q) (P .turn-is);
+        seated = record { seats = P .carried .seats T′ (B .seats); apart = P .carried .apart; max-scores = P .carried .max-scores (T .scoring) maxScores (S .max-scores); sixteen = B .sixteen };
         few = P .few;
         long = P .long;
       }
@@ -99,8 +99,8 @@ module _ (file : List ℕ) (lists : List (List ℕ)) (T : Terms) (maxScores : Li
       pub low : f32 .above upper t ≡ false → {n : ℕ} {h″ : Held} {out : List TermScorer} → TooLow file lists maxScores h′ l len h″ (take n out) → Sixteen out
           → Turned file lists T maxScores t h l n h″ bounds′ (quietStep out n true)
       low q P long = record {
-        turn-is = low-turn 128 t l maxScores f (fair file lists maxScores (T .scoring) h l stands (S .tops)) before len p e g (B .moving) _ (sum-above q) (P .scorers-are (T .scoring) (S .tops));
-        seated = record { seats = P .carried .seats T′ (B .seats); apart = P .carried .apart; tops = P .carried .tops (T .scoring) maxScores (S .tops); sixteen = B .sixteen };
+        turn-is = low-turn 128 t l maxScores f (fair file lists maxScores (T .scoring) h l stands (S .max-scores)) before len p e g (B .moving) _ (sum-above q) (P .scorers-are (T .scoring) (S .max-scores));
+        seated = record { seats = P .carried .seats T′ (B .seats); apart = P .carried .apart; max-scores = P .carried .max-scores (T .scoring) maxScores (S .max-scores); sixteen = B .sixteen };
         few = omega arith;
         long = long;
       }

@@ -30,8 +30,13 @@ pub fn align_scorers(
     docs: &mut [[u32; 128]; 16],
     freqs: &mut [[u32; 128]; 16],
 ) -> Alignment
-    requires { ⌜ («before_pivot_len» < n) × (n ≤ 16) × («pivot_doc» ≤ 2147483647) × Apart (take n scorers) × All (Stand (now file) (now lists) (held (now places) (now docs) (now freqs))) (take n scorers) ⌝ }
-    ensures { λ r. ⌜ Aligns (before file) (before lists) «pivot_doc» (held (before places) (before docs) (before freqs)) (take n scorers) n «before_pivot_len» (held (after places) (after docs) (after freqs)) r ⌝ }
+    requires { let slots = held (now places) (now docs) (now freqs) in
+        ⌜ («before_pivot_len» < n) × (n ≤ 16) × («pivot_doc» ≤ 2147483647) × Apart (take n scorers)
+        × All (Stand (now file) (now lists) slots) (take n scorers) ⌝ }
+    ensures { λ r.
+        let old = held (before places) (before docs) (before freqs) in
+        let new = held (after places) (after docs) (after freqs) in
+        ⌜ Aligns (before file) (before lists) «pivot_doc» old (take n scorers) n «before_pivot_len» new r ⌝ }
 {
     let mut out = scorers;
     let mut i = before_pivot_len;

@@ -33,8 +33,17 @@ pub fn seek_blocks(
     freqs: &[[u32; 128]; 16],
     bounds: &mut [f32; 16],
 ) -> f32
-    requires { ⌜ («pivot_len» ≤ 16) × (norms ≡ normReader (now file)) × Sixteen (now bounds) × Apart (take «pivot_len» scorers) × All (Seat (now file) (now lists) (terms scoring (now weights) (now caches) (now bounds)) (held (now places) (now docs) (now freqs))) (take «pivot_len» scorers) ⌝ }
-    ensures { λ r. ⌜ ((l : List TermScorer) → take «pivot_len» l ≡ take «pivot_len» scorers → Apart l → All (Seat (before file) (before lists) (terms scoring (before weights) (before caches) (before bounds)) (held (before places) (before docs) (before freqs))) l → BlocksSought (before file) (before lists) (terms scoring (before weights) (before caches) (before bounds)) (held (before places) (before docs) (before freqs)) «pivot_doc» «pivot_len» (held (after places) (before docs) (before freqs)) (after bounds) r l) ⌝ }
+    requires { let T = terms scoring (now weights) (now caches) (now bounds) in
+        let slots = held (now places) (now docs) (now freqs) in
+        ⌜ («pivot_len» ≤ 16) × (norms ≡ normReader (now file)) × Sixteen (now bounds) × Apart (take «pivot_len» scorers)
+        × All (Seat (now file) (now lists) T slots) (take «pivot_len» scorers) ⌝ }
+    ensures { λ r.
+        let T = terms scoring (before weights) (before caches) (before bounds) in
+        let old = held (before places) (before docs) (before freqs) in
+        let new = held (after places) (before docs) (before freqs) in
+        ⌜ ((l : List TermScorer) → take «pivot_len» l ≡ take «pivot_len» scorers
+        → Apart l → All (Seat (before file) (before lists) T old) l
+        → BlocksSought (before file) (before lists) T old «pivot_doc» «pivot_len» new (after bounds) r l) ⌝ }
 {
     let mut sum = 0.0f32;
     let mut i = 0usize;

@@ -14,7 +14,6 @@ use reports::report;
 use reports::rows;
 use rule::Rule;
 use rule::Threshold;
-ghost use mathlib.Core.List.{map};
 ghost use mathlib.Core.Path.{_≡_};
 ghost use Prim.Native.Nat.{_≤_};
 ghost use lib.ListN.{take};
@@ -26,8 +25,7 @@ ghost use Rattle.rule.specs.Inner.Follows.{Keeps};
 ghost use Rattle.notefile.specs.Header.{normReader};
 ghost use Rattle.reports.specs.Inner.Runs.{Rests};
 ghost use Rattle.term_scorer.specs.Inner.Slots.{cursorAt, held};
-ghost use Rattle.block_wand_union.specs.Inner.Seats.{Seated, scorerAt, terms};
-ghost use Rattle.block_wand_union.specs.Inner.Fresh.{Fresh};
+ghost use Rattle.block_wand_union.specs.Inner.Seats.{Seated, onRoute, terms, OnFirst};
 
 // Whether a report found every row full, and how many rows are written.
 pub struct Ended {
@@ -35,7 +33,8 @@ pub struct Ended {
     pub count: usize,
 }
 
-// From scorers just opened to the route's end, or to a report for which no row is left. Then the slots stand behind the turn that found it.
+// From scorers just opened to the route's end, or to a report for which no row is left.
+// Then the slots stand behind the turn that found it.
 pub fn block_wand(
     file: &[u8],
     norms: FieldNormReader,
@@ -55,8 +54,15 @@ pub fn block_wand(
     documents: &mut [u32],
     scores: &mut [f32],
 ) -> Ended
-    requires { ⌜ (n ≤ 16) × (norms ≡ normReader (now file)) × Keeps rule × Seated (now file) (now lists) (terms scoring (now weights) (now caches) (now bounds)) (now «max_scores») (held (now places) (now docs) (now freqs)) (take n scorers) × All (Fresh (now places)) (take n scorers) ⌝ }
-    ensures { λ r. ⌜ Rests (pivotRoute 128 f32 (map (scorerAt (before file) (before lists) scoring (before places)) (take n scorers))) rule (before script) (before documents) (before scores) (cursorAt (after places)) (r .full) (r .count) (after documents) (after scores) ⌝ }
+    requires { let T = terms scoring (now weights) (now caches) (now bounds) in
+        let slots = held (now places) (now docs) (now freqs) in
+        ⌜ (n ≤ 16) × (norms ≡ normReader (now file)) × Keeps rule
+        × Seated (now file) (now lists) T (now «max_scores») slots (take n scorers) × All (OnFirst (now places)) (take n scorers) ⌝ }
+    ensures { λ r.
+        let old = held (before places) (before docs) (before freqs) in
+        let opened = onRoute (before file) (before lists) scoring old (take n scorers) in
+        ⌜ Rests (pivotRoute 128 f32 opened) rule (before script) (before documents) (before scores)
+        (cursorAt (after places)) (r .full) (r .count) (after documents) (after scores) ⌝ }
 {
     let row_count = rows(documents, scores);
     let mut t = Threshold::new(rule);

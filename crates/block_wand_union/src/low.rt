@@ -58,8 +58,13 @@ pub fn block_max_was_too_low_advance_one_scorer(
     docs: &mut [[u32; 128]; 16],
     freqs: &mut [[u32; 128]; 16],
 ) -> [TermScorer; 16]
-    requires { ⌜ (0 < «pivot_len») × («pivot_len» ≤ n) × (n ≤ 16) × Apart (take n scorers) × All (Stand (now file) (now lists) (held (now places) (now docs) (now freqs))) (take n scorers) ⌝ }
-    ensures { λ r. ⌜ TooLow (before file) (before lists) (before «max_scores») (held (before places) (before docs) (before freqs)) (take n scorers) «pivot_len» (held (after places) (after docs) (after freqs)) (take n r) ⌝ }
+    requires { let slots = held (now places) (now docs) (now freqs) in
+        ⌜ (0 < «pivot_len») × («pivot_len» ≤ n) × (n ≤ 16) × Apart (take n scorers)
+        × All (Stand (now file) (now lists) slots) (take n scorers) ⌝ }
+    ensures { λ r.
+        let old = held (before places) (before docs) (before freqs) in
+        let new = held (after places) (after docs) (after freqs) in
+        ⌜ TooLow (before file) (before lists) (before «max_scores») old (take n scorers) «pivot_len» new (take n r) ⌝ }
 {
     let doc_to_seek_after = least_last_doc(scorers, pivot_len, places);
     let target = least_doc(scorers, n, pivot_len, behind(doc_to_seek_after));

@@ -19,7 +19,7 @@ ghost use Rattle.route.specs.Scorer.{scoreHere};
 ghost use Rattle.ordering.specs.Inner.Scorers.{Apart};
 ghost use Rattle.notefile.specs.Header.{normReader};
 ghost use Rattle.term_scorer.specs.Inner.Slots.{held};
-ghost use Rattle.block_wand_union.specs.Inner.Seats.{Inside, Scorable, Stand, scorerAt};
+ghost use Rattle.block_wand_union.specs.Inner.Seats.{Inside, Scorable, Stand, onRoute};
 ghost use Rattle.block_wand_union.specs.Inner.Moves.{AdvancedAll};
 
 // The first scorers' scores, added in the order that the scorers have now.
@@ -36,8 +36,13 @@ pub fn score_on_pivot(
     docs: &[[u32; 128]; 16],
     freqs: &[[u32; 128]; 16],
 ) -> f32
-    requires { ⌜ («pivot_len» ≤ 16) × (norms ≡ normReader (now file)) × All (Scorable (now file) (now lists) (now weights) (now caches) (held (now places) (now docs) (now freqs))) (take «pivot_len» scorers) ⌝ }
-    ensures { λ r. ⌜ r ≡ sum f32 (map scoreHere (map (scorerAt (before file) (before lists) scoring (before places)) (take «pivot_len» scorers))) ⌝ }
+    requires { let slots = held (now places) (now docs) (now freqs) in
+        ⌜ («pivot_len» ≤ 16) × (norms ≡ normReader (now file))
+        × All (Scorable (now file) (now lists) (now weights) (now caches) slots) (take «pivot_len» scorers) ⌝ }
+    ensures { λ r.
+        let old = held (before places) (before docs) (before freqs) in
+        let first = onRoute (before file) (before lists) scoring old (take «pivot_len» scorers) in
+        ⌜ r ≡ sum f32 (map scoreHere first) ⌝ }
 {
     let mut sum = 0.0f32;
     let mut i = 0usize;
@@ -74,8 +79,13 @@ pub fn advance_all_scorers_on_pivot(
     docs: &mut [[u32; 128]; 16],
     freqs: &mut [[u32; 128]; 16],
 ) -> Scorers
-    requires { ⌜ («pivot_len» ≤ n) × (n ≤ 16) × Apart (take n scorers) × All (Stand (now file) (now lists) (held (now places) (now docs) (now freqs))) (take n scorers) × All (Inside (now file) (now lists) (held (now places) (now docs) (now freqs))) (take «pivot_len» scorers) ⌝ }
-    ensures { λ r. ⌜ AdvancedAll (before file) (before lists) (held (before places) (before docs) (before freqs)) (take n scorers) n «pivot_len» (held (after places) (after docs) (after freqs)) r ⌝ }
+    requires { let slots = held (now places) (now docs) (now freqs) in
+        ⌜ («pivot_len» ≤ n) × (n ≤ 16) × Apart (take n scorers) × All (Stand (now file) (now lists) slots) (take n scorers)
+        × All (Inside (now file) (now lists) slots) (take «pivot_len» scorers) ⌝ }
+    ensures { λ r.
+        let old = held (before places) (before docs) (before freqs) in
+        let new = held (after places) (after docs) (after freqs) in
+        ⌜ AdvancedAll (before file) (before lists) old (take n scorers) n «pivot_len» new r ⌝ }
 {
     let mut out = scorers;
     let mut i = 0usize;

@@ -9,7 +9,6 @@ use fieldnorm::FieldNormReader;
 use ordering::Pivot;
 use ordering::TermScorer;
 use ordering::find_pivot_doc;
-ghost use mathlib.Core.List.{map};
 ghost use mathlib.Core.Path.{_≡_};
 ghost use Prim.Native.Nat.{_≤_};
 ghost use lib.ListN.{take};
@@ -21,7 +20,7 @@ ghost use Rattle.route.specs.Inner.Unions.{UnionKept};
 ghost use Rattle.ordering.specs.Inner.Scorers.{Apart};
 ghost use Rattle.notefile.specs.Header.{documents, normReader};
 ghost use Rattle.term_scorer.specs.Inner.Slots.{held};
-ghost use Rattle.block_wand_union.specs.Inner.Seats.{Inside, Scorable, Seated, Stand, scorerAt, terms};
+ghost use Rattle.block_wand_union.specs.Inner.Seats.{Inside, Scorable, Seated, Stand, onRoute, terms};
 ghost use Rattle.block_wand_union.specs.Inner.Turns.{AtPivot, Hit, Pivoted, ToPivot, Turned, quietStep};
 
 // The scorers left and whether the loop goes on, and whether document doc is due with its score.
@@ -65,8 +64,15 @@ fn hit(
     docs: &mut [[u32; 128]; 16],
     freqs: &mut [[u32; 128]; 16],
 ) -> Step
-    requires { ⌜ («pivot_len» ≤ n) × (n ≤ 16) × (norms ≡ normReader (now file)) × Apart (take n scorers) × All (Stand (now file) (now lists) (held (now places) (now docs) (now freqs))) (take n scorers) × All (Scorable (now file) (now lists) (now weights) (now caches) (held (now places) (now docs) (now freqs))) (take «pivot_len» scorers) × All (Inside (now file) (now lists) (held (now places) (now docs) (now freqs))) (take «pivot_len» scorers) ⌝ }
-    ensures { λ r. ⌜ Hit (before file) (before lists) scoring threshold (held (before places) (before docs) (before freqs)) (take n scorers) n «pivot_len» «pivot_doc» (held (after places) (after docs) (after freqs)) r ⌝ }
+    requires { let slots = held (now places) (now docs) (now freqs) in
+        ⌜ («pivot_len» ≤ n) × (n ≤ 16) × (norms ≡ normReader (now file)) × Apart (take n scorers)
+        × All (Stand (now file) (now lists) slots) (take n scorers)
+        × All (Scorable (now file) (now lists) (now weights) (now caches) slots) (take «pivot_len» scorers)
+        × All (Inside (now file) (now lists) slots) (take «pivot_len» scorers) ⌝ }
+    ensures { λ r.
+        let old = held (before places) (before docs) (before freqs) in
+        let new = held (after places) (after docs) (after freqs) in
+        ⌜ Hit (before file) (before lists) scoring threshold old (take n scorers) n «pivot_len» «pivot_doc» new r ⌝ }
 {
     let score = score_on_pivot(
         file,
@@ -120,8 +126,15 @@ fn on_pivot(
     docs: &mut [[u32; 128]; 16],
     freqs: &mut [[u32; 128]; 16],
 ) -> Step
-    requires { ⌜ (n ≤ 16) × (norms ≡ normReader (now file)) × Apart (take n scorers) × AtPivot (now file) (now lists) scoring (now weights) (now caches) (held (now places) (now docs) (now freqs)) (take n scorers) «before_pivot_len» «pivot_len» «pivot_doc» ⌝ }
-    ensures { λ r. ⌜ Pivoted (before file) (before lists) scoring threshold (held (before places) (before docs) (before freqs)) (take n scorers) n «before_pivot_len» «pivot_len» «pivot_doc» (held (after places) (after docs) (after freqs)) r ⌝ }
+    requires { let slots = held (now places) (now docs) (now freqs) in
+        ⌜ (n ≤ 16) × (norms ≡ normReader (now file)) × Apart (take n scorers)
+        × AtPivot (now file) (now lists) scoring (now weights) (now caches) slots (take n scorers)
+        «before_pivot_len» «pivot_len» «pivot_doc» ⌝ }
+    ensures { λ r.
+        let old = held (before places) (before docs) (before freqs) in
+        let new = held (after places) (after docs) (after freqs) in
+        ⌜ Pivoted (before file) (before lists) scoring threshold old (take n scorers) n
+        «before_pivot_len» «pivot_len» «pivot_doc» new r ⌝ }
 {
     let alignment = align_scorers(
         file,
@@ -176,8 +189,16 @@ fn to_pivot(
     freqs: &mut [[u32; 128]; 16],
     bounds: &mut [f32; 16],
 ) -> Step
-    requires { ⌜ (n ≤ 16) × (norms ≡ normReader (now file)) × ToPivot (now file) (now lists) (terms scoring (now weights) (now caches) (now bounds)) (now «max_scores») threshold (held (now places) (now docs) (now freqs)) (take n scorers) «before_pivot_len» «pivot_len» «pivot_doc» ⌝ }
-    ensures { λ r. ⌜ Turned (before file) (before lists) (terms scoring (before weights) (before caches) (before bounds)) (before «max_scores») threshold (held (before places) (before docs) (before freqs)) (take n scorers) n (held (after places) (after docs) (after freqs)) (after bounds) r ⌝ }
+    requires { let T = terms scoring (now weights) (now caches) (now bounds) in
+        let slots = held (now places) (now docs) (now freqs) in
+        ⌜ (n ≤ 16) × (norms ≡ normReader (now file))
+        × ToPivot (now file) (now lists) T (now «max_scores») threshold slots (take n scorers)
+        «before_pivot_len» «pivot_len» «pivot_doc» ⌝ }
+    ensures { λ r.
+        let T = terms scoring (before weights) (before caches) (before bounds) in
+        let old = held (before places) (before docs) (before freqs) in
+        let new = held (after places) (after docs) (after freqs) in
+        ⌜ Turned (before file) (before lists) T (before «max_scores») threshold old (take n scorers) n new (after bounds) r ⌝ }
 {
     let upper_bound = seek_blocks(
         file,
@@ -244,8 +265,16 @@ pub fn turn(
     freqs: &mut [[u32; 128]; 16],
     bounds: &mut [f32; 16],
 ) -> Step
-    requires { ⌜ (n ≤ 16) × (norms ≡ normReader (now file)) × Seated (now file) (now lists) (terms scoring (now weights) (now caches) (now bounds)) (now «max_scores») (held (now places) (now docs) (now freqs)) (take n scorers) × UnionKept 128 (documents (now file)) f32 (goOn (map (scorerAt (now file) (now lists) scoring (now places)) (take n scorers))) ⌝ }
-    ensures { λ r. ⌜ Turned (before file) (before lists) (terms scoring (before weights) (before caches) (before bounds)) (before «max_scores») threshold (held (before places) (before docs) (before freqs)) (take n scorers) n (held (after places) (after docs) (after freqs)) (after bounds) r ⌝ }
+    requires { let T = terms scoring (now weights) (now caches) (now bounds) in
+        let slots = held (now places) (now docs) (now freqs) in
+        let route = onRoute (now file) (now lists) scoring slots (take n scorers) in
+        ⌜ (n ≤ 16) × (norms ≡ normReader (now file)) × Seated (now file) (now lists) T (now «max_scores») slots (take n scorers)
+        × UnionKept 128 (documents (now file)) f32 (goOn route) ⌝ }
+    ensures { λ r.
+        let T = terms scoring (before weights) (before caches) (before bounds) in
+        let old = held (before places) (before docs) (before freqs) in
+        let new = held (after places) (after docs) (after freqs) in
+        ⌜ Turned (before file) (before lists) T (before «max_scores») threshold old (take n scorers) n new (after bounds) r ⌝ }
 {
     let pivot = find_pivot_doc(scorers, n, max_scores, threshold);
     match pivot {

@@ -23,7 +23,7 @@ use Rattle.decoded.specs.Lists.{listOf}
 use Rattle.slot_rows.specs.Inner.Rows.{cursorIn}
 use Rattle.term_scorer.specs.Inner.Slots.{Held, MovedSlot, cursorAt, held, lastAt, listAt, partAt}
 use Rattle.term_scorer.specs.Inner.Weights.{Bounded}
-use Rattle.intersection_window.specs.Inner.Scorers.{BoundsKept, InOrder, Query, Ready, Seated, listIn, scorerAt, scorersBetween, secondariesIn, slotAt}
+use Rattle.intersection_window.specs.Inner.Scorers.{BoundsKept, InOrder, Query, Ready, SlotsIn, listIn, scorerAt, scorersBetween, secondariesIn, slotAt}
 use Rattle.intersection_window.specs.Inner.Windows.{Gathers, RunOut, boundsOf}
 use Rattle.intersection_window.proofs.Parts.{part-first, part-none, part-same}
 use Rattle.intersection_window.proofs.Seats.{known-bound, known-cursor, known-only, known-others, known-ready, last-here, moved-only, scorer-is, still-kept, still-seated}
@@ -169,7 +169,7 @@ module _ (x : Query) (d leaderEnd : ℕ) (h₀ : Held) where
 
         module _ {places₁ : List (List ℕ)} {doc : ℕ}
             (M : MovedSlot (x .file) (x .lists) q (λ k. seekBlockIn (listAt k (x .file) (x .lists) q) 128 d (cursorAt places q)) h (held places₁ (h₀ .docs) (h₀ .freqs)) doc) where
-          pub seated-there : Seated x (held places₁ (h₀ .docs) (h₀ .freqs))
+          pub seated-there : SlotsIn x (held places₁ (h₀ .docs) (h₀ .freqs))
           seated-there = still-seated x (G .ready .seated) hq M
 
           pub kept-there : BoundsKept x places₁ bounds

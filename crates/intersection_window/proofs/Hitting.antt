@@ -19,7 +19,7 @@ use Rattle.route.specs.Postings.{Postings, docAt, start}
 use Rattle.route.specs.Cursor.{findIn}
 use Rattle.route.specs.Scorer.{Scorer}
 use Rattle.route.specs.Route.{quiet}
-use Rattle.route.specs.Intersection.{InterPlace, called, candidatesFrom, foundTurn, tryCandidate, window, within}
+use Rattle.route.specs.Intersection.{InterPlace, called, candidatesFrom, foundTurn, tryCandidate, within}
 use Rattle.route.specs.Inner.Lists.{ListOk}
 use Rattle.route.proofs.Cases.{on-test}
 use Rattle.route.proofs.Places.{docAt-in, docAt-out}
@@ -31,7 +31,7 @@ use Rattle.postings.proofs.Blocks.{decoded-sorted}
 use Rattle.postings.proofs.Moves.{find-is}
 use Rattle.slot_rows.specs.Inner.Rows.{cursorIn, postingsIn}
 use Rattle.term_scorer.specs.Inner.Slots.{Held, partAt}
-use Rattle.intersection_window.specs.Inner.Scorers.{InOrder, Query, Seated, StillKept, Unmoved, leaderIn, listIn, placeAt, secondariesIn, slotAt}
+use Rattle.intersection_window.specs.Inner.Scorers.{InOrder, Query, SlotsIn, StillKept, Unmoved, leaderIn, listIn, placeAt, secondariesIn, slotAt}
 use Rattle.intersection_window.specs.Inner.Candidates.{Hits, Suffixes, Tries, candidateOf, candidatesLeft, interEnded, interTurn, leaderBlock, withinAt}
 use Rattle.intersection_window.specs.declared.candidate.Candidate.{Candidate}
 use Rattle.intersection_window.specs.declared.candidate.Candidate.the-variants.{Due, Passed}
@@ -68,7 +68,7 @@ module _ (x : Query) where
     hq = O .below 0 (O .leader)
 
     -- the leader's block, with its place in the list
-    module _ {h : Held} (S : Seated x h) {b : ℕ} (eb : leaderBlock x h ≡ b) where
+    module _ {h : Held} (S : SlotsIn x h) {b : ℕ} (eb : leaderBlock x h ≡ b) where
       abbrev docs : List ℕ
       docs = getD (h .docs) q []
 
@@ -173,14 +173,14 @@ module _ (x : Query) where
     at bs d h i = withinAt x (h .places) b₀ ts e bs d i
 
     pub record Hunting (i : ℕ) (h : Held) : Type 0 where
-      pub seated : Seated x h
+      pub seated : SlotsIn x h
       pub leader : Unmoved q h₀ h
       pub bounds : StillKept x (h₀ .places) (h .places)
       pub low : from ≤ i
       pub high : i ≤ 128
       pub turns : (bs : List Float) → Suffixes (x .len) bs suffix → (d : ℕ) → Quietly interTurn interEnded t (at bs d h₀ from) (at bs d h i)
 
-    pub begun : Seated x h₀ → from ≤ 128 → Hunting from h₀
+    pub begun : SlotsIn x h₀ → from ≤ 128 → Hunting from h₀
     begun S k = record { seated = S; leader = unmoved q h₀; bounds = λ bounds B. B; low = omega arith; high = k; turns = λ bs s d. stays }
 
     module _ {i : ℕ} {h : Held} (H : Hunting i h) where

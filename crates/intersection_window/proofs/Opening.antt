@@ -18,7 +18,7 @@ use Rattle.route.proofs.Cases.{on-test}
 use Rattle.slot_rows.specs.Inner.Rows.{cursorIn, firstOf}
 use Rattle.term_scorer.specs.Inner.Slots.{Held, MovedSlot, cursorAt, held, lastAt, listAt}
 use Rattle.term_scorer.specs.Inner.Weights.{Bounded}
-use Rattle.intersection_window.specs.Inner.Scorers.{BoundsKept, InOrder, Query, Ready, Seated, leaderIn, listIn, scorerAt, secondariesIn, slotAt}
+use Rattle.intersection_window.specs.Inner.Scorers.{BoundsKept, InOrder, Query, Ready, SlotsIn, leaderIn, listIn, scorerAt, secondariesIn, slotAt}
 use Rattle.intersection_window.specs.Inner.Windows.{Gathered, Gathers, Windowed, boundsOf}
 use Rattle.intersection_window.specs.declared.window.Secondaries.{Secondaries}
 use Rattle.intersection_window.specs.declared.window.Window.the-variants.{Low, Open, Over}
@@ -68,7 +68,7 @@ module _ (x : Query) (O : InOrder x) (t : Float) (d : ℕ) (live : d < 214748364
 
   module _ {places₁ : List (List ℕ)} {doc : ℕ}
       (M : MovedSlot (x .file) (x .lists) q (λ k. seekBlockIn (listAt k (x .file) (x .lists) q) 128 d (cursorAt (h .places) q)) h (held places₁ (h .docs) (h .freqs)) doc) where
-    pub leader-seated : Seated x (held places₁ (h .docs) (h .freqs))
+    pub leader-seated : SlotsIn x (held places₁ (h .docs) (h .freqs))
     leader-seated = still-seated x (R .seated) hq M
 
     pub leader-kept : BoundsKept x places₁ bounds
@@ -158,7 +158,7 @@ module _ (x : Query) (O : InOrder x) (t : Float) (d : ℕ) (live : d < 214748364
 
           module _ (a : f32 .above (f32 .add b total) t ≡ true) {h′ : Held} {first : ℕ}
               (L : MovedSlot (x .file) (x .lists) q (λ _. firstOf (cursorAt places₃ q)) (held places₃ (h .docs) (h .freqs)) h′ first) where
-            abbrev S : Seated x (held places₃ (h .docs) (h .freqs))
+            abbrev S : SlotsIn x (held places₃ (h .docs) (h .freqs))
             S = gathered .ready .seated
 
             cursor-is : cursorAt (h′ .places) q ≡ firstOf (cursorAt places₃ q)

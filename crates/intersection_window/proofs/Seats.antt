@@ -24,7 +24,7 @@ use Rattle.slot_rows.specs.Inner.Rows.{PlaceIn, cursorIn}
 use Rattle.slot_rows.proofs.Rows.{bound-in, cur-inside, doc-in-array, last-is, last-small}
 use Rattle.term_scorer.specs.Inner.Slots.{Held, MovedSlot, Shallowed, Sixteen, SlotIn, StandingIn, cursorAt, held, lastAt, partAt}
 use Rattle.term_scorer.specs.Inner.Weights.{Bounded, BoundKept}
-use Rattle.intersection_window.specs.Inner.Scorers.{InOrder, Query, Ready, Seated, StillKept, BoundsKept, Unmoved, listIn, scorerAt, scorersBetween, slotAt}
+use Rattle.intersection_window.specs.Inner.Scorers.{InOrder, Query, Ready, SlotsIn, StillKept, BoundsKept, Unmoved, listIn, scorerAt, scorersBetween, slotAt}
 use Rattle.intersection_window.proofs.Parts.{part-same}
 
 -- what holds of slot q, and of every other
@@ -60,9 +60,9 @@ shallow-moves {q = q} {h = h} S M = record {
 pub standing-in : {file : List ℕ} {lists : List (List ℕ)} {q : ℕ} {h : Held} → SlotIn file lists h q → StandingIn file lists (h .places) q
 standing-in S = record { sixteen = S .sixteen .0; part-row = S .part-row; list = S .list; standing = S .place .standing }
 
-module _ (x : Query) {h h′ : Held} (S : Seated x h) {q : ℕ} (hq : q < x .len) where
+module _ (x : Query) {h h′ : Held} (S : SlotsIn x h) {q : ℕ} (hq : q < x .len) where
   seated-by : Sixteen (h′ .places) × Sixteen (h′ .docs) × Sixteen (h′ .freqs) → Only q h h′
-      → PlaceIn (x .file) (partAt (x .lists) q) (getD (h′ .places) q []) (getD (h′ .docs) q []) (getD (h′ .freqs) q []) → Seated x h′
+      → PlaceIn (x .file) (partAt (x .lists) q) (getD (h′ .places) q []) (getD (h′ .docs) q []) (getD (h′ .freqs) q []) → SlotsIn x h′
   seated-by s o p = record {
     sixteen = s;
     slot =
@@ -85,7 +85,7 @@ module _ (x : Query) {h h′ : Held} (S : Seated x h) {q : ℕ} (hq : q < x .len
       freqs = other (h .freqs) (h′ .freqs) q r _ (M .freqs-only) n;
     }
 
-    pub still-seated : Seated x h′
+    pub still-seated : SlotsIn x h′
     still-seated =
         let (p, d, f) = S .sixteen in
         seated-by
@@ -116,7 +116,7 @@ module _ (x : Query) (O : InOrder x) {i : ℕ} (hi : i < x .len) {h h′ : Held}
 pub slot-small : {x : Query} → InOrder x → {i : ℕ} → i < x .len → slotAt x i < 16
 slot-small O {i} h = let b = O .below i h in let f = O .few in omega arith
 
-module _ {x : Query} {h : Held} (S : Seated x h) {q : ℕ} (hq : q < x .len) where
+module _ {x : Query} {h : Held} (S : SlotsIn x h) {q : ℕ} (hq : q < x .len) where
   pub cur-small : getD (getD (h .places) q []) 6 0 < 128
   cur-small = cur-inside (x .file) (getD (x .lists) q []) (getD (h .places) q []) (S .slot q hq .list) (S .slot q hq .place)
 
@@ -140,7 +140,7 @@ module _ {x : Query} {h : Held} (S : Seated x h) {q : ℕ} (hq : q < x .len) whe
   last-low = subst (λ (z : ℕ). z ≤ 2147483647) last-here (last-cap 128 (documents (x .file)) (listIn x q) list-right (cursorAt (h .places) q .blk))
 
 -- a bound that has become known moves nothing
-module _ (x : Query) (few : x .len ≤ 16) {h : Held} (S : Seated x h) {q : ℕ} (hq : q < x .len) {bounds : List Float} {places′ : List (List ℕ)} {bounds′ : List Float} {b : Float}
+module _ (x : Query) (few : x .len ≤ 16) {h : Held} (S : SlotsIn x h) {q : ℕ} (hq : q < x .len) {bounds : List Float} {places′ : List (List ℕ)} {bounds′ : List Float} {b : Float}
     (B : Bounded (x .scoring) (x .file) (x .lists) q (h .places) bounds places′ bounds′ b) where
   abbrev h′ : Held
   h′ = held places′ (h .docs) (h .freqs)
@@ -154,7 +154,7 @@ module _ (x : Query) (few : x .len ≤ 16) {h : Held} (S : Seated x h) {q : ℕ}
   pub known-cursor : cursorAt places′ q ≡ cursorAt (h .places) q
   known-cursor = ap cursorIn row-there ∙ bound-in (x .file) (partAt (x .lists) q) (S .slot q hq .place) .1
 
-  known-seated : Seated x h′
+  known-seated : SlotsIn x h′
   known-seated =
       seated-by x S hq (ap length (B .places-are) ∙ length-set (h .places) q _ ∙ S .sixteen .0, S .sixteen .1, S .sixteen .2) known-only
       (rw row-there (bound-in (x .file) (partAt (x .lists) q) (S .slot q hq .place) .0))

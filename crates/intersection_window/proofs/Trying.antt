@@ -18,7 +18,7 @@ use Rattle.route.specs.Scorer.{Scorer, docOf, scoreHere, seek}
 use Rattle.route.specs.Intersection.{Tried, dropped, pushSec, tailOf, tryCandidate}
 use Rattle.postings.specs.Inner.Decoded.{doc-is, docIn}
 use Rattle.term_scorer.specs.Inner.Slots.{Held, MovedSlot, cursorAt, listAt, partAt}
-use Rattle.intersection_window.specs.Inner.Scorers.{InOrder, Query, Seated, StillKept, Unmoved, scorerAt, scorersBetween, secondariesIn, slotAt}
+use Rattle.intersection_window.specs.Inner.Scorers.{InOrder, Query, SlotsIn, StillKept, Unmoved, scorerAt, scorersBetween, secondariesIn, slotAt}
 use Rattle.intersection_window.specs.Inner.Candidates.{Suffixes, Tries, candidateOf}
 use Rattle.intersection_window.specs.declared.candidate.Candidate.{Candidate}
 use Rattle.intersection_window.specs.declared.candidate.Candidate.the-variants.{Due, Passed}
@@ -61,7 +61,7 @@ module _ (x : Query) (c : ℕ) (score t : Float) (suffix : List Float) (h₀ : H
   left i total h bs = tryCandidate 128 f32 c t total (scorersBetween x (h .places) i (x .len)) (drop i (f32 .nil ∷ bs))
 
   pub record Trying (i : ℕ) (total : Float) (h : Held) : Type 0 where
-    pub seated : Seated x h
+    pub seated : SlotsIn x h
     pub leader : Unmoved (slotAt x 0) h₀ h
     pub bounds : StillKept x (h₀ .places) (h .places)
     pub low : 1 ≤ i
@@ -73,7 +73,7 @@ module _ (x : Query) (c : ℕ) (score t : Float) (suffix : List Float) (h₀ : H
     long : x .len ≤ length (x .order)
     long = let e = O .long in let f = O .few in omega arith
 
-    pub begun : Seated x h₀ → Trying 1 score h₀
+    pub begun : SlotsIn x h₀ → Trying 1 score h₀
     begun S = record {
       seated = S;
       leader = unmoved (slotAt x 0) h₀;
@@ -85,7 +85,7 @@ module _ (x : Query) (c : ℕ) (score t : Float) (suffix : List Float) (h₀ : H
 
     module _ {i : ℕ} {total : Float} {h : Held} (T : Trying i total h) where
       -- what is left has answered: the secondaries before place i are those of h still
-      answers : {h′ : Held} → Seated x h′ → Unmoved (slotAt x 0) h h′ → StillKept x (h .places) (h′ .places)
+      answers : {h′ : Held} → SlotsIn x h′ → Unmoved (slotAt x 0) h h′ → StillKept x (h .places) (h′ .places)
           → scorersBetween x (h′ .places) 1 i ≡ scorersBetween x (h .places) 1 i → {r : Candidate} (o : Option Float) → r ≡ candidateOf t o
           → ((bs : List Float) → Suffixes (x .len) bs suffix → left i total h bs ≡ record { secs = scorersBetween x (h′ .places) i (x .len); found = o }) → Tries x c score t suffix h₀ h′ r
       answers {h′} S u k p {r} o e a = record {
@@ -154,7 +154,7 @@ module _ (x : Query) (c : ℕ) (score t : Float) (suffix : List Float) (h₀ : H
             doc-there : docOf (seek 128 c s) ≡ sought
             doc-there = ap docOf (sym sought-is) ∙ doc-is (x .file) (partAt (x .lists) q) (x .scoring) (cursorAt (h′ .places) q .at) ∙ sym (M .moved .doc-is)
 
-            pub seated-there : Seated x h′
+            pub seated-there : SlotsIn x h′
             seated-there = still-seated x (T .seated) hq M
 
             front-stays : scorersBetween x (h′ .places) 1 i ≡ scorersBetween x (h .places) 1 i

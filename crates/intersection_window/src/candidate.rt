@@ -6,7 +6,7 @@ use term_scorer::slot;
 ghost use Prim.Native.Nat.{_<_};
 ghost use Rattle.arrays.specs.Lent.{before, after};
 ghost use Rattle.term_scorer.specs.Inner.Slots.{held};
-ghost use Rattle.intersection_window.specs.Inner.Scorers.{query, InOrder, Seated, WeightsIn};
+ghost use Rattle.intersection_window.specs.Inner.Scorers.{query, InOrder, SlotsIn, WeightsIn};
 ghost use Rattle.intersection_window.specs.Inner.Candidates.{Tries};
 
 // Due with its score, or passed: a secondary lacks it, or it cannot exceed the threshold.
@@ -15,7 +15,8 @@ pub enum Candidate {
     Passed,
 }
 
-// Each secondary seeks the candidate, unless it is past it. The total goes on as long as the bounds of the rest may lift it above the threshold.
+// Each secondary seeks the candidate, unless it is past it.
+// The total goes on as long as the bounds of the rest may lift it above the threshold.
 pub fn try_candidate(
     file: &[u8],
     norms: FieldNormReader,
@@ -33,8 +34,14 @@ pub fn try_candidate(
     docs: &mut [[u32; 128]; 16],
     freqs: &mut [[u32; 128]; 16],
 ) -> Candidate
-    requires { ⌜ InOrder (query scoring (now file) (now lists) n (now order)) × WeightsIn (query scoring (now file) (now lists) n (now order)) norms (now weights) (now caches) × Seated (query scoring (now file) (now lists) n (now order)) (held (now places) (now docs) (now freqs)) × («candidate_doc» < 2147483647) ⌝ }
-    ensures { λ r. ⌜ Tries (query scoring (before file) (before lists) n (before order)) «candidate_doc» «leader_score» threshold (before suffix) (held (before places) (before docs) (before freqs)) (held (after places) (after docs) (after freqs)) r ⌝ }
+    requires { let asked = query scoring (now file) (now lists) n (now order) in
+        let slots = held (now places) (now docs) (now freqs) in
+        ⌜ InOrder asked × WeightsIn asked norms (now weights) (now caches) × SlotsIn asked slots × («candidate_doc» < 2147483647) ⌝ }
+    ensures { λ r.
+        let asked = query scoring (before file) (before lists) n (before order) in
+        let old = held (before places) (before docs) (before freqs) in
+        let new = held (after places) (after docs) (after freqs) in
+        ⌜ Tries asked «candidate_doc» «leader_score» threshold (before suffix) old new r ⌝ }
 {
     let mut total_score = leader_score;
     let mut i = 1usize;

@@ -8,7 +8,7 @@ use term_scorer::score;
 ghost use Prim.Native.Nat.{_≤_};
 ghost use Rattle.arrays.specs.Lent.{before, after};
 ghost use Rattle.term_scorer.specs.Inner.Slots.{held};
-ghost use Rattle.intersection_window.specs.Inner.Scorers.{query, InOrder, Seated, WeightsIn};
+ghost use Rattle.intersection_window.specs.Inner.Scorers.{query, InOrder, SlotsIn, WeightsIn};
 ghost use Rattle.intersection_window.specs.Inner.Candidates.{Hits};
 
 // A candidate whose report is due, by the place behind it, its document and its score; or none is left in the window.
@@ -36,8 +36,14 @@ pub fn next_hit(
     docs: &mut [[u32; 128]; 16],
     freqs: &mut [[u32; 128]; 16],
 ) -> Hit
-    requires { ⌜ InOrder (query scoring (now file) (now lists) n (now order)) × WeightsIn (query scoring (now file) (now lists) n (now order)) norms (now weights) (now caches) × Seated (query scoring (now file) (now lists) n (now order)) (held (now places) (now docs) (now freqs)) × (from ≤ 128) ⌝ }
-    ensures { λ r. ⌜ Hits (query scoring (before file) (before lists) n (before order)) threshold «score_threshold» «window_end» (before suffix) from (held (before places) (before docs) (before freqs)) (held (after places) (after docs) (after freqs)) r ⌝ }
+    requires { let asked = query scoring (now file) (now lists) n (now order) in
+        let slots = held (now places) (now docs) (now freqs) in
+        ⌜ InOrder asked × WeightsIn asked norms (now weights) (now caches) × SlotsIn asked slots × (from ≤ 128) ⌝ }
+    ensures { λ r.
+        let asked = query scoring (before file) (before lists) n (before order) in
+        let old = held (before places) (before docs) (before freqs) in
+        let new = held (after places) (after docs) (after freqs) in
+        ⌜ Hits asked threshold «score_threshold» «window_end» (before suffix) from old new r ⌝ }
 {
     let leader = order[0];
     let mut i = from;

@@ -10,7 +10,7 @@ ghost use Rattle.arrays.specs.Lent.{before, after};
 ghost use Rattle.term_scorer.specs.Inner.Slots.{held, Sixteen};
 ghost use Rattle.intersection_window.specs.Inner.Scorers.{query, InOrder, Ready, WeightsIn};
 ghost use Rattle.intersection_window.specs.Inner.Windows.{boundsAlong, Gathers, Turns};
-ghost use Rattle.intersection_window.specs.Inner.Candidates.{Suffixes};
+ghost use Rattle.intersection_window.specs.Inner.Candidates.{SameOutside, Suffixes};
 
 // Whether every secondary has documents left, where the first of all present blocks ends, and the secondaries' bounds summed.
 pub struct Secondaries {
@@ -26,6 +26,7 @@ pub enum Window {
     Open(u32, f32),
 }
 
+// The lower of two documents.
 fn least(a: u32, b: u32) -> u32
     ensures { λ r. ⌜ r ≡ min a b ⌝ }
 {
@@ -49,8 +50,13 @@ fn gather(
     freqs: &[[u32; 128]; 16],
     bounds: &mut [f32; 16],
 ) -> Secondaries
-    requires { ⌜ InOrder (query scoring (now file) (now lists) n (now order)) × WeightsIn (query scoring (now file) (now lists) n (now order)) norms (now weights) (now caches) × Ready (query scoring (now file) (now lists) n (now order)) (held (now places) (now docs) (now freqs)) (now bounds) × (doc ≤ 2147483647) ⌝ }
-    ensures { λ r. ⌜ Gathers (query scoring (before file) (before lists) n (before order)) doc «leader_end» (held (before places) (before docs) (before freqs)) (after places) (after bounds) r ⌝ }
+    requires { let asked = query scoring (now file) (now lists) n (now order) in
+        let slots = held (now places) (now docs) (now freqs) in
+        ⌜ InOrder asked × WeightsIn asked norms (now weights) (now caches) × Ready asked slots (now bounds) × (doc ≤ 2147483647) ⌝ }
+    ensures { λ r.
+        let asked = query scoring (before file) (before lists) n (before order) in
+        let old = held (before places) (before docs) (before freqs) in
+        ⌜ Gathers asked doc «leader_end» old (after places) (after bounds) r ⌝ }
 {
     let mut window_end = leader_end;
     let mut block_max_sum = 0.0f32;
@@ -106,8 +112,14 @@ pub fn next_window(
     freqs: &mut [[u32; 128]; 16],
     bounds: &mut [f32; 16],
 ) -> Window
-    requires { ⌜ InOrder (query scoring (now file) (now lists) n (now order)) × WeightsIn (query scoring (now file) (now lists) n (now order)) norms (now weights) (now caches) × Ready (query scoring (now file) (now lists) n (now order)) (held (now places) (now docs) (now freqs)) (now bounds) × (doc < 2147483647) ⌝ }
-    ensures { λ r. ⌜ Turns (query scoring (before file) (before lists) n (before order)) threshold doc (held (before places) (before docs) (before freqs)) r (held (after places) (after docs) (after freqs)) (after bounds) ⌝ }
+    requires { let asked = query scoring (now file) (now lists) n (now order) in
+        let slots = held (now places) (now docs) (now freqs) in
+        ⌜ InOrder asked × WeightsIn asked norms (now weights) (now caches) × Ready asked slots (now bounds) × (doc < 2147483647) ⌝ }
+    ensures { λ r.
+        let asked = query scoring (before file) (before lists) n (before order) in
+        let old = held (before places) (before docs) (before freqs) in
+        let new = held (after places) (after docs) (after freqs) in
+        ⌜ Turns asked threshold doc old r new (after bounds) ⌝ }
 {
     let leader = order[0];
     slot::seek_block(file, lists, leader, doc, places);
@@ -154,7 +166,9 @@ pub fn next_window(
 // Behind each secondary the sum of the bounds that follow, added from the last on.
 pub fn sum_suffixes(n: usize, order: &[usize; 16], bounds: &[f32; 16], suffix: &mut [f32; 16])
     requires { ⌜ (0 < n) × (n ≤ 16) × Sixteen (now order) × ((i : ℕ) → i < n → getD (now order) i 0 < 16) × Sixteen (now suffix) ⌝ }
-    ensures { λ _. ⌜ Suffixes n (boundsAlong n (before order) (before bounds)) (after suffix) × Sixteen (after suffix) ⌝ }
+    ensures { λ _.
+        ⌜ Suffixes n (boundsAlong n (before order) (before bounds)) (after suffix) × Sixteen (after suffix)
+        × SameOutside n (before suffix) (after suffix) ⌝ }
 {
     let mut running = 0.0f32;
     let mut i = n;

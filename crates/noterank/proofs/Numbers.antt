@@ -193,6 +193,7 @@ module _ (c : Call) where
             let G = given-of (refusalOf (requestOf c)) n list A in
             subst (λ (k : ℕ). Given (answer k n list) old (result number count new)) (sym (call-inside e))
             (record { number-is = en ∙ G .number-is; count-is = ec ∙ G .count-is; written = G .written })
+
         go : (w : ℕ) → c .walk ≡ w → OutcomeBy w (requestOf c) old r new → Ranked c old (result number count new)
         go zero q R = record {
           list = R .list;

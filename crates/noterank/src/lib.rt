@@ -73,14 +73,7 @@ fn or_else(first: u32, later: u32) -> u32
 }
 
 // The refusal of a walk, a mode, a scoring or a rule outside its numbers, in the table's order, or 0.
-fn numbers_refusal(
-    file: &[u8],
-    query: &[u32],
-    walk: u32,
-    mode: u32,
-    scoring: u32,
-    rule: u32,
-) -> u32
+fn numbers_refusal(file: &[u8], query: &[u32], walk: u32, mode: u32, scoring: u32, rule: u32) -> u32
     ensures { λ r. ⌜ r ≡ numbersRefusal (before file) (before query) walk mode scoring rule ⌝ }
 {
     if walk <= 1 {
@@ -160,10 +153,18 @@ pub extern "C" fn noterank_run(
         let old = rows (before documents) (before scores) in
         let new = rows (after documents) (after scores) in
         ⌜ Ranked
-            (record {
-                file = before file; query = before query; walk = walk; mode = mode; scoring = scoring; rule = rule; start = start; k = k;
-                script = before script })
-            old (result r (after count) new) ⌝ }
+        (record {
+          file = before file;
+          query = before query;
+          walk = walk;
+          mode = mode;
+          scoring = scoring;
+          rule = rule;
+          start = start;
+          k = k;
+          script = before script;
+        })
+        old (result r (after count) new) ⌝ }
 {
     let number = numbers_refusal(file, query, walk, mode, scoring, rule);
     if number != 0 {

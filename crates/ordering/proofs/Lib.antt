@@ -8,6 +8,7 @@ pub mod Returning
 pub mod Pivoting
 pub mod Seeking
 pub mod Kept
+pub mod Behind
 pub mod Carried
 pub mod OnRoute
 pub mod Found

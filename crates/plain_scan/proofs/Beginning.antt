@@ -2,14 +2,13 @@
 use mathlib.Core.Path.{_≡_, refl, sym, ap, _∙_, subst}
 use mathlib.Core.Bool.{Bool}
 use mathlib.Core.List.{List, [], _∷_}
-use Prim.Native.Nat.{ℕ, suc, _+_, _<_}
-use native.Mathlib.Nat.{zero-add}
+use Prim.Native.Nat.{ℕ, suc, _<_}
 use native.Mathlib.Omega.{arith}
-use lib.ListN.{length, getD}
+use lib.ListN.{length}
 use lib.Ieee.{Float}
 use Rattle.route.specs.Cursor.{Cursor}
 use Rattle.route.specs.F32.{f32}
-use Rattle.route.specs.Plain.{Mode, hit, present}
+use Rattle.route.specs.Plain.{Mode, hit, present, plain}
 use Rattle.route.specs.Postings.{Postings}
 use Rattle.route.specs.Report.{Report}
 use Rattle.route.specs.Inner.Cursors.{Wf, Past}
@@ -17,32 +16,33 @@ use Rattle.route.proofs.Cursor.{fresh-is}
 use Rattle.route.proofs.Scan.{scan-ext}
 use Rattle.bm25.specs.declared.Scoring.{Scoring}
 use Rattle.ordering.specs.declared.TermScorer.{TermScorer}
+use Rattle.rule.specs.Rules.{ruleOf, startOf}
 use Rattle.rule.specs.declared.Rule.{Rule}
 use Rattle.notefile.specs.Header.{documents}
-use Rattle.notefile.specs.Parts.{partOf}
 use Rattle.notefile.specs.declared.part.Part.{Part}
 use Rattle.reports.specs.Inner.Runs.{callbackOf}
-use Rattle.decoded.specs.Lists.{listOf, postingsOf, queried}
+use Rattle.decoded.specs.Lists.{queried}
 use Rattle.postings.specs.Inner.Decoded.{docIn}
-use Rattle.term_scorer.specs.Inner.Slots.{Held, partAt, listAt}
-use Rattle.query.specs.Inner.Fresh.{Arrays, QueryOpened}
+use Rattle.term_scorer.specs.Inner.Slots.{Held, partAt, listAt, listsFrom}
+use Rattle.query.specs.Inner.Openings.{Arrays, QueryOpened}
+use Rattle.query.proofs.Opening as opening
 use Rattle.plain_scan.specs.Inner.Found.{foundOf, hitIn}
-use Rattle.plain_scan.specs.Inner.Heads.{listsFrom, AllWeighed, HeadsOf, Ready, Standing, StandsFrom}
-use Rattle.plain_scan.specs.Inner.Runs.{hits, needsAll, plainOf, scanned, PlainRan}
+use Rattle.plain_scan.specs.Inner.Heads.{AllWeighed, HeadsOf, ReadyLists, Standing, StandsFrom}
+use Rattle.plain_scan.specs.Inner.Runs.{hits, needsAll, scanned, PlainRan}
 use Rattle.plain_scan.specs.declared.PlainRun.{PlainRun}
 use Rattle.plain_scan.proofs.Slots.{ok}
 use Rattle.plain_scan.proofs.Sums.{hit-is}
 
 -- lists as `open_lists` leaves them are ready
 pub opened-ready : (scoring : Scoring) (file query : List ℕ) (a : Arrays) (scorers : List TermScorer) → QueryOpened scoring file query (length query) a scorers
-    → Ready file query (a .lists) (a .weights) (a .caches) (a .held) scorers
+    → ReadyLists file query (a .lists) (a .weights) (a .caches) (a .held) scorers
 opened-ready scoring file query a scorers Q = record {
-  slots = λ q l. let F = Q .fresh-slots q l in record { slot = F .slot; part-is = F .part-is; cursor-is = F .cursor-is; weighed = F .weighed };
+  slots = λ q l. Q .fresh-slots q l .open-slot;
   docs-are = λ q l. ap (λ (s : TermScorer). s .doc) (Q .scorers-are q l);
 }
 
 module _ (scoring : Scoring) (file query : List ℕ) (lists : List (List ℕ)) (weights : List Float) (caches : List (List Float)) (h : Held) (scorers : List TermScorer)
-    (R : Ready file query lists weights caches h scorers) where
+    (R : ReadyLists file query lists weights caches h scorers) where
   pub all-weighed : AllWeighed lists weights caches (length query)
   all-weighed q l = R .slots q l .weighed
 
@@ -64,25 +64,13 @@ module _ (scoring : Scoring) (file query : List ℕ) (lists : List (List ℕ)) (
   pub standing-begun : {heads : List ℕ} → HeadsOf scorers (length query) heads → Standing scoring file lists (length query) 0 h heads
   standing-begun E = record { long = E .long; each = stands E }
 
-  -- ---- the slots' lists are the query's
-
-  named : (q : ℕ) (numbers : List ℕ) → ((p : ℕ) → p < length numbers → partAt lists (q + p) ≡ partOf file (getD numbers p 0)) → listsFrom scoring file lists q (length numbers) ≡ queried scoring file numbers
-  unfolding queried
-  named q [] f = refl
-  named q (l ∷ ls) f =
-      let e : partAt lists q ≡ partOf file l = ap (partAt lists) (let z : q ≡ q + 0 = omega arith in z) ∙ f 0 (omega arith) in
-      let g : (p : ℕ) → p < length ls → partAt lists (suc q + p) ≡ partOf file (getD ls p 0) =
-      λ p k. ap (partAt lists) (let z : suc q + p ≡ q + suc p = omega arith in z) ∙ f (suc p) (omega (arith, k)) in
-      ap (λ (x : Part). listOf scoring file x ∷ listsFrom scoring file lists (suc q) (length ls)) e
-      ∙ ap (λ (xs : List (Postings Float)). postingsOf scoring file l ∷ xs) (named (suc q) ls g)
-
   as-many : (numbers : List ℕ) → length (queried scoring file numbers) ≡ length numbers
   unfolding queried
   as-many [] = refl
   as-many (l ∷ ls) = ap suc (as-many ls)
 
   lists-are : listsFrom scoring file lists 0 (length query) ≡ queried scoring file query
-  lists-are = named 0 query (λ p k. ap (partAt lists) (zero-add p) ∙ R .slots p k .part-is)
+  lists-are = opening.lists-are scoring file lists query (λ q l. R .slots q l .part-is)
 
   -- a match is the mode's
   same-hits : (m : Mode) (d : ℕ) → hits scoring file lists (length query) (needsAll m) d ≡ hit f32 m (queried scoring file query) d
@@ -94,7 +82,7 @@ module _ (scoring : Scoring) (file query : List ℕ) (lists : List (List ℕ)) (
   -- AND SO ARE THE REPORTS
   pub plain-ran : (rule : Rule) (script : List Float) {all : Bool} {documents₀ documents′ : List ℕ} {scores₀ values : List Float} {r : PlainRun}
       → PlainRan (scanned scoring file lists (length query) all rule script) documents₀ scores₀ r documents′ values
-      → (m : Mode) → needsAll m ≡ all → PlainRan (plainOf scoring file query m rule script) documents₀ scores₀ r documents′ values
+      → (m : Mode) → needsAll m ≡ all → PlainRan (plain f32 m (queried scoring file query) (ruleOf rule script) (startOf rule) (documents file)) documents₀ scores₀ r documents′ values
   plain-ran rule script {documents₀ = documents₀} {documents′ = documents′} {scores₀ = scores₀} {values = values} {r = r} P m e =
       subst (λ (whole : List (Report Float)). PlainRan whole documents₀ scores₀ r documents′ values)
       (ap (λ (b : Bool). scanned scoring file lists (length query) b rule script) (sym e)

@@ -10,11 +10,11 @@ use lib.Seq.{getD-set-same, getD-set-other}
 use Rattle.arrays.proofs.Order.{lt-or-ge}
 use Rattle.ordering.specs.Inner.Scorers.{noScorer}
 use Rattle.ordering.specs.declared.TermScorer.{TermScorer}
-use Rattle.term_scorer.specs.Inner.Slots.{Sixteen}
+use Rattle.term_scorer.specs.Inner.Slots.{Sixteen, Blank}
 use Rattle.plain_scan.specs.Inner.Heads.{leastIn, HeadsOf}
 
-pub no-heads : (scorers : List TermScorer) (heads : List ℕ) → Sixteen heads → HeadsOf scorers 0 heads
-no-heads scorers heads l = record { long = l; are = λ q h. absurd (omega (arith, h)) }
+pub no-heads : (scorers : List TermScorer) (heads : List ℕ) → Sixteen heads → Blank 2147483647 0 heads → HeadsOf scorers 0 heads
+no-heads scorers heads l b = record { long = l; are = λ q h. absurd (omega (arith, h)); behind = b }
 
 pub one-more-head : (scorers : List TermScorer) (heads : List ℕ) (n : ℕ) → n < 16 → HeadsOf scorers n heads → HeadsOf scorers (n + 1) (set heads n (getD scorers n noScorer .doc))
 one-more-head scorers heads n h H = record {
@@ -25,6 +25,7 @@ one-more-head scorers heads n h H = record {
         let e : q ≡ n = omega (arith, g, k) in
         rw e (getD-set-same heads n _ 0 (omega (arith, h, H .long)))
   ];
+  behind = record { blank = λ q g k. getD-set-other heads n q _ 2147483647 (λ e. omega (arith, e, g)) ∙ H .behind .blank q (omega arith) k };
 }
 
 -- one document more, below the least so far or not

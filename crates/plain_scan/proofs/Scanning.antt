@@ -28,9 +28,9 @@ use Rattle.reports.specs.Rows.{rowsOf, Written}
 use Rattle.reports.specs.Inner.Rows.{Kept, Reported}
 use Rattle.reports.specs.Inner.Runs.{callbackOf, outcomeOf}
 use Rattle.reports.proofs.RowLaws.{begun, count-is, documents-long, one-more, scores-long, threshold-is}
-use Rattle.term_scorer.specs.Inner.Slots.{Held, listAt}
+use Rattle.term_scorer.specs.Inner.Slots.{Held, listAt, listsFrom}
 use Rattle.plain_scan.specs.Inner.Found.{dueIn, foundOf, hitIn, matchesIn}
-use Rattle.plain_scan.specs.Inner.Heads.{leastIn, listsFrom, Standing, Taken}
+use Rattle.plain_scan.specs.Inner.Heads.{leastIn, Standing, Taken}
 use Rattle.plain_scan.specs.Inner.Runs.{hits, scanned, PlainRan}
 use Rattle.plain_scan.specs.declared.Found.{Found}
 use Rattle.plain_scan.proofs.Heading.{least-above, least-cap, least-found, least-low}

@@ -13,13 +13,17 @@ ghost use mathlib.Core.Path.{_≡_};
 ghost use Prim.Native.Nat.{_≤_, _<_};
 ghost use lib.ListN.{length};
 ghost use Rattle.arrays.specs.Lent.{before, after};
-ghost use Rattle.route.specs.Plain.{Mode};
+ghost use Rattle.route.specs.Plain.{Mode, plain};
+ghost use Rattle.route.specs.F32.{f32};
+ghost use Rattle.rule.specs.Rules.{ruleOf, startOf};
 ghost use Rattle.rule.specs.Inner.Follows.{Keeps};
+ghost use Rattle.notefile.specs.Header as header;
 ghost use Rattle.notefile.specs.Header.{normReader};
+ghost use Rattle.decoded.specs.Lists.{queried};
 ghost use Rattle.term_scorer.specs.Inner.Slots.{held};
 ghost use Rattle.plain_scan.specs.Inner.Found.{dueIn, withScore};
-ghost use Rattle.plain_scan.specs.Inner.Heads.{leastIn, AllWeighed, HeadsOf, Ready, Standing, Taken};
-ghost use Rattle.plain_scan.specs.Inner.Runs.{needsAll, plainOf, PlainRan, scanned};
+ghost use Rattle.plain_scan.specs.Inner.Heads.{leastIn, AllWeighed, HeadsOf, ReadyLists, Standing, Taken};
+ghost use Rattle.plain_scan.specs.Inner.Runs.{needsAll, PlainRan, scanned};
 
 // What the lists have of a document: how many have it, and the sum of its scores there.
 struct Found {
@@ -116,8 +120,12 @@ fn take_document(
     docs: &mut [[u32; 128]; 16],
     freqs: &mut [[u32; 128]; 16],
 ) -> Found
-    requires { ⌜ (n ≤ 16) × (norms ≡ normReader (now file)) × AllWeighed (now lists) (now weights) (now caches) n × Standing scoring (now file) (now lists) n doc (held (now places) (now docs) (now freqs)) (now heads) × (doc < 2147483647) ⌝ }
-    ensures { λ r. ⌜ Taken scoring (before file) (before lists) n doc r (held (after places) (after docs) (after freqs)) (after heads) ⌝ }
+    requires { let slots = held (now places) (now docs) (now freqs) in
+        ⌜ (n ≤ 16) × (norms ≡ normReader (now file)) × AllWeighed (now lists) (now weights) (now caches) n
+        × Standing scoring (now file) (now lists) n doc slots (now heads) × (doc < 2147483647) ⌝ }
+    ensures { λ r.
+        let new = held (after places) (after docs) (after freqs) in
+        ⌜ Taken scoring (before file) (before lists) n doc r new (after heads) ⌝ }
 {
     let mut found = Found {
         matched: 0,
@@ -167,8 +175,12 @@ fn scan(
     documents: &mut [u32],
     scores: &mut [f32],
 ) -> PlainRun
-    requires { ⌜ (n ≤ 16) × (norms ≡ normReader (now file)) × AllWeighed (now lists) (now weights) (now caches) n × Standing scoring (now file) (now lists) n 0 (held (now places) (now docs) (now freqs)) (now heads) × Keeps rule ⌝ }
-    ensures { λ r. ⌜ PlainRan (scanned scoring (before file) (before lists) n all rule (before script)) (before documents) (before scores) r (after documents) (after scores) ⌝ }
+    requires { let slots = held (now places) (now docs) (now freqs) in
+        ⌜ (n ≤ 16) × (norms ≡ normReader (now file)) × AllWeighed (now lists) (now weights) (now caches) n
+        × Standing scoring (now file) (now lists) n 0 slots (now heads) × Keeps rule ⌝ }
+    ensures { λ r.
+        ⌜ PlainRan (scanned scoring (before file) (before lists) n all rule (before script)) (before documents) (before scores)
+        r (after documents) (after scores) ⌝ }
 {
     let room = rows(documents, scores);
     let mut threshold = Threshold::new(rule);
@@ -225,8 +237,14 @@ pub fn plain_scan(
     documents: &mut [u32],
     scores: &mut [f32],
 ) -> PlainRun
-    requires { ⌜ (length (now query) ≤ 16) × (norms ≡ normReader (now file)) × Ready (now file) (now query) (now lists) (now weights) (now caches) (held (now places) (now docs) (now freqs)) scorers × Keeps rule ⌝ }
-    ensures { λ r. ⌜ ((m : Mode) → needsAll m ≡ all → PlainRan (plainOf scoring (before file) (before query) m rule (before script)) (before documents) (before scores) r (after documents) (after scores)) ⌝ }
+    requires { let slots = held (now places) (now docs) (now freqs) in
+        ⌜ (length (now query) ≤ 16) × (norms ≡ normReader (now file))
+        × ReadyLists (now file) (now query) (now lists) (now weights) (now caches) slots scorers × Keeps rule ⌝ }
+    ensures { λ r.
+        let named = queried scoring (before file) (before query) in
+        ⌜ ((m : Mode) → needsAll m ≡ all
+        → PlainRan (plain f32 m named (ruleOf rule (before script)) (startOf rule) (header.documents (before file)))
+        (before documents) (before scores) r (after documents) (after scores)) ⌝ }
 {
     let n = query.len();
     let mut heads = heads_of(scorers, n);

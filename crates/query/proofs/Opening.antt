@@ -5,12 +5,13 @@ use mathlib.Core.Logic.{inl, inr}
 use Prim.Native.Nat.{ℕ, suc, _+_, _≤_, _<_}
 use native.Mathlib.Nat.{add-zero, zero-add}
 use native.Mathlib.Omega.{arith}
-use lib.ListN.{length, getD, set, take, drop, length-set}
+use lib.ListN.{length, getD, set, take, drop, length-set, getD-replicate, replicate}
 use lib.Seq.{drop-cons, getD-set-same, getD-set-other}
 use lib.Ieee.{Float, nan, binary32, ofBits}
 use Rattle.arrays.proofs.Order.{lt-or-ge}
 use Rattle.route.specs.Cursor.{Cursor, fresh}
 use Rattle.route.specs.Scorer.{Scorer, scorersFrom}
+use Rattle.route.specs.Postings.{Postings}
 use Rattle.bm25.specs.Scoring.{scored}
 use Rattle.bm25.specs.Inner.Bound.{listBoundIn}
 use Rattle.bm25.specs.declared.Bm25Weight.{Bm25Weight}
@@ -31,9 +32,9 @@ use Rattle.decoded.specs.Lists.{listOf, postingsOf, queried}
 use Rattle.postings.specs.Inner.Decoded.{docIn, ListIn}
 use Rattle.slot_rows.specs.Inner.Rows.{partIn, partRow, PartRow}
 use Rattle.slot_rows.proofs.Rows.{part-back}
-use Rattle.term_scorer.specs.Inner.Slots.{Held, Sixteen, Opened, partAt, listAt, cursorAt}
+use Rattle.term_scorer.specs.Inner.Slots.{Held, Sixteen, Opened, partAt, listAt, cursorAt, listsFrom}
 use Rattle.term_scorer.specs.Inner.Weights.{Weighed}
-use Rattle.query.specs.Inner.Fresh.{Arrays, Room, FreshSlot, OnlySlot, OneOpened, QueryOpened}
+use Rattle.query.specs.Inner.Openings.{Arrays, Room, FreshSlot, OnlySlot, OneOpened, QueryOpened, Untouched}
 
 -- a list's number is below the header's
 pub listed : (file : List ℕ) (h : Header) → h ≡ headerOf file → (l : ℕ) → l < listCount file → l < h .lists
@@ -50,10 +51,10 @@ there xs q x d h l = getD-set-same xs q x d (omega (arith, h, l))
 put : {A : Type 0} (xs : List A) (q : ℕ) (x d : A) → q < 16 → Sixteen xs → set xs q x ≡ set xs q (getD (set xs q x) q d)
 put xs q x d h l = ap (set xs q) (sym (there xs q x d h l))
 
-module _ (scoring : Scoring) (file : List ℕ) (l q : ℕ) (h : q < 16) {x : Part} (part-is : x ≡ partOf file l) (L : ListIn file x) {w : Bm25Weight} (W : WeightIn x w) {top : Float} (top-is : top ≡ scored scoring (listBoundIn w))
+module _ (scoring : Scoring) (file : List ℕ) (l q : ℕ) (h : q < 16) {x : Part} (part-is : x ≡ partOf file l) (L : ListIn file x) {w : Bm25Weight} (W : WeightIn x w) {max-score : Float} (max-known : max-score ≡ scored scoring (listBoundIn w))
     (a : Arrays) (R : Room a) {lists′ : List (List ℕ)} {held′ : Held} {doc : ℕ} (O : Opened file x q (a .lists) lists′ (a .held) held′ doc) where
   abbrev b : Arrays
-  b = record { lists = lists′; held = held′; weights = set (a .weights) q (w .weight); caches = set (a .caches) q (w .cache); max-scores = set (a .max-scores) q top }
+  b = record { lists = lists′; held = held′; weights = set (a .weights) q (w .weight); caches = set (a .caches) q (w .cache); max-scores = set (a .max-scores) q max-score }
 
   row-is : getD lists′ q [] ≡ partRow x
   row-is = ap (λ (z : List (List ℕ)). getD z q []) (O .lists-only) ∙ there (a .lists) q (partRow x) [] h (R .lists)
@@ -66,26 +67,28 @@ module _ (scoring : Scoring) (file : List ℕ) (l q : ℕ) (h : q < 16) {x : Par
       rw (there (a .weights) q (w .weight) nan h (R .weights), there (a .caches) q (w .cache) [] h (R .caches))
       (subst (λ (z : Part). WeighedIn z (w .weight) (w .cache)) (sym part-there) (apart x W))
 
-  top-there : getD (b .max-scores) q nan ≡ listAt scoring file lists′ q .top
+  max-there : getD (b .max-scores) q nan ≡ listAt scoring file lists′ q .top
   unfolding listOf listBound scoreFor
-  top-there =
-      there (a .max-scores) q top nan h (R .max-scores) ∙ top-is ∙ ap (scored scoring) (max-score-is (ofBits binary32 (x .weight)) (ofBits binary32 (x .average)) w W)
+  max-there =
+      there (a .max-scores) q max-score nan h (R .max-scores) ∙ max-known ∙ ap (scored scoring) (max-score-is (ofBits binary32 (x .weight)) (ofBits binary32 (x .average)) w W)
       ∙ ap (λ (z : Part). listOf scoring file z .top) (sym part-there)
 
   pub one-opened : OneOpened scoring file l q a b doc
   one-opened = record {
     fresh-slot = record {
-      slot = record {
-        sixteen = (same-long (a .held .places) q _ (O .opened .places-only) (R .places), same-long (a .held .docs) q _ (O .opened .docs-only) (R .docs), same-long (a .held .freqs) q _ (O .opened .freqs-only) (R .freqs));
-        part-row = subst PartRow (sym row-is) (O .part-row);
-        list = subst (ListIn file) (sym part-there) L;
-        place = O .opened .moved .place;
+      open-slot = record {
+        slot = record {
+          sixteen = (same-long (a .held .places) q _ (O .opened .places-only) (R .places), same-long (a .held .docs) q _ (O .opened .docs-only) (R .docs), same-long (a .held .freqs) q _ (O .opened .freqs-only) (R .freqs));
+          part-row = subst PartRow (sym row-is) (O .part-row);
+          list = subst (ListIn file) (sym part-there) L;
+          place = O .opened .moved .place;
+        };
+        part-is = part-there ∙ part-is;
+        cursor-is = O .opened .moved .cursor-is Unstepped;
+        weighed = weight-there;
       };
-      part-is = part-there ∙ part-is;
-      cursor-is = O .opened .moved .cursor-is Unstepped;
       unknown = O .unknown;
-      weighed = weight-there;
-      max-is = top-there;
+      max-is = max-there;
     };
     only = record {
       lists = O .lists-only ∙ ap (set (a .lists) q) (sym row-is);
@@ -94,7 +97,7 @@ module _ (scoring : Scoring) (file : List ℕ) (l q : ℕ) (h : q < 16) {x : Par
       freqs = O .opened .freqs-only;
       weights = put (a .weights) q (w .weight) nan h (R .weights);
       caches = put (a .caches) q (w .cache) [] h (R .caches);
-      max-scores = put (a .max-scores) q top nan h (R .max-scores);
+      max-scores = put (a .max-scores) q max-score nan h (R .max-scores);
     };
     doc-is =
         O .opened .moved .doc-is ∙ ap (λ (z : Part). docIn file z (cursorAt (held′ .places) q .at)) (part-there ∙ part-is)
@@ -130,17 +133,51 @@ module _ (scoring : Scoring) (file : List ℕ) (a b : Arrays) (n : ℕ) (O : Onl
       let ec = other (a .caches) q n _ [] (O .caches) ne in
       let em = other (a .max-scores) q n _ nan (O .max-scores) ne in
       record {
-        slot = record { sixteen = (R .places, R .docs, R .freqs); part-row = rw el (F .slot .part-row); list = rw el (F .slot .list); place = rw (el, ep, ed, ef) (F .slot .place) };
-        part-is = rw el (F .part-is);
-        cursor-is = rw ep (F .cursor-is);
+        open-slot = let S = F .open-slot in record {
+          slot = record { sixteen = (R .places, R .docs, R .freqs); part-row = rw el (S .slot .part-row); list = rw el (S .slot .list); place = rw (el, ep, ed, ef) (S .slot .place) };
+          part-is = rw el (S .part-is);
+          cursor-is = rw ep (S .cursor-is);
+          weighed = rw (el, ew, ec) (S .weighed);
+        };
         unknown = rw ep (F .unknown);
-        weighed = rw (el, ew, ec) (F .weighed);
         max-is = rw (el, em) (F .max-is);
       }
 
+-- and so are the slots behind
+pub none-touched : (a : Arrays) → Untouched 0 a a
+none-touched a = record {
+  lists = λ q h. refl;
+  places = λ q h. refl;
+  docs = λ q h. refl;
+  freqs = λ q h. refl;
+  weights = λ q h. refl;
+  caches = λ q h. refl;
+  max-scores = λ q h. refl;
+}
+
+pub behind-as : {n m : ℕ} {a b : Arrays} → n ≡ m → Untouched n a b → Untouched m a b
+behind-as {a = a} {b = b} e U = subst (λ (z : ℕ). Untouched z a b) e U
+
+pub behind-one : (n : ℕ) (a₀ a b : Arrays) → Untouched n a₀ a → OnlySlot n a b → Untouched (n + 1) a₀ b
+behind-one n a₀ a b U O = record {
+  lists = λ q h. other (a .lists) q n _ [] (O .lists) (λ e. omega (arith, e)) ∙ U .lists q (omega arith);
+  places = λ q h. other (a .held .places) q n _ [] (O .places) (λ e. omega (arith, e)) ∙ U .places q (omega arith);
+  docs = λ q h. other (a .held .docs) q n _ [] (O .docs) (λ e. omega (arith, e)) ∙ U .docs q (omega arith);
+  freqs = λ q h. other (a .held .freqs) q n _ [] (O .freqs) (λ e. omega (arith, e)) ∙ U .freqs q (omega arith);
+  weights = λ q h. other (a .weights) q n _ nan (O .weights) (λ e. omega (arith, e)) ∙ U .weights q (omega arith);
+  caches = λ q h. other (a .caches) q n _ [] (O .caches) (λ e. omega (arith, e)) ∙ U .caches q (omega arith);
+  max-scores = λ q h. other (a .max-scores) q n _ nan (O .max-scores) (λ e. omega (arith, e)) ∙ U .max-scores q (omega arith);
+}
+
 module _ (scoring : Scoring) (file query : List ℕ) where
-  pub none-opened : (a : Arrays) (scorers : List TermScorer) → Room a → length scorers ≡ 16 → QueryOpened scoring file query 0 a scorers
-  none-opened a scorers R k = record { room = R; fresh-slots = λ q h. absurd (omega (arith, h)); long = k; scorers-are = λ q h. absurd (omega (arith, h)) }
+  pub none-opened : (a : Arrays) → Room a → QueryOpened scoring file query 0 a (replicate 16 noScorer)
+  none-opened a R = record {
+    room = R;
+    fresh-slots = λ q h. absurd (omega (arith, h));
+    long = refl;
+    scorers-are = λ q h. absurd (omega (arith, h));
+    behind = record { blank = λ q h k. getD-replicate 16 q noScorer noScorer k };
+  }
 
   pub one-more : (n : ℕ) (a b : Arrays) (scorers : List TermScorer) {doc : ℕ} → n < 16 → QueryOpened scoring file query n a scorers → OneOpened scoring file (getD query n 0) n a b doc
       → QueryOpened scoring file query (n + 1) b (set scorers n (record { doc = doc; slot = n }))
@@ -158,10 +195,28 @@ module _ (scoring : Scoring) (file query : List ℕ) where
           | inr g ↦ subst (λ (z : ℕ). getD (set scorers n (record { doc = doc; slot = n })) z noScorer ≡ record { doc = docIn file (partOf file (getD query z 0)) 0; slot = z }) (only-n q n g k)
               (getD-set-same scorers n _ noScorer (omega (arith, h, Q .long)) ∙ ap (λ (d : ℕ). record { doc = d; slot = n }) (O .doc-is))
         ];
+        behind = record { blank = λ q g k. getD-set-other scorers n q _ noScorer (λ e. omega (arith, e, g)) ∙ Q .behind .blank q (omega arith) k };
       }
     where
       only-n : (q m : ℕ) → m ≤ q → q < m + 1 → m ≡ q
       only-n q m g k = omega arith
+
+-- ---- the slots' lists are the query's
+
+module _ (scoring : Scoring) (file : List ℕ) (lists : List (List ℕ)) where
+  lists-from : (ls : List ℕ) (i : ℕ) → ((k : ℕ) → k < length ls → partAt lists (i + k) ≡ partOf file (getD ls k 0)) → listsFrom scoring file lists i (length ls) ≡ queried scoring file ls
+  unfolding queried
+  lists-from [] i e = refl
+  lists-from (l ∷ ls) i e =
+      let here : partAt lists i ≡ partOf file l = ap (partAt lists) (sym (add-zero i)) ∙ e 0 (omega arith) in
+      ap (λ (x : Part). listOf scoring file x ∷ listsFrom scoring file lists (suc i) (length ls)) here
+      ∙ ap (λ (z : List (Postings Float)). postingsOf scoring file l ∷ z) (lists-from ls (suc i) (λ k h. ap (partAt lists) (next i k) ∙ e (suc k) (omega arith)))
+    where
+      next : (i k : ℕ) → suc i + k ≡ i + suc k
+      next i k = omega arith
+
+  pub lists-are : (query : List ℕ) → ((q : ℕ) → q < length query → partAt lists q ≡ partOf file (getD query q 0)) → listsFrom scoring file lists 0 (length query) ≡ queried scoring file query
+  lists-are query e = lists-from query 0 (λ k h. ap (partAt lists) (zero-add k) ∙ e k h)
 
 -- ---- the route's scorers
 
@@ -172,7 +227,7 @@ module _ (scoring : Scoring) (file query : List ℕ) (a : Arrays) (scorers : Lis
 
   one-scorer : (q l : ℕ) → q < length query → getD query q 0 ≡ l → scorerIn (getD scorers q noScorer) ≡ record { ord = q; list = postingsOf scoring file l; cur = fresh }
   one-scorer q l h e =
-      let F = Q .fresh-slots q h in
+      let F = Q .fresh-slots q h .open-slot in
       ap scorerIn (Q .scorers-are q h)
       ∙ ap (λ (x : Part). record { ord = q; list = listOf scoring file x; cur = cursorAt (a .held .places) q }) (F .part-is ∙ ap (partOf file) e)
       ∙ ap (λ (c : Cursor). record { ord = q; list = postingsOf scoring file l; cur = c }) (F .cursor-is)

@@ -12,7 +12,7 @@ ghost use Rattle.arrays.specs.Lent.{before, after};
 ghost use Rattle.notefile.specs.Header.{listCount};
 ghost use Rattle.notefile.specs.Refusal.{fileRefusal};
 ghost use Rattle.notefile.specs.Inner.Structs.{headerOf};
-ghost use Rattle.query.specs.Inner.Fresh.{arrays, Named, OneOpened, QueryOpened, Room};
+ghost use Rattle.query.specs.Inner.Openings.{arrays, Named, OneOpened, QueryOpened, Room, Untouched};
 
 // List l in slot q, on its first posting, with its weight, its norms and its bound.
 fn open_list(
@@ -29,8 +29,15 @@ fn open_list(
     caches: &mut [[f32; 256]; 16],
     max_scores: &mut [f32; 16],
 ) -> u32
-    requires { ⌜ (fileRefusal (now file) ≡ 0) × (h ≡ headerOf (now file)) × (l < listCount (now file)) × (q < 16) × Room (arrays (now lists) (now places) (now docs) (now freqs) (now weights) (now caches) (now «max_scores»)) ⌝ }
-    ensures { λ r. ⌜ OneOpened scoring (before file) l q (arrays (before lists) (before places) (before docs) (before freqs) (before weights) (before caches) (before «max_scores»)) (arrays (after lists) (after places) (after docs) (after freqs) (after weights) (after caches) (after «max_scores»)) r ⌝ }
+    requires { let slots = arrays (now lists) (now places) (now docs) (now freqs)
+        (now weights) (now caches) (now «max_scores») in
+        ⌜ (fileRefusal (now file) ≡ 0) × (h ≡ headerOf (now file)) × (l < listCount (now file)) × (q < 16) × Room slots ⌝ }
+    ensures { λ r.
+        let old = arrays (before lists) (before places) (before docs) (before freqs)
+        (before weights) (before caches) (before «max_scores») in
+        let new = arrays (after lists) (after places) (after docs) (after freqs)
+        (after weights) (after caches) (after «max_scores») in
+        ⌜ OneOpened scoring (before file) l q old new r ⌝ }
 {
     let x = read_part(file, h, l);
     let w = Bm25Weight::new(f32::from_bits(x.weight), f32::from_bits(x.average));
@@ -55,8 +62,17 @@ pub fn open_lists(
     caches: &mut [[f32; 256]; 16],
     max_scores: &mut [f32; 16],
 ) -> [TermScorer; 16]
-    requires { ⌜ (fileRefusal (now file) ≡ 0) × (h ≡ headerOf (now file)) × (length (now query) ≤ 16) × Named (now file) (now query) × Room (arrays (now lists) (now places) (now docs) (now freqs) (now weights) (now caches) (now «max_scores»)) ⌝ }
-    ensures { λ r. ⌜ QueryOpened scoring (before file) (before query) (length (before query)) (arrays (after lists) (after places) (after docs) (after freqs) (after weights) (after caches) (after «max_scores»)) r ⌝ }
+    requires { let slots = arrays (now lists) (now places) (now docs) (now freqs)
+        (now weights) (now caches) (now «max_scores») in
+        ⌜ (fileRefusal (now file) ≡ 0) × (h ≡ headerOf (now file)) × (length (now query) ≤ 16) × Named (now file) (now query)
+        × Room slots ⌝ }
+    ensures { λ r.
+        let old = arrays (before lists) (before places) (before docs) (before freqs)
+        (before weights) (before caches) (before «max_scores») in
+        let new = arrays (after lists) (after places) (after docs) (after freqs)
+        (after weights) (after caches) (after «max_scores») in
+        ⌜ QueryOpened scoring (before file) (before query) (length (before query)) new r
+        × Untouched (length (before query)) old new ⌝ }
 {
     let mut scorers = [TermScorer { doc: 0, slot: 0 }; 16];
     let mut q = 0usize;

@@ -11,7 +11,6 @@ use Rattle.route.specs.Report.{Report}
 use Rattle.route.specs.Rule as rules
 use Rattle.route.specs.Rule.{limited}
 use Rattle.bm25.specs.declared.Scoring.{Scoring}
-use Rattle.ordering.specs.declared.TermScorer.{TermScorer}
 use Rattle.notefile.specs.Refusal.{fileRefusal}
 use Rattle.notefile.specs.Inner.Structs.{headerOf}
 use Rattle.notefile.specs.Inner.Given.{HeaderIn}
@@ -19,10 +18,8 @@ use Rattle.notefile.specs.declared.header.Header.{Header}
 use Rattle.notefile.proofs.Accepted.{header-inside}
 use Rattle.reports.specs.Rows.{Rows, rowsOf}
 use Rattle.reports.proofs.RowLaws.{none-written}
-use Rattle.query.specs.Inner.Fresh.{Arrays, QueryOpened}
 use Rattle.request.specs.Request.{Request, refusalOf}
 use Rattle.request.proofs.Requests.{refusal-below}
-use Rattle.plain_scan.specs.Inner.Heads.{Ready}
 use Rattle.plain_scan.specs.Inner.Runs.{PlainRan}
 use Rattle.plain_scan.specs.declared.PlainRun.{PlainRun}
 use Rattle.ranking.specs.Answers.{outcomeFor, answer, plainList, Answered, RunIs, PlainIs}
@@ -50,14 +47,6 @@ let-answered r n list e {old} {o} {new} A = subst (λ (z : ℕ). Answered (answe
 -- the header read is the file's
 pub header-of : (file : List ℕ) → fileRefusal file ≡ 0 → {h : Header} → h ≡ headerOf file → HeaderIn file h
 header-of file accepted e = subst (HeaderIn file) (sym e) (header-inside file accepted)
-
--- the slots that a query has been given stand ready for the plain scan
-pub ready : (scoring : Scoring) (file query : List ℕ) (a : Arrays) (scorers : List TermScorer) → QueryOpened scoring file query (length query) a scorers
-    → Ready file query (a .lists) (a .weights) (a .caches) (a .held) scorers
-ready scoring file query a scorers Q = record {
-  slots = λ q h. let F = Q .fresh-slots q h in record { slot = F .slot; part-is = F .part-is; cursor-is = F .cursor-is; weighed = F .weighed };
-  docs-are = λ q h. ap (λ (s : TermScorer). s .doc) (Q .scorers-are q h);
-}
 
 -- what the plain scan leaves is its list's answer
 pub plain-answered : (whole : List (Report Float)) {old new : Rows} (p : PlainRun) → PlainRan whole (old .documents) (old .scores) p (new .documents) (new .scores)

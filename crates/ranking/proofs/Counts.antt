@@ -105,13 +105,16 @@ same-by-bits xs ys a b = (ap (map bitsOf), back xs ys a b)
   where
     head-doc : (x y : Report Float) (xs ys : List (Report Float)) → _≡_ {A = List (Report ℕ)} (bitsOf x ∷ map bitsOf xs) (bitsOf y ∷ map bitsOf ys) → bitsOf x ≡ bitsOf y
     head-doc x y xs ys e = cc
+
     tail-is : (x y : Report Float) (xs ys : List (Report Float)) → _≡_ {A = List (Report ℕ)} (bitsOf x ∷ map bitsOf xs) (bitsOf y ∷ map bitsOf ys) → map bitsOf xs ≡ map bitsOf ys
     tail-is x y xs ys e = cc
+
     one : (x y : Report Float) → Number (x .score) → Number (y .score) → bitsOf x ≡ bitsOf y → x ≡ y
     one x y a b e =
         let d : x .doc ≡ y .doc = ap (λ (r : Report ℕ). r .doc) e in
         let s : x .score ≡ y .score = same-bits (x .score) (y .score) (a .1) (b .1) (ap (λ (r : Report ℕ). r .score) e) in
         ap (λ (z : ℕ). record { doc = z; score = x .score }) d ∙ ap (λ (z : Float). record { doc = y .doc; score = z }) s
+
     back : (xs ys : List (Report Float)) → Numbered xs → Numbered ys → map bitsOf xs ≡ map bitsOf ys → xs ≡ ys
     back [] [] a b e = refl
     back [] (y ∷ ys) a b e = let z : _≡_ {A = ℕ} 0 1 = cc in absurd (omega arith)

@@ -30,10 +30,9 @@ use Rattle.reports.specs.Rows.{Rows}
 use Rattle.decoded.specs.Lists.{listOf, queried}
 use Rattle.postings.specs.Inner.Decoded.{docIn, doc-is}
 use Rattle.term_scorer.specs.Inner.Slots.{Sixteen, cursorAt, partAt}
-use Rattle.query.specs.Inner.Fresh.{Arrays, QueryOpened}
+use Rattle.query.specs.Inner.Openings.{Arrays, QueryOpened}
 use Rattle.query.proofs.Opening.{opened-scorers}
-use Rattle.block_wand_union.specs.Inner.Seats.{Seat, Seated, Topped, scorerAt, terms}
-use Rattle.block_wand_union.specs.Inner.Fresh.{Fresh}
+use Rattle.block_wand_union.specs.Inner.Seats.{Seat, Seated, MaxScoreAt, scorerAt, terms, OnFirst}
 use Rattle.ranking.specs.Inner.Runs.{scorerOf, Finished}
 use Rattle.ranking.specs.declared.outcome.Outcome.{Outcome}
 
@@ -65,8 +64,8 @@ module _ (scoring : Scoring) (file query : List ℕ) (few : length query ≤ 16)
   -- what holds of each scorer that was opened
   record Opened (s : TermScorer) : Type 0 where
     seat : (bounds : List Float) → Seat file (a .lists) (terms scoring (a .weights) (a .caches) bounds) (a .held) s
-    top : Topped file (a .lists) scoring (a .max-scores) s
-    begins : Fresh (a .held .places) s
+    max-score : MaxScoreAt file (a .lists) scoring (a .max-scores) s
+    begins : OnFirst (a .held .places) s
     doc : SameDoc f s
     slot-in : s .slot < n
     scorer-is : f s ≡ scorerOf scoring file (getD query (s .slot) 0) (s .slot)
@@ -74,23 +73,24 @@ module _ (scoring : Scoring) (file query : List ℕ) (few : length query ≤ 16)
   one-opened : (q : ℕ) → q < n → Opened (getD scorers q noScorer)
   one-opened q h =
       let F = Q .fresh-slots q h in
+      let S = F .open-slot in
       let e = Q .scorers-are q h in
       let d : docIn file (partOf file (getD query q 0)) 0 ≡ docIn file (partAt (a .lists) q) (cursorAt (a .held .places) q .at) =
-      ap (λ (x : Part). docIn file x 0) (sym (F .part-is)) ∙ ap (λ (c : Cursor). docIn file (partAt (a .lists) q) (c .at)) (sym (F .cursor-is)) in
+      ap (λ (x : Part). docIn file x 0) (sym (S .part-is)) ∙ ap (λ (c : Cursor). docIn file (partAt (a .lists) q) (c .at)) (sym (S .cursor-is)) in
       subst Opened (sym e)
       (record {
         seat = λ bounds. record {
-          stand = record { slot-in = omega (arith, h, few); slot = F .slot; doc-is = d };
-          weighed = F .weighed;
+          stand = record { slot-in = omega (arith, h, few); slot = S .slot; doc-is = d };
+          weighed = S .weighed;
           bound = λ k. absurd (omega (arith, k, F .unknown));
         };
-        top = sym (F .max-is);
-        begins = F .cursor-is;
+        max-score = sym (F .max-is);
+        begins = S .cursor-is;
         doc = doc-is file (partAt (a .lists) q) scoring (cursorAt (a .held .places) q .at) ∙ sym d;
         slot-in = h;
         scorer-is =
-            ap (λ (x : Part). record { ord = q; list = listOf scoring file x; cur = cursorAt (a .held .places) q }) (F .part-is)
-            ∙ ap (λ (c : Cursor). record { ord = q; list = listOf scoring file (partOf file (getD query q 0)); cur = c }) (F .cursor-is);
+            ap (λ (x : Part). record { ord = q; list = listOf scoring file x; cur = cursorAt (a .held .places) q }) (S .part-is)
+            ∙ ap (λ (c : Cursor). record { ord = q; list = listOf scoring file (partOf file (getD query q 0)); cur = c }) (S .cursor-is);
       })
 
   long : n ≤ length scorers
@@ -117,11 +117,11 @@ module _ (scoring : Scoring) (file query : List ℕ) (few : length query ≤ 16)
     left-seated bounds sixteen = record {
       seats = imp _ (λ s o. o .seat bounds) left left-opened;
       apart = subst Apart (sym (L .are)) (kept-apart (retain-kept byDoc (take n scorers)) all-apart);
-      tops = imp _ (λ s o. o .top) left left-opened;
+      max-scores = imp _ (λ s o. o .max-score) left left-opened;
       sixteen = sixteen;
     }
 
-    pub left-fresh : All (Fresh (a .held .places)) left
+    pub left-fresh : All (OnFirst (a .held .places)) left
     left-fresh = imp _ (λ s o. o .begins) left left-opened
 
     -- the scorers left are the route's

@@ -3,15 +3,15 @@ use mathlib.Core.Path.{_≡_, refl, sym, ap, _∙_}
 use mathlib.Core.List.{List, [], _∷_, _++_, map}
 use Prim.Native.Nat.{ℕ, suc, _<_}
 use native.Mathlib.Omega.{arith}
-use lib.ListN.{length, getD, drop, set, take, length-append, length-map, length-drop}
-use lib.Seq.{drop-cons, set-at, take-at, append-snoc}
+use lib.ListN.{length, getD, drop, set, length-append, length-map, length-drop}
+use lib.Seq.{drop-cons, set-at, append-snoc}
 use lib.Ieee.{Float, nan}
 use Rattle.route.specs.Report.{Report}
 use Rattle.route.specs.Rule.{scores}
 use Rattle.rule.specs.Inner.Follows.{Follows}
 use Rattle.rule.specs.declared.Rule.{Rule}
 use Rattle.rule.specs.declared.Threshold.{Threshold}
-use Rattle.reports.specs.Rows.{docs, rowsOf, Written}
+use Rattle.reports.specs.Rows.{rowsOf, Written}
 use Rattle.reports.specs.Inner.Rows.{Kept, Reported}
 use Rattle.reports.specs.Inner.Runs.{callbackOf}
 
@@ -64,16 +64,10 @@ module _ {rule : Rule} {script : List Float} {rs : List (Report Float)} {documen
 pub begun : {rule : Rule} {script : List Float} {t : Threshold} (documents : List ℕ) (values : List Float) → Follows rule script [] t → Kept rule script [] documents values t documents values
 begun documents values f = record { written = none-written documents values; follows = f }
 
--- what is read back: the buffers are as long as they were, and begin with the reports
+-- the buffers are as long as they were
 module _ {rs : List (Report Float)} {documents₀ documents : List ℕ} {scores₀ values : List Float} (K : Written rs documents₀ scores₀ documents values) where
   pub documents-long : length documents ≡ length documents₀
   documents-long = let f = K .fit in ap length (K .documents-are) ∙ simp (length-append, length-map, length-drop) (omega arith)
 
   pub scores-long : length values ≡ length scores₀
   scores-long = let f = K .fit in ap length (K .scores-are) ∙ simp (length-append, length-map, length-drop) (omega arith)
-
-  pub documents-front : take (length rs) documents ≡ docs rs
-  documents-front = ap (take (length rs)) (K .documents-are) ∙ take-at (docs rs) (drop (length rs) documents₀) (length rs) (length-map rs (λ r. r .doc))
-
-  pub scores-front : take (length rs) values ≡ scores rs
-  scores-front = ap (take (length rs)) (K .scores-are) ∙ take-at (scores rs) (drop (length rs) scores₀) (length rs) (length-map rs (λ r. r .score))

@@ -30,7 +30,8 @@ pub fn report(
     scores: &mut [f32],
 ) -> Threshold
     requires { ⌜ Keeps rule × (t .reports < length (now documents)) × (t .reports < length (now scores)) ⌝ }
-    ensures { λ r. ⌜ Reported rule (before script) t doc score (before documents) (before scores) r (after documents) (after scores) ⌝ }
+    ensures { λ r.
+        ⌜ Reported rule (before script) t doc score (before documents) (before scores) r (after documents) (after scores) ⌝ }
 {
     let row = t.reports;
     documents[row] = doc;

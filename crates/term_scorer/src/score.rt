@@ -1,4 +1,5 @@
-// Scores and block bounds by slot. Norms and weights stand in lent arrays, so that one posting is scored without a copy of its list's norms.
+// Scores and block bounds by slot. Norms and weights stand in lent arrays, so that one posting is scored
+// without a copy of its list's norms.
 use bm25::Bm25Weight;
 use bm25::MAX_FIELDNORM_ID;
 use bm25::MAX_TERM_FREQ;
@@ -50,7 +51,10 @@ pub fn score(
     docs: &[[u32; 128]; 16],
     freqs: &[[u32; 128]; 16],
 ) -> f32
-    requires { ⌜ (q < 16) × (norms ≡ normReader (now file)) × SlotIn (now file) (now lists) (held (now places) (now docs) (now freqs)) q × Weighed (now lists) (now weights) (now caches) q × (doc ≡ docIn (now file) (partAt (now lists) q) (cursorAt (now places) q .at)) × (doc < 2147483647) ⌝ }
+    requires { let slots = held (now places) (now docs) (now freqs) in
+        ⌜ (q < 16) × (norms ≡ normReader (now file)) × SlotIn (now file) (now lists) slots q
+        × Weighed (now lists) (now weights) (now caches) q
+        × (doc ≡ docIn (now file) (partAt (now lists) q) (cursorAt (now places) q .at)) × (doc < 2147483647) ⌝ }
     ensures { λ r. ⌜ r ≡ listAt scoring (before file) (before lists) q .score (cursorAt (before places) q .at) ⌝ }
 {
     let id = norms.fieldnorm_id(file, doc);
@@ -73,7 +77,10 @@ pub fn score_in_block(
     docs: &[[u32; 128]; 16],
     freqs: &[[u32; 128]; 16],
 ) -> f32
-    requires { ⌜ (q < 16) × (norms ≡ normReader (now file)) × SlotIn (now file) (now lists) (held (now places) (now docs) (now freqs)) q × Weighed (now lists) (now weights) (now caches) q × (i < 128) × (doc ≡ docIn (now file) (partAt (now lists) q) (start 128 (cursorAt (now places) q .dec) + i)) × (doc < 2147483647) ⌝ }
+    requires { let slots = held (now places) (now docs) (now freqs) in
+        ⌜ (q < 16) × (norms ≡ normReader (now file)) × SlotIn (now file) (now lists) slots q
+        × Weighed (now lists) (now weights) (now caches) q × (i < 128)
+        × (doc ≡ docIn (now file) (partAt (now lists) q) (start 128 (cursorAt (now places) q .dec) + i)) × (doc < 2147483647) ⌝ }
     ensures { λ r. ⌜ r ≡ listAt scoring (before file) (before lists) q .score (start 128 (cursorAt (before places) q .dec) + i) ⌝ }
 {
     let id = norms.fieldnorm_id(file, doc);
@@ -92,7 +99,9 @@ fn bound_of(
     docs: &[u32; 128],
     freqs: &[u32; 128],
 ) -> f32
-    requires { ⌜ (norms ≡ normReader (now file)) × PartRow (now list) × ListIn (now file) (partIn (now list)) × PlaceIn (now file) (partIn (now list)) (now place) (now docs) (now freqs) × WeighedIn (partIn (now list)) weight (now cache) ⌝ }
+    requires { ⌜ (norms ≡ normReader (now file)) × PartRow (now list) × ListIn (now file) (partIn (now list))
+        × PlaceIn (now file) (partIn (now list)) (now place) (now docs) (now freqs)
+        × WeighedIn (partIn (now list)) weight (now cache) ⌝ }
     ensures { λ r. ⌜ r ≡ blockMax 128 f32 (listOf scoring (before file) (partIn (before list))) (cursorIn (before place)) ⌝ }
 {
     let x = part_of(list);
@@ -139,8 +148,12 @@ pub fn block_max(
     freqs: &[[u32; 128]; 16],
     bounds: &mut [f32; 16],
 ) -> f32
-    requires { ⌜ (q < 16) × (norms ≡ normReader (now file)) × SlotIn (now file) (now lists) (held (now places) (now docs) (now freqs)) q × Weighed (now lists) (now weights) (now caches) q × BoundKept scoring (now file) (now lists) (now places) (now bounds) q × Sixteen (now bounds) ⌝ }
-    ensures { λ r. ⌜ Bounded scoring (before file) (before lists) q (before places) (before bounds) (after places) (after bounds) r ⌝ }
+    requires { let slots = held (now places) (now docs) (now freqs) in
+        ⌜ (q < 16) × (norms ≡ normReader (now file)) × SlotIn (now file) (now lists) slots q
+        × Weighed (now lists) (now weights) (now caches) q
+        × BoundKept scoring (now file) (now lists) (now places) (now bounds) q × Sixteen (now bounds) ⌝ }
+    ensures { λ r.
+        ⌜ Bounded scoring (before file) (before lists) q (before places) (before bounds) (after places) (after bounds) r ⌝ }
 {
     if places[q][BOUND] == KNOWN {
         return bounds[q];
@@ -175,8 +188,12 @@ pub fn known_block_max(
     freqs: &[[u32; 128]; 16],
     bounds: &mut [f32; 16],
 ) -> f32
-    requires { ⌜ (q < 16) × (norms ≡ normReader (now file)) × SlotIn (now file) (now lists) (held (now places) (now docs) (now freqs)) q × Weighed (now lists) (now weights) (now caches) q × BoundKept scoring (now file) (now lists) (now places) (now bounds) q × Sixteen (now bounds) ⌝ }
-    ensures { λ r. ⌜ Bounded scoring (before file) (before lists) q (before places) (before bounds) (after places) (after bounds) r ⌝ }
+    requires { let slots = held (now places) (now docs) (now freqs) in
+        ⌜ (q < 16) × (norms ≡ normReader (now file)) × SlotIn (now file) (now lists) slots q
+        × Weighed (now lists) (now weights) (now caches) q
+        × BoundKept scoring (now file) (now lists) (now places) (now bounds) q × Sixteen (now bounds) ⌝ }
+    ensures { λ r.
+        ⌜ Bounded scoring (before file) (before lists) q (before places) (before bounds) (after places) (after bounds) r ⌝ }
 {
     let state = places[q][BOUND];
     if state == KNOWN {

@@ -30,8 +30,12 @@ pub fn open(
     docs: &mut [[u32; 128]; 16],
     freqs: &mut [[u32; 128]; 16],
 ) -> u32
-    requires { ⌜ (q < 16) × ListIn (now file) x × Sixteen (now lists) × Sixteen (now places) × Sixteen (now docs) × Sixteen (now freqs) ⌝ }
-    ensures { λ r. ⌜ Opened (before file) x q (before lists) (after lists) (held (before places) (before docs) (before freqs)) (held (after places) (after docs) (after freqs)) r ⌝ }
+    requires { ⌜ (q < 16) × ListIn (now file) x
+        × Sixteen (now lists) × Sixteen (now places) × Sixteen (now docs) × Sixteen (now freqs) ⌝ }
+    ensures { λ r.
+        let old = held (before places) (before docs) (before freqs) in
+        let new = held (after places) (after docs) (after freqs) in
+        ⌜ Opened (before file) x q (before lists) (after lists) old new r ⌝ }
 {
     keep_part(x, &mut lists[q]);
     row::open(file, x, &mut places[q], &mut docs[q], &mut freqs[q])
@@ -76,7 +80,10 @@ pub fn seek_block(
     places: &mut [[usize; 8]; 16],
 )
     requires { ⌜ (q < 16) × StandingIn (now file) (now lists) (now places) q ⌝ }
-    ensures { λ _. ⌜ Shallowed (before file) (before lists) q (λ s. seekBlockIn (listAt s (before file) (before lists) q) 128 target (cursorAt (before places) q)) (before places) (after places) ⌝ }
+    ensures { λ _.
+        ⌜ Shallowed (before file) (before lists) q
+        (λ s. seekBlockIn (listAt s (before file) (before lists) q) 128 target (cursorAt (before places) q))
+        (before places) (after places) ⌝ }
 {
     row::seek_block(file, &lists[q], target, &mut places[q]);
 }
@@ -90,7 +97,10 @@ pub fn shallow_seek(
     places: &mut [[usize; 8]; 16],
 )
     requires { ⌜ (q < 16) × StandingIn (now file) (now lists) (now places) q ⌝ }
-    ensures { λ _. ⌜ Shallowed (before file) (before lists) q (λ s. seekBlockIn (listAt s (before file) (before lists) q) 128 target (cursorAt (before places) q)) (before places) (after places) ⌝ }
+    ensures { λ _.
+        ⌜ Shallowed (before file) (before lists) q
+        (λ s. seekBlockIn (listAt s (before file) (before lists) q) 128 target (cursorAt (before places) q))
+        (before places) (after places) ⌝ }
 {
     let last = places[q][LAST];
     if target as usize <= last {
@@ -110,8 +120,15 @@ pub fn seek(
     docs: &mut [[u32; 128]; 16],
     freqs: &mut [[u32; 128]; 16],
 ) -> u32
-    requires { ⌜ (q < 16) × SlotIn (now file) (now lists) (held (now places) (now docs) (now freqs)) q × (doc ≡ docIn (now file) (partAt (now lists) q) (cursorAt (now places) q .at)) × (target ≤ 2147483647) ⌝ }
-    ensures { λ r. ⌜ MovedSlot (before file) (before lists) q (λ s. seekIn (listAt s (before file) (before lists) q) 128 target (cursorAt (before places) q)) (held (before places) (before docs) (before freqs)) (held (after places) (after docs) (after freqs)) r ⌝ }
+    requires { let slots = held (now places) (now docs) (now freqs) in
+        ⌜ (q < 16) × SlotIn (now file) (now lists) slots q
+        × (doc ≡ docIn (now file) (partAt (now lists) q) (cursorAt (now places) q .at)) × (target ≤ 2147483647) ⌝ }
+    ensures { λ r.
+        let old = held (before places) (before docs) (before freqs) in
+        let new = held (after places) (after docs) (after freqs) in
+        ⌜ MovedSlot (before file) (before lists) q
+        (λ s. seekIn (listAt s (before file) (before lists) q) 128 target (cursorAt (before places) q))
+        old new r ⌝ }
 {
     row::seek(
         file,
@@ -133,8 +150,14 @@ pub fn advance(
     docs: &mut [[u32; 128]; 16],
     freqs: &mut [[u32; 128]; 16],
 ) -> u32
-    requires { ⌜ (q < 16) × SlotIn (now file) (now lists) (held (now places) (now docs) (now freqs)) q × (cursorAt (now places) q .blk ≤ fullBlocks (partAt (now lists) q)) ⌝ }
-    ensures { λ r. ⌜ MovedSlot (before file) (before lists) q (λ s. advanceIn (listAt s (before file) (before lists) q) 128 (cursorAt (before places) q)) (held (before places) (before docs) (before freqs)) (held (after places) (after docs) (after freqs)) r ⌝ }
+    requires { let slots = held (now places) (now docs) (now freqs) in
+        ⌜ (q < 16) × SlotIn (now file) (now lists) slots q × (cursorAt (now places) q .blk ≤ fullBlocks (partAt (now lists) q)) ⌝ }
+    ensures { λ r.
+        let old = held (before places) (before docs) (before freqs) in
+        let new = held (after places) (after docs) (after freqs) in
+        ⌜ MovedSlot (before file) (before lists) q
+        (λ s. advanceIn (listAt s (before file) (before lists) q) 128 (cursorAt (before places) q))
+        old new r ⌝ }
 {
     row::advance(file, &lists[q], &mut places[q], &mut docs[q], &mut freqs[q])
 }
@@ -149,7 +172,10 @@ pub fn load(
     freqs: &mut [[u32; 128]; 16],
 ) -> u32
     requires { ⌜ (q < 16) × SlotIn (now file) (now lists) (held (now places) (now docs) (now freqs)) q ⌝ }
-    ensures { λ r. ⌜ MovedSlot (before file) (before lists) q (λ _. firstOf (cursorAt (before places) q)) (held (before places) (before docs) (before freqs)) (held (after places) (after docs) (after freqs)) r ⌝ }
+    ensures { λ r.
+        let old = held (before places) (before docs) (before freqs) in
+        let new = held (after places) (after docs) (after freqs) in
+        ⌜ MovedSlot (before file) (before lists) q (λ _. firstOf (cursorAt (before places) q)) old new r ⌝ }
 {
     row::load(file, &lists[q], &mut places[q], &mut docs[q], &mut freqs[q])
 }

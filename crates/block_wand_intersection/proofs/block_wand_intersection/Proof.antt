@@ -1,6 +1,6 @@
 -- `block_wand_intersection` meets its contract: the order by size is the route's, and the run over it is the route's run.
 use borrow.Author.Needs.{needs}
-use Rattle.block_wand_intersection.proofs.Ordered.{answers, in-order, ready, sizes-small, tops, weights-in}
+use Rattle.block_wand_intersection.proofs.Ordered.{answers, in-order, ready, sizes-small, max-scores-in, weights-in}
 use Rattle.block_wand_intersection.proofs.block_wand_intersection.Statement.{statement}
 use Rattle.block_wand_intersection.proofs.block_wand_intersection.Tie as tie
 
@@ -13,7 +13,7 @@ run-in-order-requires c κs =
     let a = s .before .before .before .before .before in
     let F = a .pre .0 in
     let S = s .by-size .ensures in
-    (in-order F S, weights-in F S, ready F S, a .pre .1, tops F S)
+    (in-order F S, weights-in F S, ready F S, a .pre .1, max-scores-in F S)
 
 same-length : tie.Need-same-length
 same-length c = search needs

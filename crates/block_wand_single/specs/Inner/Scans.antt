@@ -47,13 +47,15 @@ abbrev pub Scores : List ℕ → Part → Scoring → List ℕ → List ℕ → 
 Scores file x scoring docs freqs values = Holds nan 128 (λ i. scored scoring (scoreAmong file x docs freqs i)) values
 
 -- what `hunt` leaves: a block whose bound is above the threshold, or the end
-pub record Hunted (file : List ℕ) (x : Part) (scoring : Scoring) (t : Float) (p : SegmentPostings) (doc : ℕ) (docs freqs : List ℕ) (r : Scan) : Type 0 where
+pub record Hunted (file : List ℕ) (x : Part) (scoring : Scoring) (t : Float) (p : SegmentPostings) (doc : ℕ) (docs freqs : List ℕ)
+    (r : Scan) : Type 0 where
   pub quietly : QuietTurns scoring file x t (placeOf hunt p doc) (placeOf (cond (r .over) over hunt) (r .postings) (r .doc))
   pub placed : Placed file x (r .postings) docs freqs
   pub above : r .over ≡ false → lt t (blockMax 128 f32 (listOf scoring file x) (cursorOf (r .postings))) ≡ true
 
 -- what `approach` leaves: a posting of such a block, with the scores of the block, or the end
-pub record Approached (file : List ℕ) (x : Part) (scoring : Scoring) (t : Float) (p : SegmentPostings) (doc : ℕ) (r : Scan) (docs freqs : List ℕ) (values : List Float) : Type 0 where
+pub record Approached (file : List ℕ) (x : Part) (scoring : Scoring) (t : Float) (p : SegmentPostings) (doc : ℕ) (r : Scan)
+    (docs freqs : List ℕ) (values : List Float) : Type 0 where
   pub quietly : QuietTurns scoring file x t (placeOf hunt p doc) (placeOf (cond (r .over) over walk) (r .postings) (r .doc))
   pub placed : Placed file x (r .postings) docs freqs
   pub scores : r .over ≡ false → Scores file x scoring docs freqs values

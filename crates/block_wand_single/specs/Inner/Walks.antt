@@ -7,7 +7,6 @@ use lib.ListN.{getD}
 use lib.Ieee.{Float, nan, lt}
 use Rattle.route.specs.F32.{f32}
 use Rattle.route.specs.Report.{Report, Callback, offer}
-use Rattle.rule.specs.Inner.Follows.{Follows}
 use Rattle.rule.specs.declared.Rule.{Rule}
 use Rattle.rule.specs.declared.Threshold.{Threshold}
 use Rattle.reports.specs.Rows.{rowsOf}
@@ -22,12 +21,6 @@ pub record FirstAbove (values : List Float) (from n : ℕ) (t : Float) (r : ℕ)
   pub quiet : (k : ℕ) → from ≤ k → k < r → lt t (getD values k nan) ≡ false
   pub due : r < n → lt t (getD values r nan) ≡ true
 
--- a threshold follows some reports, for which there are rows
-pub record Begun (rule : Rule) (script : List Float) (t : Threshold) (documents : List ℕ) (scores : List Float) : Type 0 where
-  pub before : List Float
-  pub follows : Follows rule script before t
-  pub fits : t .reports ≤ rowsOf documents scores
-
 -- m postings from a place on, each offered to the callback
 abbrev pub offered : (K : Callback Float) → List ℕ → List Float → ℕ → ℕ → K .State → K .State
 offered K docs values from zero rs = rs
@@ -39,10 +32,12 @@ WalkStopped false n values rows t place = place ≡ n
 WalkStopped true n values rows t place = (place < n) × (lt (t .now) (getD values place nan) ≡ true) × (t .reports ≡ rows)
 
 -- what `walk` leaves: the postings before its place were offered, whatever was reported before
-pub record Walks (rule : Rule) (script : List Float) (t : Threshold) (from n : ℕ) (docs : List ℕ) (values : List Float) (documents : List ℕ) (scores : List Float) (r : Walked) (documents′ : List ℕ) (scores′ : List Float) : Type 0 where
+pub record Walks (rule : Rule) (script : List Float) (t : Threshold) (from n : ℕ) (docs : List ℕ) (values : List Float)
+    (documents : List ℕ) (scores : List Float) (r : Walked) (documents′ : List ℕ) (scores′ : List Float) : Type 0 where
   pub taken : ℕ
   pub place-is : r .place ≡ from + taken
   pub within : r .place ≤ n
-  pub kept : (rs : List (Report Float)) (documents₀ : List ℕ) (scores₀ : List Float) → Kept rule script rs documents₀ scores₀ t documents scores
+  pub kept : (rs : List (Report Float)) (documents₀ : List ℕ) (scores₀ : List Float)
+      → Kept rule script rs documents₀ scores₀ t documents scores
       → Kept rule script (offered (callbackOf rule script) docs values from taken rs) documents₀ scores₀ (r .threshold) documents′ scores′
   pub stopped : WalkStopped (r .full) n values (rowsOf documents scores) (r .threshold) (r .place)

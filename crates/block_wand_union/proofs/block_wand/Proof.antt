@@ -35,7 +35,7 @@ sort-by-doc-requires c κs = search needs
 loop-holds : tie.Need-loop-holds Inv-loop μ-loop
 loop-holds c =
     let a = start c in
-    running (a .args .file .now) (a .args .lists .now) (a .args .max-scores .now) _ (a .args .rule) (a .args .script .now) (a .args .documents .now) (a .args .scores .now) _ (take (a .args .n) (a .args .scorers)) (a .pre .3) (a .pre .4) (c .sort-by-doc .result) (a .args .n) (c .sort-by-doc .ensures) (a .pre .0) (search needs) (c .before .new .ensures (a .args .script .now))
+    running (a .args .file .now) (a .args .lists .now) (a .args .max-scores .now) _ (a .args .rule) (a .args .script .now) (a .args .documents .now) (a .args .scores .now) _ (take (a .args .n) (a .args .scorers)) (a .pre .3) (a .pre .4) (c .sort-by-doc .result) (a .args .n) (c .sort-by-doc .ensures .0) (a .pre .0) (search needs) (c .before .new .ensures (a .args .script .now))
 
 turn-requires : tie.Need-turn-requires Inv-loop μ-loop
 turn-requires c κs =
@@ -64,7 +64,7 @@ returns c =
     let a = start (k .before .before) in
     let S = k .before .loop .inv in
     let W = k .before .before in
-    whole-run (a .args .file .now) (a .args .lists .now) (a .args .max-scores .now) _ (a .args .rule) (a .args .script .now) (a .args .documents .now) (a .args .scores .now) _ (take (a .args .n) (a .args .scorers)) (a .pre .3) (a .pre .4) (W .sort-by-doc .result) (a .args .n) (W .sort-by-doc .ensures) (filled (a .args .file .now) (a .args .lists .now) (a .args .max-scores .now) _ (a .args .rule) (a .args .script .now) (a .args .documents .now) (a .args .scores .now) _ S (k .loop-test .taken) (c .before .before .before .before .turn .ensures) (c .before .before .if1 .taken) (c .if2 .taken ∙ W .before .before .rows .ensures))
+    whole-run (a .args .file .now) (a .args .lists .now) (a .args .max-scores .now) _ (a .args .rule) (a .args .script .now) (a .args .documents .now) (a .args .scores .now) _ (take (a .args .n) (a .args .scorers)) (a .pre .3) (a .pre .4) (W .sort-by-doc .result) (a .args .n) (W .sort-by-doc .ensures .0) (filled (a .args .file .now) (a .args .lists .now) (a .args .max-scores .now) _ (a .args .rule) (a .args .script .now) (a .args .documents .now) (a .args .scores .now) _ S (k .loop-test .taken) (c .before .before .before .before .turn .ensures) (c .before .before .if1 .taken) (c .if2 .taken ∙ W .before .before .rows .ensures))
 
 report-requires : tie.Need-report-requires Inv-loop μ-loop
 report-requires c κs =
@@ -118,7 +118,7 @@ returns-2 : tie.Need-returns-2 Inv-loop μ-loop
 returns-2 c =
     let a = start (c .before .before) in
     let S = c .before .loop .inv in
-    whole-run (a .args .file .now) (a .args .lists .now) (a .args .max-scores .now) _ (a .args .rule) (a .args .script .now) (a .args .documents .now) (a .args .scores .now) _ (take (a .args .n) (a .args .scorers)) (a .pre .3) (a .pre .4) (c .before .before .sort-by-doc .result) (a .args .n) (c .before .before .sort-by-doc .ensures) (ends (a .args .file .now) (a .args .lists .now) (a .args .max-scores .now) _ (a .args .rule) (a .args .script .now) (a .args .documents .now) (a .args .scores .now) _ S (c .loop-test .left))
+    whole-run (a .args .file .now) (a .args .lists .now) (a .args .max-scores .now) _ (a .args .rule) (a .args .script .now) (a .args .documents .now) (a .args .scores .now) _ (take (a .args .n) (a .args .scorers)) (a .pre .3) (a .pre .4) (c .before .before .sort-by-doc .result) (a .args .n) (c .before .before .sort-by-doc .ensures .0) (ends (a .args .file .now) (a .args .lists .now) (a .args .max-scores .now) _ (a .args .rule) (a .args .script .now) (a .args .documents .now) (a .args .scores .now) _ S (c .loop-test .left))
 
 pub block-wand-spec : {M : Type 1} → statement M
 block-wand-spec =

@@ -15,7 +15,7 @@ use Rattle.ordering.specs.Inner.Scorers.{Moving}
 use Rattle.ordering.specs.declared.Scorers.{Scorers}
 use Rattle.ordering.specs.declared.TermScorer.{TermScorer}
 use Rattle.term_scorer.specs.Inner.Slots.{Held, lastAt, Sixteen}
-use Rattle.block_wand_union.specs.Inner.Seats.{Carried, Seat, Terms, Topped, scorerAt, terms}
+use Rattle.block_wand_union.specs.Inner.Seats.{Carried, Seat, Terms, MaxScoreAt, onRoute, scorerAt, terms}
 use Rattle.block_wand_union.specs.declared.align.Alignment.{Alignment}
 
 -- the least of t and the last documents of the scorers' present blocks
@@ -29,31 +29,34 @@ LastRead places s = (s .slot < 16) × (lastAt places (s .slot) < 4294967296)
 
 module _ (file : List ℕ) (lists : List (List ℕ)) where
   -- the first len of l have shallowly sought doc, and r is the sum of their block bounds, in their order
-  pub record BlocksSought (T : Terms) (h : Held) (doc len : ℕ) (h′ : Held) (bounds′ : List Float) (r : Float) (l : List TermScorer) : Type 0 where
+  pub record BlocksSought (T : Terms) (h : Held) (doc len : ℕ)
+      (h′ : Held) (bounds′ : List Float) (r : Float) (l : List TermScorer) : Type 0 where
     pub seats : All (Seat file lists (terms (T .scoring) (T .weights) (T .caches) bounds′) h′) l
-    pub moving : Moving (seekBlock 128 doc) (scorerAt file lists (T .scoring) (h .places)) l len (scorerAt file lists (T .scoring) (h′ .places)) l
-    pub sum-is : r ≡ sum f32 (map (blockMaxScore 128 f32) (map (scorerAt file lists (T .scoring) (h′ .places)) (take len l)))
+    pub moving : Moving (seekBlock 128 doc) (scorerAt file lists (T .scoring) (h .places)) l len
+        (scorerAt file lists (T .scoring) (h′ .places)) l
+    pub sum-is : r ≡ sum f32 (map (blockMaxScore 128 f32) (onRoute file lists (T .scoring) h′ (take len l)))
     pub sixteen : Sixteen bounds′
 
   -- the blocks of the first len were too low, and one of them has gone on: the route's next scorers, whatever the scoring
   pub record TooLow (maxScores : List Float) (h : Held) (l : List TermScorer) (len : ℕ) (h′ : Held) (l′ : List TermScorer) : Type 0 where
     pub carried : Carried file lists h l h′ l′
-    pub scorers-are : (scoring : Scoring) → All (Topped file lists scoring maxScores) l
-        → map (scorerAt file lists scoring (h′ .places)) l′
-        ≡ blockMaxWasTooLow 128 f32 (map (scorerAt file lists scoring (h .places)) (take len l)) (map (scorerAt file lists scoring (h .places)) (drop len l))
+    pub scorers-are : (scoring : Scoring) → All (MaxScoreAt file lists scoring maxScores) l
+        → onRoute file lists scoring h′ l′
+        ≡ blockMaxWasTooLow 128 f32 (onRoute file lists scoring h (take len l)) (onRoute file lists scoring h (drop len l))
 
   -- all came to the pivot: the first before scorers have sought it, and the others stay
   pub record OnPivot (p : ℕ) (h : Held) (l : List TermScorer) (before : ℕ) (h′ : Held) (l′ : List TermScorer) : Type 0 where
     pub carried : Carried file lists h l h′ l′
     pub aligned-are : (scoring : Scoring)
-        → alignScorers 128 p (map (scorerAt file lists scoring (h .places)) (take before l)) ≡ aligned (map (scorerAt file lists scoring (h′ .places)) (take before l′))
-    pub rest-are : (scoring : Scoring) → map (scorerAt file lists scoring (h′ .places)) (drop before l′) ≡ map (scorerAt file lists scoring (h .places)) (drop before l)
+        → alignScorers 128 p (onRoute file lists scoring h (take before l)) ≡ aligned (onRoute file lists scoring h′ (take before l′))
+    pub rest-are : (scoring : Scoring) → onRoute file lists scoring h′ (drop before l′) ≡ onRoute file lists scoring h (drop before l)
 
   -- one went past it, and is in its place again, or gone
   pub record PastPivot (p : ℕ) (h : Held) (l : List TermScorer) (before : ℕ) (h′ : Held) (l′ : List TermScorer) : Type 0 where
     pub carried : Carried file lists h l h′ l′
-    pub missed-is : (scoring : Scoring) → (m : Around Float) × (alignScorers 128 p (map (scorerAt file lists scoring (h .places)) (take before l)) ≡ missed m)
-        × (map (scorerAt file lists scoring (h′ .places)) l′ ≡ missedOn m (map (scorerAt file lists scoring (h .places)) (drop before l)))
+    pub missed-is : (scoring : Scoring) → (m : Around Float)
+        × (alignScorers 128 p (onRoute file lists scoring h (take before l)) ≡ missed m)
+        × (onRoute file lists scoring h′ l′ ≡ missedOn m (onRoute file lists scoring h (drop before l)))
 
   -- by `align_scorers`' answer
   abbrev pub AlignedBy : Bool → ℕ → Held → List TermScorer → ℕ → Held → List TermScorer → Type 0
@@ -71,7 +74,7 @@ module _ (file : List ℕ) (lists : List (List ℕ)) where
   pub record AdvancedAll (h : Held) (l : List TermScorer) (n len : ℕ) (h′ : Held) (r : Scorers) : Type 0 where
     pub carried : Carried file lists h l h′ (take (r .len) (r .scorers))
     pub scorers-are : (scoring : Scoring)
-        → map (scorerAt file lists scoring (h′ .places)) (take (r .len) (r .scorers))
-        ≡ advanceAllScorersOnPivot 128 (map (scorerAt file lists scoring (h .places)) (take len l)) (map (scorerAt file lists scoring (h .places)) (drop len l))
+        → onRoute file lists scoring h′ (take (r .len) (r .scorers))
+        ≡ advanceAllScorersOnPivot 128 (onRoute file lists scoring h (take len l)) (onRoute file lists scoring h (drop len l))
     pub few : r .len ≤ n
     pub long : Sixteen (r .scorers)

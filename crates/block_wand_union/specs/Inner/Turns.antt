@@ -20,7 +20,7 @@ use Rattle.ordering.specs.declared.TermScorer.{TermScorer}
 use Rattle.ordering.specs.declared.Pivot.the-variants.{At}
 use Rattle.notefile.specs.Header.{documents}
 use Rattle.term_scorer.specs.Inner.Slots.{Held, Sixteen}
-use Rattle.block_wand_union.specs.Inner.Seats.{Carried, Seated, Stand, Terms, WeighedAt, scorerAt, terms}
+use Rattle.block_wand_union.specs.Inner.Seats.{Carried, Seated, Stand, Terms, WeighedAt, onRoute, scorerAt, terms}
 use Rattle.block_wand_union.specs.declared.turn.Step.{Step}
 
 -- the report that a step found due
@@ -37,29 +37,34 @@ turnOf g r = record { next = record { more = r .more; scorers = map g (take (r .
 
 module _ (file : List ℕ) (lists : List (List ℕ)) where
   -- scorers at a pivot whose blocks are high enough: they are safe on the route, and their slots have weights
-  pub record AtPivot (scoring : Scoring) (weights : List Float) (caches : List (List Float)) (h : Held) (l : List TermScorer) (before len p : ℕ) : Type 0 where
+  pub record AtPivot (scoring : Scoring) (weights : List Float) (caches : List (List Float)) (h : Held) (l : List TermScorer)
+      (before len p : ℕ) : Type 0 where
     pub found : Found l before len p
     pub stands : All (Stand file lists h) l
     pub weighed : All (WeighedAt file lists weights caches) l
-    pub safe : All (SafeS 128 (documents file)) (map (scorerAt file lists scoring (h .places)) l)
+    pub safe : All (SafeS 128 (documents file)) (onRoute file lists scoring h l)
 
   -- the first len of l, all on document p, were scored and went on
   pub record Hit (scoring : Scoring) (t : Float) (h : Held) (l : List TermScorer) (n len p : ℕ) (h′ : Held) (r : Step) : Type 0 where
     pub carried : Carried file lists h l h′ (take (r .len) (r .scorers))
     pub turn-is : turnOf (scorerAt file lists scoring (h′ .places)) r
         ≡ record {
-          next = goOn (advanceAllScorersOnPivot 128 (map (scorerAt file lists scoring (h .places)) (take len l)) (map (scorerAt file lists scoring (h .places)) (drop len l)));
-          due = dueAt f32 t p (sum f32 (map scoreHere (map (scorerAt file lists scoring (h .places)) (take len l))));
+          next = goOn (advanceAllScorersOnPivot 128 (onRoute file lists scoring h (take len l))
+              (onRoute file lists scoring h (drop len l)));
+          due = dueAt f32 t p (sum f32 (map scoreHere (onRoute file lists scoring h (take len l))));
         }
+    pub doc-is : r .doc ≡ p
+    pub score-is : r .score ≡ sum f32 (map scoreHere (onRoute file lists scoring h (take len l)))
     pub few : r .len ≤ n
     pub long : Sixteen (r .scorers)
 
   -- what the route does from there, at threshold t
-  pub record Pivoted (scoring : Scoring) (t : Float) (h : Held) (l : List TermScorer) (n before len p : ℕ) (h′ : Held) (r : Step) : Type 0 where
+  pub record Pivoted (scoring : Scoring) (t : Float) (h : Held) (l : List TermScorer) (n before len p : ℕ)
+      (h′ : Held) (r : Step) : Type 0 where
     pub carried : Carried file lists h l h′ (take (r .len) (r .scorers))
     pub turn-is : turnOf (scorerAt file lists scoring (h′ .places)) r
-        ≡ afterAlign 128 f32 t (alignScorers 128 p (map (scorerAt file lists scoring (h .places)) (take before l))) p
-        (map (scorerAt file lists scoring (h .places)) (drop before (take len l))) (map (scorerAt file lists scoring (h .places)) (drop len l))
+        ≡ afterAlign 128 f32 t (alignScorers 128 p (onRoute file lists scoring h (take before l))) p
+        (onRoute file lists scoring h (drop before (take len l))) (onRoute file lists scoring h (drop len l))
     pub few : r .len ≤ n
     pub long : Sixteen (r .scorers)
 
@@ -67,11 +72,13 @@ module _ (file : List ℕ) (lists : List (List ℕ)) where
   pub record ToPivot (T : Terms) (maxScores : List Float) (t : Float) (h : Held) (l : List TermScorer) (before len p : ℕ) : Type 0 where
     pub found : At before len p ≡ pivotOf maxScores t l
     pub seated : Seated file lists T maxScores h l
-    pub kept : UnionKept 128 (documents file) f32 (goOn (map (scorerAt file lists (T .scoring) (h .places)) l))
+    pub kept : UnionKept 128 (documents file) f32 (goOn (onRoute file lists (T .scoring) h l))
 
   -- a turn at threshold t is the route's, and the scorers are seated after it
-  pub record Turned (T : Terms) (maxScores : List Float) (t : Float) (h : Held) (l : List TermScorer) (n : ℕ) (h′ : Held) (bounds′ : List Float) (r : Step) : Type 0 where
-    pub turn-is : unionTurn 128 f32 t (goOn (map (scorerAt file lists (T .scoring) (h .places)) l)) ≡ turnOf (scorerAt file lists (T .scoring) (h′ .places)) r
+  pub record Turned (T : Terms) (maxScores : List Float) (t : Float) (h : Held) (l : List TermScorer) (n : ℕ) (h′ : Held)
+      (bounds′ : List Float) (r : Step) : Type 0 where
+    pub turn-is : unionTurn 128 f32 t (goOn (onRoute file lists (T .scoring) h l))
+        ≡ turnOf (scorerAt file lists (T .scoring) (h′ .places)) r
     pub seated : Seated file lists (terms (T .scoring) (T .weights) (T .caches) bounds′) maxScores h′ (take (r .len) (r .scorers))
     pub few : r .len ≤ n
     pub long : Sixteen (r .scorers)

@@ -15,7 +15,7 @@ use Rattle.route.specs.Route.{Turn}
 use Rattle.route.specs.Intersection.{InterPlace, called, candidatesFrom, interBy, isOver, tryCandidate, window, within}
 use Rattle.reports.specs.Inner.Runs.{Quietly}
 use Rattle.term_scorer.specs.Inner.Slots.{Held, cursorAt}
-use Rattle.intersection_window.specs.Inner.Scorers.{Query, listIn, placeAt, secondariesIn, slotAt, Seated, StillKept, Unmoved}
+use Rattle.intersection_window.specs.Inner.Scorers.{Query, listIn, placeAt, secondariesIn, slotAt, SlotsIn, StillKept, Unmoved}
 use Rattle.intersection_window.specs.declared.candidate.Candidate.{Candidate}
 use Rattle.intersection_window.specs.declared.candidate.Candidate.the-variants.{Due, Passed}
 use Rattle.intersection_window.specs.declared.hit.Hit.{Hit}
@@ -25,6 +25,10 @@ use Rattle.intersection_window.specs.declared.hit.Hit.the-variants.{At, 
 abbrev pub Suffixes : ℕ → List Float → List Float → Type 0
 Suffixes len bs suffix = (k : ℕ) → 1 ≤ k → k < len → getD suffix k nan ≡ sumBack f32 (drop k bs)
 
+-- and at every other place the array is as it was
+abbrev pub SameOutside : ℕ → List Float → List Float → Type 0
+SameOutside len suffix suffix′ = (k : ℕ) → (1 ≤ k → len ≤ k) → getD suffix′ k nan ≡ getD suffix k nan
+
 -- a report is due where all secondaries have the candidate and its score is above the threshold
 abbrev pub candidateOf : Float → Option Float → Candidate
 candidateOf t none = Passed
@@ -32,11 +36,13 @@ candidateOf t (some total) = cond (f32 .above total t) (Due total) Passed
 
 -- what the secondaries made of candidate c: they stand where the route's do, and the leader stays
 pub record Tries (x : Query) (c : ℕ) (score t : Float) (suffix : List Float) (h h′ : Held) (r : Candidate) : Type 0 where
-  pub seated : Seated x h′
+  pub seated : SlotsIn x h′
   pub leader : Unmoved (slotAt x 0) h h′
   pub bounds : StillKept x (h .places) (h′ .places)
-  pub secs-are : (bs : List Float) → Suffixes (x .len) bs suffix → tryCandidate 128 f32 c t score (secondariesIn x (h .places)) bs .secs ≡ secondariesIn x (h′ .places)
-  pub answer-is : (bs : List Float) → Suffixes (x .len) bs suffix → r ≡ candidateOf t (tryCandidate 128 f32 c t score (secondariesIn x (h .places)) bs .found)
+  pub secs-are : (bs : List Float) → Suffixes (x .len) bs suffix
+      → tryCandidate 128 f32 c t score (secondariesIn x (h .places)) bs .secs ≡ secondariesIn x (h′ .places)
+  pub answer-is : (bs : List Float) → Suffixes (x .len) bs suffix
+      → r ≡ candidateOf t (tryCandidate 128 f32 c t score (secondariesIn x (h .places)) bs .found)
 
 -- ---- the candidates of a window, one after another
 
@@ -64,10 +70,14 @@ leaderBlock x h = cursorAt (h .places) (slotAt x 0) .dec
 
 -- quiet turns lead to a turn whose report is due, with the secondaries where they stand now; or to the next window
 abbrev pub HitBy : Query → Float → Float → ℕ → List Float → ℕ → ℕ → ℕ → Held → Held → Hit → Type 0
-HitBy x t ts e bs d b from h h′ Nowhere = Quietly interTurn interEnded t (withinAt x (h .places) b ts e bs d from) (placeAt x (h′ .places) window (suc e))
+HitBy x t ts e bs d b from h h′ Nowhere =
+    Quietly interTurn interEnded t (withinAt x (h .places) b ts e bs d from) (placeAt x (h′ .places) window (suc e))
 HitBy x t ts e bs d b from h h′ (At next doc score) =
     (p : InterPlace Float) × Quietly interTurn interEnded t (withinAt x (h .places) b ts e bs d from) p
-    × (interTurn t p ≡ record { next = placeAt x (h′ .places) (called (candidatesLeft x b ts e next) e bs) d; due = some (record { doc = doc; score = score }) })
+    × (interTurn t p ≡ record {
+      next = placeAt x (h′ .places) (called (candidatesLeft x b ts e next) e bs) d;
+      due = some (record { doc = doc; score = score });
+    })
 
 -- a report's candidate lies behind `from`
 abbrev pub HitIn : ℕ → Hit → Type 0
@@ -76,7 +86,7 @@ HitIn from (At next doc score) = (from < next) × (next ≤ 128)
 
 -- what is found of the candidates from place `from` on
 pub record Hits (x : Query) (t ts : Float) (e : ℕ) (suffix : List Float) (from : ℕ) (h h′ : Held) (r : Hit) : Type 0 where
-  pub seated : Seated x h′
+  pub seated : SlotsIn x h′
   pub leader : Unmoved (slotAt x 0) h h′
   pub bounds : StillKept x (h .places) (h′ .places)
   pub place : HitIn from r

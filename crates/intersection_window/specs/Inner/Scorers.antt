@@ -65,7 +65,7 @@ module _ (x : Query) where
     pub weighed : (q : ℕ) → q < x .len → Weighed (x .lists) weights caches q
 
   -- each slot's scorer stands in its list
-  pub record Seated (h : Held) : Type 0 where
+  pub record SlotsIn (h : Held) : Type 0 where
     pub sixteen : Sixteen (h .places) × Sixteen (h .docs) × Sixteen (h .freqs)
     pub slot : (q : ℕ) → q < x .len → SlotIn (x .file) (x .lists) h q
 
@@ -79,7 +79,7 @@ module _ (x : Query) where
 
 -- a run's arrays between two of its steps
 pub record Ready (x : Query) (h : Held) (bounds : List Float) : Type 0 where
-  pub seated : Seated x h
+  pub seated : SlotsIn x h
   pub kept : BoundsKept x (h .places) bounds
   pub long : Sixteen bounds
 

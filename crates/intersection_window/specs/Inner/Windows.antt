@@ -24,7 +24,8 @@ abbrev pub boundsOf : Query → List Float → List Float
 boundsOf x bounds = boundsAlong (x .len) (x .order) bounds
 
 -- every secondary's skip reader has gone on to document d
-pub record Gathered (x : Query) (d leaderEnd : ℕ) (h : Held) (places′ : List (List ℕ)) (bounds′ : List Float) (r : Secondaries) : Type 0 where
+pub record Gathered (x : Query) (d leaderEnd : ℕ) (h : Held)
+    (places′ : List (List ℕ)) (bounds′ : List Float) (r : Secondaries) : Type 0 where
   pub ready : Ready x (held places′ (h .docs) (h .freqs)) bounds′
   pub leader : getD places′ (slotAt x 0) [] ≡ getD (h .places) (slotAt x 0) []
   pub secs-are : secondariesIn x places′ ≡ map (seekBlock 128 d) (secondariesIn x (h .places))
@@ -39,7 +40,8 @@ pub record RunOut (x : Query) (d : ℕ) (h : Held) (places′ : List (List ℕ))
   pub leader : getD places′ (slotAt x 0) [] ≡ getD (h .places) (slotAt x 0) []
   pub secs-are : secondariesIn x places′ ≡ seekBlockAll 128 d (secondariesIn x (h .places))
 
-pub record Gathers (x : Query) (d leaderEnd : ℕ) (h : Held) (places′ : List (List ℕ)) (bounds′ : List Float) (r : Secondaries) : Type 0 where
+pub record Gathers (x : Query) (d leaderEnd : ℕ) (h : Held)
+    (places′ : List (List ℕ)) (bounds′ : List Float) (r : Secondaries) : Type 0 where
   pub remain-is : r .remain ≡ allRemain 128 d (secondariesIn x (h .places))
   pub gathered : r .remain ≡ true → Gathered x d leaderEnd h places′ bounds′ r
   pub run-out : r .remain ≡ false → RunOut x d h places′
@@ -55,14 +57,16 @@ pub record Skipped (x : Query) (t : Float) (d : ℕ) (h : Held) (e : ℕ) (h′ 
 pub record Opened (x : Query) (t : Float) (d : ℕ) (h : Held) (e : ℕ) (total : Float) (h′ : Held) (bounds′ : List Float) : Type 0 where
   pub ready : Ready x h′ bounds′
   pub turn-is : windowTurn 128 f32 t d (leaderIn x (h .places)) (secondariesIn x (h .places))
-      ≡ placeAt x (h′ .places) (within (candidatesIn 128 f32 (listIn x (slotAt x 0)) (f32 .sub t total) (cursorAt (h′ .places) (slotAt x 0) .blk) d e) e (boundsOf x bounds′)) d
+      ≡ placeAt x (h′ .places) (within (candidatesIn 128 f32 (listIn x (slotAt x 0)) (f32 .sub t total)
+      (cursorAt (h′ .places) (slotAt x 0) .blk) d e) e (boundsOf x bounds′)) d
   pub loaded : cursorAt (h′ .places) (slotAt x 0) .dec ≡ cursorAt (h′ .places) (slotAt x 0) .blk
   pub covers : d ≤ e
   pub small : e ≤ 2147483647
 
 -- one turn of `while doc < TERMINATED`, up to the candidates, by its answer
 abbrev pub Windowed : Query → Float → ℕ → Held → Window → Held → List Float → Type 0
-Windowed x t d h Over h′ bounds′ = windowTurn 128 f32 t d (leaderIn x (h .places)) (secondariesIn x (h .places)) ≡ placeAt x (h′ .places) over d
+Windowed x t d h Over h′ bounds′ =
+    windowTurn 128 f32 t d (leaderIn x (h .places)) (secondariesIn x (h .places)) ≡ placeAt x (h′ .places) over d
 Windowed x t d h (Low e) h′ bounds′ = Skipped x t d h e h′ bounds′
 Windowed x t d h (Open e total) h′ bounds′ = Opened x t d h e total h′ bounds′
 

@@ -14,8 +14,7 @@ use Rattle.notefile.specs.Header.{headerLength, entryLength, documents, 
 use Rattle.notefile.specs.Parts.{skipsAt}
 use Rattle.notefile.specs.Skips.{docWidth, freqWidth}
 use Rattle.notefile.specs.Lists.{fullBlocks, blockAt, tailAt, previousDoc, listBound}
-use Rattle.notefile.specs.Conditions.{averageRight, entryRight, skipRight, skipsRight, postingsRight}
-use Rattle.notefile.specs.Conditions.{blockDocsRight, blockFreqsRight, boundsRight}
+use Rattle.notefile.specs.Conditions.{averageRight, entryRight, skipRight, skipsRight, postingsRight, blockDocsRight, blockFreqsRight, boundsRight}
 use Rattle.notefile.specs.Inner.Structs.{headerOf}
 use Rattle.notefile.specs.declared.header.Header.{Header}
 use Rattle.notefile.specs.declared.part.Part.{Part}

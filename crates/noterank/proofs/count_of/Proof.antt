@@ -1,7 +1,7 @@
 -- `count_of` meets its contract: by the outcome, whose count fits 32 bits.
-use native.Mathlib.Omega.{arith}
 use mathlib.Core.Path.{_≡_, subst}
 use Prim.Native.Nat.{_<_}
+use native.Mathlib.Omega.{arith}
 use borrow.Author.Needs.{needs}
 use Rattle.ranking.specs.Answers.{countOf}
 use Rattle.ranking.specs.declared.outcome.Outcome.{Outcome}

@@ -18,7 +18,8 @@ abbrev pub countOn : ℕ → List TermScorer → ℕ
 countOn d [] = 0
 countOn d (s ∷ ss) = cond (eqb (s .doc) d) (suc (countOn d ss)) 0
 
--- the pivot's places, of the scorers from place b on: the first is on it, with those that follow on its document; a finished scorer is on none
+-- the pivot's places, of the scorers from place b on: the first is on it, with those that follow on its document;
+-- a finished scorer is on none
 abbrev pub pivotAt : ℕ → List TermScorer → Pivot
 pivotAt b [] = Nowhere
 pivotAt b (s ∷ ss) = cond (eqb (s .doc) TERMINATED) Nowhere (At b (b + 1 + countOn (s .doc) ss) (s .doc))
@@ -53,7 +54,7 @@ module _ (maxScores : List Float) where
   placeToSeek [] = 0
   placeToSeek (x ∷ xs) = placeOfHighest x xs
 
--- the scorers from before on, up to len, stand on doc, which is a document
+-- the scorers from place `before` on, up to len, stand on doc, which is a document
 pub record Found (l : List TermScorer) (before len doc : ℕ) : Type 0 where
   pub first : before < len
   pub inside : len ≤ length l

@@ -2,6 +2,7 @@
 use mathlib.Core.Path.{_≡_, subst}
 use Prim.Native.Nat.{ℕ, _-_, _≤_}
 use native.Mathlib.Omega.{arith}
+use lib.ListN.{getD-replicate}
 use borrow.Author.Needs.{needs}
 use Rattle.plain_scan.specs.Inner.Heads.{HeadsOf}
 use Rattle.plain_scan.proofs.Heading.{no-heads, one-more-head}
@@ -15,7 +16,7 @@ abbrev μ-loop : tie.MeasureT-loop
 μ-loop n scorers heads₀ q₀ heads q = n - q
 
 loop-holds : tie.Need-loop-holds Inv-loop μ-loop
-loop-holds c = (no-heads _ _ (search needs), omega arith)
+loop-holds c = (no-heads _ _ (search needs) (record { blank = λ q h k. getD-replicate 16 q 2147483647 2147483647 k }), omega arith)
 
 mul-scorer : tie.Need-mul-scorer Inv-loop μ-loop
 mul-scorer c = search needs

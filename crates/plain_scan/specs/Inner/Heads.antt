@@ -1,20 +1,19 @@
 -- Where the scorers of a plain scan stand: none has passed a document that is still to be taken.
 use mathlib.Core.Path.{_≡_}
-use mathlib.Core.List.{List, [], _∷_}
+use mathlib.Core.List.{List}
 use Prim.Native.Nat.{ℕ, zero, suc, min, _≤_, _<_}
 use lib.ListN.{length, getD}
 use lib.Ieee.{Float}
-use Rattle.route.specs.Cursor.{fresh}
 use Rattle.route.specs.Plain.{present}
-use Rattle.route.specs.Postings.{Postings}
 use Rattle.route.specs.Inner.Cursors.{Wf, Past}
 use Rattle.bm25.specs.declared.Scoring.{Scoring}
 use Rattle.ordering.specs.Inner.Scorers.{noScorer}
 use Rattle.ordering.specs.declared.TermScorer.{TermScorer}
 use Rattle.notefile.specs.Parts.{partOf}
 use Rattle.postings.specs.Inner.Decoded.{docIn}
-use Rattle.term_scorer.specs.Inner.Slots.{Held, Sixteen, SlotIn, partAt, listAt, cursorAt}
+use Rattle.term_scorer.specs.Inner.Slots.{Held, Sixteen, SlotIn, partAt, listAt, cursorAt, listsFrom, Blank}
 use Rattle.term_scorer.specs.Inner.Weights.{Weighed}
+use Rattle.query.specs.Inner.Openings.{OpenSlot}
 use Rattle.plain_scan.specs.Inner.Found.{foundOf}
 use Rattle.plain_scan.specs.declared.Found.{Found}
 
@@ -23,19 +22,15 @@ abbrev pub leastIn : List ℕ → ℕ → ℕ
 leastIn heads zero = 2147483647
 leastIn heads (suc n) = min (leastIn heads n) (getD heads n 0)
 
--- the documents of the first n scorers
+-- the documents of the first n scorers, and behind them TERMINATED
 pub record HeadsOf (scorers : List TermScorer) (n : ℕ) (heads : List ℕ) : Type 0 where
   pub long : Sixteen heads
   pub are : (q : ℕ) → q < n → getD heads q 0 ≡ getD scorers q noScorer .doc
+  pub behind : Blank 2147483647 n heads
 
 -- each of the first n slots has its list's weight and norms
 abbrev pub AllWeighed : List (List ℕ) → List Float → List (List Float) → ℕ → Type 0
 AllWeighed lists weights caches n = (q : ℕ) → q < n → Weighed lists weights caches q
-
--- the lists of n slots from slot q on
-abbrev pub listsFrom : Scoring → List ℕ → List (List ℕ) → ℕ → ℕ → List (Postings Float)
-listsFrom scoring file lists q zero = []
-listsFrom scoring file lists q (suc n) = listAt scoring file lists q ∷ listsFrom scoring file lists (suc q) n
 
 module _ (scoring : Scoring) (file : List ℕ) (lists : List (List ℕ)) where
   -- slot q's scorer has passed no document from d on, and stands on one from there on, which its head names
@@ -56,14 +51,8 @@ module _ (scoring : Scoring) (file : List ℕ) (lists : List (List ℕ)) where
     pub found-is : found ≡ foundOf (present d (listsFrom scoring file lists 0 n))
     pub standing : Standing n (suc d) h heads
 
--- slot q has list l of the file, on its first posting, with its weight and norms
-pub record ReadySlot (file : List ℕ) (lists : List (List ℕ)) (weights : List Float) (caches : List (List Float)) (h : Held) (l q : ℕ) : Type 0 where
-  pub slot : SlotIn file lists h q
-  pub part-is : partAt lists q ≡ partOf file l
-  pub cursor-is : cursorAt (h .places) q ≡ fresh
-  pub weighed : Weighed lists weights caches q
-
 -- the query's lists stand ready in their slots, with their scorers
-pub record Ready (file query : List ℕ) (lists : List (List ℕ)) (weights : List Float) (caches : List (List Float)) (h : Held) (scorers : List TermScorer) : Type 0 where
-  pub slots : (q : ℕ) → q < length query → ReadySlot file lists weights caches h (getD query q 0) q
+pub record ReadyLists (file query : List ℕ) (lists : List (List ℕ)) (weights : List Float) (caches : List (List Float)) (h : Held)
+    (scorers : List TermScorer) : Type 0 where
+  pub slots : (q : ℕ) → q < length query → OpenSlot file lists weights caches h (getD query q 0) q
   pub docs-are : (q : ℕ) → q < length query → getD scorers q noScorer .doc ≡ docIn file (partOf file (getD query q 0)) 0

@@ -9,21 +9,15 @@ use lib.Ieee.{Float}
 use Rattle.route.specs.F32.{f32}
 use Rattle.route.specs.Report.{Report}
 use Rattle.route.specs.Rule.{limited}
-use Rattle.route.specs.Plain.{Mode, union, intersection, single, plain, present, scan}
+use Rattle.route.specs.Plain.{Mode, union, intersection, single, present, scan}
 use Rattle.bm25.specs.declared.Scoring.{Scoring}
-use Rattle.rule.specs.Rules.{ruleOf, startOf}
 use Rattle.rule.specs.declared.Rule.{Rule}
 use Rattle.notefile.specs.Header.{documents}
 use Rattle.reports.specs.Rows.{rowsOf, Written}
 use Rattle.reports.specs.Inner.Runs.{callbackOf, outcomeOf}
-use Rattle.decoded.specs.Lists.{queried}
+use Rattle.term_scorer.specs.Inner.Slots.{listsFrom}
 use Rattle.plain_scan.specs.Inner.Found.{foundOf, hitIn}
-use Rattle.plain_scan.specs.Inner.Heads.{listsFrom}
 use Rattle.plain_scan.specs.declared.PlainRun.{PlainRun}
-
--- 01's plain scan of a file's lists, by a rule with its start
-abbrev pub plainOf : Scoring → List ℕ → List ℕ → Mode → Rule → List Float → List (Report Float)
-plainOf scoring file query m rule script = plain f32 m (queried scoring file query) (ruleOf rule script) (startOf rule) (documents file)
 
 -- in an intersection every list must have a document
 abbrev pub needsAll : Mode → Bool
@@ -41,7 +35,8 @@ module _ (scoring : Scoring) (file : List ℕ) (lists : List (List ℕ)) (n : �
   scanned rule script = scan f32 (callbackOf rule script) hits (documents file) 0 []
 
 -- a run over a list of reports: 01's outcome of it, with the reports in the rows and every other cell as before
-pub record PlainRan (whole : List (Report Float)) (documents₀ : List ℕ) (scores₀ : List Float) (r : PlainRun) (documents : List ℕ) (values : List Float) : Type 0 where
+pub record PlainRan (whole : List (Report Float)) (documents₀ : List ℕ) (scores₀ : List Float) (r : PlainRun) (documents : List ℕ)
+    (values : List Float) : Type 0 where
   pub outcome : outcomeOf (r .full) (limited (rowsOf documents₀ scores₀) whole .rows) ≡ limited (rowsOf documents₀ scores₀) whole
   pub count-is : r .count ≡ length (limited (rowsOf documents₀ scores₀) whole .rows)
   pub written : Written (limited (rowsOf documents₀ scores₀) whole .rows) documents₀ scores₀ documents values

@@ -4,21 +4,22 @@ use Prim.Native.Nat.{ℕ, _-_, _≤_, _<_}
 use native.Mathlib.Omega.{arith}
 use lib.ListN.{length}
 use borrow.Author.Needs.{needs}
-use Rattle.query.specs.Inner.Fresh.{arrays, QueryOpened}
-use Rattle.query.proofs.Opening.{none-opened, one-more}
+use Rattle.query.specs.Inner.Openings.{arrays, QueryOpened, Untouched}
+use Rattle.query.proofs.Opening.{behind-as, behind-one, none-opened, none-touched, one-more}
 use Rattle.query.proofs.open_lists.Statement.{statement}
 use Rattle.query.proofs.open_lists.Tie as tie
 
 abbrev Inv-loop : tie.InvT-loop
 Inv-loop file h scoring query lists₀ places₀ docs₀ freqs₀ weights₀ caches₀ max-scores₀ scorers₀ q₀ lists places docs freqs weights caches max-scores scorers q =
-    QueryOpened scoring file query q (arrays lists places docs freqs weights caches max-scores) scorers × (q ≤ length query)
+    let a = arrays lists places docs freqs weights caches max-scores in
+    QueryOpened scoring file query q a scorers × (q ≤ length query) × Untouched q (arrays lists₀ places₀ docs₀ freqs₀ weights₀ caches₀ max-scores₀) a
 
 abbrev μ-loop : tie.MeasureT-loop
 μ-loop file h scoring query lists₀ places₀ docs₀ freqs₀ weights₀ caches₀ max-scores₀ scorers₀ q₀ lists places docs freqs weights caches max-scores scorers q =
     length query - q
 
 loop-holds : tie.Need-loop-holds Inv-loop μ-loop
-loop-holds c = let a = c .before .before in (none-opened (a .args .scoring) (a .args .file .now) (a .args .query .now) _ _ (a .pre .4) (search needs), omega arith)
+loop-holds c = let a = c .before .before in (none-opened (a .args .scoring) (a .args .file .now) (a .args .query .now) _ (a .pre .4), omega arith, none-touched _)
 
 mul-l : tie.Need-mul-l Inv-loop μ-loop
 mul-l c = search needs
@@ -62,14 +63,15 @@ loop-again c =
     let i = c .before .before .before .before .before .before .before .before .before in
     let l = i .before in
     let a = l .before .before .before in
-    (one-more (a .args .scoring) (a .args .file .now) (a .args .query .now) (l .loop .q) _ _ (l .loop .scorers) (small c) (l .loop .inv .0) (c .open-list .ensures), omega (arith, i .loop-test .taken))
+    (one-more (a .args .scoring) (a .args .file .now) (a .args .query .now) (l .loop .q) _ _ (l .loop .scorers) (small c) (l .loop .inv .0) (c .open-list .ensures), omega (arith, i .loop-test .taken), behind-one _ _ _ _ (l .loop .inv .2) (c .open-list .ensures .only))
 
 returns : tie.Need-returns Inv-loop μ-loop
 returns c =
     let l = c .before in
     let a = l .before .before .before in
     let e : l .loop .q ≡ length (a .args .query .now) = omega (arith, l .loop .inv .1, c .loop-test .left) in
-    subst (λ (n : ℕ). QueryOpened (a .args .scoring) (a .args .file .now) (a .args .query .now) n (arrays (l .loop .lists) (l .loop .places) (l .loop .docs) (l .loop .freqs) (l .loop .weights) (l .loop .caches) (l .loop .max-scores)) (l .loop .scorers)) e (l .loop .inv .0)
+    let b = arrays (l .loop .lists) (l .loop .places) (l .loop .docs) (l .loop .freqs) (l .loop .weights) (l .loop .caches) (l .loop .max-scores) in
+    (subst (λ (n : ℕ). QueryOpened (a .args .scoring) (a .args .file .now) (a .args .query .now) n b (l .loop .scorers)) e (l .loop .inv .0), behind-as e (l .loop .inv .2))
 
 pub open-lists-spec : {M : Type 1} → statement M
 open-lists-spec =

@@ -19,7 +19,7 @@ use Rattle.notefile.specs.declared.header.Header.{Header}
 use Rattle.reports.specs.Rows.{Rows, rowsOf}
 use Rattle.reports.specs.Inner.Runs.{Ran}
 use Rattle.decoded.specs.Lists.{postingsOf}
-use Rattle.query.specs.Inner.Fresh.{Named}
+use Rattle.query.specs.Inner.Openings.{Named}
 use Rattle.request.specs.Request.{Request, modeOf}
 use Rattle.request.specs.declared.Mode.{Mode}
 use Rattle.plain_scan.specs.Inner.Runs.{needsAll}

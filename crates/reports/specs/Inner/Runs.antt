@@ -40,7 +40,8 @@ module _ (W : Route Float) (rule : Rule) (script : List Float) where
   -- where a run may stop: at the route's end, or where a report is due and every row is full (01's table, code 12)
   abbrev pub Stopped : Bool → ℕ → Run (W .Place) (List (Report Float)) → Type 0
   Stopped false n u = W .ended (u .place) ≡ true
-  Stopped true n u = (length (u .state) ≡ n) × ((x : Report Float) × (W .turn (callbackOf rule script .threshold (u .state)) (u .place) .due ≡ some x))
+  Stopped true n u =
+      (length (u .state) ≡ n) × ((x : Report Float) × (W .turn (callbackOf rule script .threshold (u .state)) (u .place) .due ≡ some x))
 
   -- where the scorers stand as it stops: where the route does, or, with every row full, where the turn leads whose report has none
   abbrev pub leftAt : Bool → Run (W .Place) (List (Report Float)) → W .Place

@@ -1,7 +1,7 @@
 -- The slots of a run: what the lent arrays hold of each scorer, and what a move of one leaves.
 use mathlib.Core.Path.{_≡_}
-use mathlib.Core.List.{List, []}
-use Prim.Native.Nat.{ℕ}
+use mathlib.Core.List.{List, [], _∷_, map}
+use Prim.Native.Nat.{ℕ, zero, suc, _≤_, _<_}
 use lib.ListN.{length, getD, set}
 use lib.Ieee.{Float}
 use Rattle.route.specs.Postings.{Postings}
@@ -15,6 +15,10 @@ use Rattle.slot_rows.specs.Inner.Rows.{partIn, partRow, PartRow, cursorIn, Stan
 -- an array of 16 slots
 abbrev pub Sixteen : {A : Type 0} → List A → Type 0
 Sixteen xs = length xs ≡ 16
+
+-- the cells of an array of 16 from place n on are d
+pub record Blank {A : Type 0} (d : A) (n : ℕ) (xs : List A) : Type 0 where
+  pub blank : (k : ℕ) → n ≤ k → k < 16 → getD xs k d ≡ d
 
 -- the arrays that change as scorers move
 pub record Held : Type 0 where
@@ -31,6 +35,14 @@ partAt lists q = partIn (getD lists q [])
 
 abbrev pub listAt : Scoring → List ℕ → List (List ℕ) → ℕ → Postings Float
 listAt scoring file lists q = listOf scoring file (partAt lists q)
+
+-- m slots, from slot a on, and their lists
+abbrev pub slotsFrom : ℕ → ℕ → List ℕ
+slotsFrom a zero = []
+slotsFrom a (suc m) = a ∷ slotsFrom (suc a) m
+
+abbrev pub listsFrom : Scoring → List ℕ → List (List ℕ) → ℕ → ℕ → List (Postings Float)
+listsFrom scoring file lists a m = map (listAt scoring file lists) (slotsFrom a m)
 
 -- the route's cursor in a slot, and the last document of its skip reader's block
 abbrev pub cursorAt : List (List ℕ) → ℕ → Cursor
@@ -59,7 +71,8 @@ module _ (file : List ℕ) (lists : List (List ℕ)) where
     pub places-only : after .places ≡ set (before .places) q (getD (after .places) q [])
     pub docs-only : after .docs ≡ set (before .docs) q (getD (after .docs) q [])
     pub freqs-only : after .freqs ≡ set (before .freqs) q (getD (after .freqs) q [])
-    pub moved : MovedRow file (partAt lists q) to (getD (before .places) q []) (getD (after .places) q []) (getD (after .docs) q []) (getD (after .freqs) q []) doc
+    pub moved : MovedRow file (partAt lists q) to (getD (before .places) q [])
+        (getD (after .places) q []) (getD (after .docs) q []) (getD (after .freqs) q []) doc
 
   -- slot q's skip reader has moved
   pub record Shallowed (q : ℕ) (to : Scoring → Cursor) (before after : List (List ℕ)) : Type 0 where

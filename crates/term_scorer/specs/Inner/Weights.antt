@@ -16,10 +16,12 @@ Weighed lists weights caches q = WeighedIn (partAt lists q) (getD weights q nan)
 
 -- where slot q's bound is known, the array has it
 abbrev pub BoundKept : Scoring → List ℕ → List (List ℕ) → List (List ℕ) → List Float → ℕ → Type 0
-BoundKept scoring file lists places bounds q = getD (getD places q []) 7 0 ≡ 1 → getD bounds q nan ≡ blockMax 128 f32 (listAt scoring file lists q) (cursorAt places q)
+BoundKept scoring file lists places bounds q =
+    getD (getD places q []) 7 0 ≡ 1 → getD bounds q nan ≡ blockMax 128 f32 (listAt scoring file lists q) (cursorAt places q)
 
 -- slot q's bound is the route's, and is known: nothing else has changed, and a bound kept before is the same
-pub record Bounded (scoring : Scoring) (file : List ℕ) (lists : List (List ℕ)) (q : ℕ) (places : List (List ℕ)) (bounds : List Float) (places′ : List (List ℕ)) (bounds′ : List Float) (bound : Float) : Type 0 where
+pub record Bounded (scoring : Scoring) (file : List ℕ) (lists : List (List ℕ)) (q : ℕ) (places : List (List ℕ))
+    (bounds : List Float) (places′ : List (List ℕ)) (bounds′ : List Float) (bound : Float) : Type 0 where
   pub bound-is : bound ≡ blockMax 128 f32 (listAt scoring file lists q) (cursorAt places q)
   pub places-are : places′ ≡ set places q (set (getD places q []) 7 1)
   pub bounds-are : bounds′ ≡ set bounds q bound

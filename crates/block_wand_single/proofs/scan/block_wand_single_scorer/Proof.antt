@@ -4,7 +4,7 @@ use Rattle.route.specs.Single.{hunt}
 use Rattle.route.specs.Inner.Singles.{singleCost}
 use Rattle.decoded.specs.Lists.{listOf}
 use Rattle.postings.specs.Inner.Places.{cursorOf}
-use Rattle.block_wand_single.proofs.Running.{Running, running-begun, hunting, has-begun, same-long, running-on, ran-over, ran-full}
+use Rattle.block_wand_single.proofs.Running.{Running, running-begun, hunting, has-begun, same-long, running-on, ran-over, ran-full, stands}
 use Rattle.block_wand_single.proofs.scan.block_wand_single_scorer.Statement.{statement}
 use Rattle.block_wand_single.proofs.scan.block_wand_single_scorer.Tie as tie
 
@@ -56,7 +56,8 @@ returns c =
     let b = c .before .before .before .before .before .before .before in
     let a = b .before .before .before .before .before .before in
     let z = a .before .before .before .before .before .before .before .before .before .before .before in
-    ran-full (z .pre .0 .list) _ _ _ (a .loop .inv) (b .scan-block .ensures) (c .before .if1 .taken) _ (c .stopped .ensures)
+    let L = z .pre .0 .list in
+    (ran-full L _ _ _ (a .loop .inv) (b .scan-block .ensures) (c .before .if1 .taken) _ (c .stopped .ensures), stands L _ _ _ (a .loop .inv) (b .scan-block .ensures) _ (c .stopped .ensures))
 
 stopped-requires-2 : tie.Need-stopped-requires-2 Inv-loop μ-loop
 stopped-requires-2 c κs = search needs
@@ -80,7 +81,8 @@ returns-2 c =
     let b = c .before .before .before .before .before .before .before .before in
     let a = b .before .before .before .before .before .before in
     let z = a .before .before .before .before .before .before .before .before .before .before .before in
-    ran-over (z .pre .0 .list) _ _ _ (a .loop .inv) (b .scan-block .ensures) (c .before .before .if1 .left) (c .before .if2 .taken) _ (c .stopped2 .ensures)
+    let L = z .pre .0 .list in
+    (ran-over L _ _ _ (a .loop .inv) (b .scan-block .ensures) (c .before .before .if1 .left) (c .before .if2 .taken) _ (c .stopped2 .ensures), stands L _ _ _ (a .loop .inv) (b .scan-block .ensures) _ (c .stopped2 .ensures))
 
 loop-less : tie.Need-loop-less Inv-loop μ-loop
 loop-less c =

@@ -59,7 +59,7 @@ returns : tie.Need-returns Inv-loop μ-loop
 returns c =
     let b = c .before .before .before .before .before .before .before .before .before in
     let a = b .before .before .before in
-    let L = c .before .put-back .ensures in
+    let L = c .before .put-back .ensures .0 in
     record {
       by = goes-past _ _ _ _ _ _ _ (a .pre .3) (omega arith) (long a) (omega arith) (b .before .loop .inv .1) (omega arith) (c .before .before .before .seek .ensures) (c .before .before .if1 .taken) L;
       few = L .few;

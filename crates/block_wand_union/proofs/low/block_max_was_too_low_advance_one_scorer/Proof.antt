@@ -89,7 +89,7 @@ returns c =
     let a = d .before .before .before in
     too-low (a .args .file .now) (a .args .lists .now) (a .args .max-scores .now) (a .args .t4) (a .args .n) (a .args .pivot-len) (b .scorer-to-seek .result) _ _ _ _
     (omega arith) (omega arith) (long a) (a .pre .3) (a .pre .4) (d .least-last-doc .ensures) (b .before .before .behind .ensures) (b .before .least-doc .ensures) (b .scorer-to-seek .ensures)
-    (c .before .seek .ensures) _ (c .restore-ordering .ensures)
+    (c .before .seek .ensures) _ (c .restore-ordering .ensures .0)
 
 pub block-max-was-too-low-advance-one-scorer-spec : {M : Type 1} → statement M
 block-max-was-too-low-advance-one-scorer-spec =

@@ -66,7 +66,7 @@ returns : tie.Need-returns Inv-loop μ-loop
 returns c =
     let b = c .before .before .before in
     let a = b .before .before .before in
-    advanced _ _ _ _ _ (a .pre .2) (omega arith) (long a) (b .before .loop .inv .1) (a .args .pivot-len) (omega arith) (c .before .before .sweep .ensures) (search needs) (c .sort-by-doc .ensures)
+    advanced _ _ _ _ _ (a .pre .2) (omega arith) (long a) (b .before .loop .inv .1) (a .args .pivot-len) (omega arith) (c .before .before .sweep .ensures .0) (search needs) (c .sort-by-doc .ensures .0)
 
 pub advance-all-scorers-on-pivot-spec : {M : Type 1} → statement M
 advance-all-scorers-on-pivot-spec =

@@ -9,7 +9,7 @@ use Rattle.intersection_window.proofs.window.sum_suffixes.Statement.{st
 use Rattle.intersection_window.proofs.window.sum_suffixes.Tie as tie
 
 abbrev Inv-loop : tie.InvT-loop
-Inv-loop n order bounds suffix₀ running₀ i₀ suffix running i = Summing n order bounds i running suffix
+Inv-loop n order bounds suffix₀ running₀ i₀ suffix running i = Summing n order bounds suffix₀ i running suffix
 
 abbrev μ-loop : tie.MeasureT-loop
 μ-loop n order bounds suffix₀ running₀ i₀ suffix running i = i
@@ -19,7 +19,7 @@ slot-in l = l .before .before .pre .3 (l .before .loop .i - 1) (omega (arith, l 
 
 loop-holds : tie.Need-loop-holds Inv-loop μ-loop
 unfolding ofBits
-loop-holds c = begun _ _ _ (c .pre .0) (c .pre .4)
+loop-holds c = begun _ _ _ _ (c .pre .0) (c .pre .4)
 
 sub-i : tie.Need-sub-i Inv-loop μ-loop
 sub-i c = search needs
@@ -46,10 +46,10 @@ loop-less : tie.Need-loop-less Inv-loop μ-loop
 loop-less c = search needs
 
 loop-again : tie.Need-loop-again Inv-loop μ-loop
-loop-again c = let l = c .before .before in goes-on _ _ _ (l .before .before .pre .1) (l .before .before .pre .2) (l .before .loop .inv) (l .loop-test .taken)
+loop-again c = let l = c .before .before in goes-on _ _ _ _ (l .before .before .pre .1) (l .before .before .pre .2) (l .before .loop .inv) (l .loop-test .taken)
 
 returns : tie.Need-returns Inv-loop μ-loop
-returns c = let l = c .before in ended _ _ _ (l .before .pre .1) (l .before .pre .2) (l .loop .inv) (c .loop-test .left)
+returns c = let l = c .before in ended _ _ _ _ (l .before .pre .1) (l .before .pre .2) (l .loop .inv) (c .loop-test .left)
 
 pub sum-suffixes-spec : {M : Type 1} → statement M
 sum-suffixes-spec =

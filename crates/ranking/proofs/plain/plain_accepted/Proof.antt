@@ -5,8 +5,9 @@ use borrow.Author.Needs.{needs}
 use Rattle.rule.proofs.RightRules.{keeps}
 use Rattle.request.specs.Request.{Request, asked, modeOf}
 use Rattle.request.proofs.Requests.{Let, let-through}
+use Rattle.plain_scan.proofs.Beginning.{opened-ready}
 use Rattle.ranking.specs.Answers.{plainList}
-use Rattle.ranking.proofs.Answering.{header-of, ready, plain-answered}
+use Rattle.ranking.proofs.Answering.{header-of, plain-answered}
 use Rattle.ranking.proofs.plain.plain_accepted.Statement.{statement}
 use Rattle.ranking.proofs.plain.plain_accepted.Tie as tie
 
@@ -44,7 +45,7 @@ plain-scan-requires c κs =
     let n = o .before .before .before .before .before .before .before .before .before in
     let a = n .before .before .before .before .before .before .before in
     let t = through a in
-    (t .few, n .norm-reader .ensures, ready (a .args .scoring) (a .args .file .now) (a .args .query .now) _ _ (o .open-lists .ensures), keeps (a .args .rule) (a .args .scoring) (a .args .script .now) (t .rule-right))
+    (t .few, n .norm-reader .ensures, opened-ready (a .args .scoring) (a .args .file .now) (a .args .query .now) _ _ (o .open-lists .ensures .0), keeps (a .args .rule) (a .args .scoring) (a .args .script .now) (t .rule-right))
 
 finish-requires : tie.Need-finish-requires
 finish-requires c κs = search needs

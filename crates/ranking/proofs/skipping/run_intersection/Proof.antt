@@ -23,7 +23,7 @@ block-wand-intersection-requires c κs =
     let o = c .before .before .before .before .before .before .before .before .before .before in
     let n = o .before .before .before .before .before .before .before .before in
     let a = n .before .before .before .before .before .before in
-    (fresh-for (a .args .scoring) (a .args .file .now) (a .args .query .now) _ _ (o .open-lists .ensures) (a .pre .1) (a .pre .0 .few) (n .norm-reader .ensures) _ (search needs), a .pre .0 .keeps)
+    (fresh-for (a .args .scoring) (a .args .file .now) (a .args .query .now) _ _ (o .open-lists .ensures .0) (a .pre .1) (a .pre .0 .few) (n .norm-reader .ensures) _ (search needs), a .pre .0 .keeps)
 
 finish-requires : tie.Need-finish-requires
 finish-requires c κs = search needs
@@ -39,7 +39,7 @@ returns c =
     let b = c .before .before .before .before .before in
     let o = b .before .before .before .before .before .before .before .before .before .before .before in
     let a = o .before .before .before .before .before .before .before .before .before .before .before .before .before .before in
-    intersected (a .args .scoring) (a .args .file .now) (a .args .query .now) _ _ (o .open-lists .ensures) (a .args .rule) (a .args .script .now) (b .block-wand-intersection .result) (b .block-wand-intersection .ensures) (c .finish .ensures)
+    intersected (a .args .scoring) (a .args .file .now) (a .args .query .now) _ _ (o .open-lists .ensures .0) (a .args .rule) (a .args .script .now) (b .block-wand-intersection .result) (b .block-wand-intersection .ensures) (c .finish .ensures)
 
 pub run-intersection-spec : {M : Type 1} → statement M
 run-intersection-spec =

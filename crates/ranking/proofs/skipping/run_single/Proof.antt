@@ -60,7 +60,7 @@ returns c ord =
     let s = c .before .before .before .before .before in
     let r = s .before .before .before .before .before .before in
     let a = r .before .before .before .before .before .before in
-    single-finished (a .args .file .now) (a .args .l) (a .args .scoring) (a .args .rule) (a .args .script .now) (r .read-part .ensures) ord (s .block-wand-single-scorer .ensures ord) (c .finish .ensures)
+    single-finished (a .args .file .now) (a .args .l) (a .args .scoring) (a .args .rule) (a .args .script .now) (r .read-part .ensures) ord (s .block-wand-single-scorer .ensures .0 ord) (c .finish .ensures)
 
 pub run-single-spec : {M : Type 1} → statement M
 run-single-spec =

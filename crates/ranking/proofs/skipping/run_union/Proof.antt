@@ -37,7 +37,7 @@ slot-inside c =
     let r = c .before .before .before .before in
     let o = r .before in
     let a = o .before .before .before .before .before .before .before .before .before .before .before .before .before .before in
-    only-inside (a .args .scoring) (a .args .file .now) (a .args .query .now) (a .pre .few) _ _ (o .open-lists .ensures) (r .retain .result) (r .retain .ensures) (c .before .if1 .taken)
+    only-inside (a .args .scoring) (a .args .file .now) (a .args .query .now) (a .pre .few) _ _ (o .open-lists .ensures .0) (r .retain .result) (r .retain .ensures .0) (c .before .if1 .taken)
 
 mul-l : tie.Need-mul-l
 mul-l c = omega (arith, slot-inside (c .before), c .before .before .before .before .before .before .before .before .before .before .before .before .before .before .before .before .before .before .before .before .pre .few)
@@ -67,7 +67,7 @@ returns c =
     let r = k .before .before .before .before in
     let o = r .before in
     let a = o .before .before .before .before .before .before .before .before .before .before .before .before .before .before in
-    same-route (by-single (a .args .scoring) (a .args .file .now) (a .args .query .now) (a .pre .few) _ _ (o .open-lists .ensures) (r .retain .result) (r .retain .ensures) (k .before .if1 .taken)) (s .run-single .ensures _)
+    same-route (by-single (a .args .scoring) (a .args .file .now) (a .args .query .now) (a .pre .few) _ _ (o .open-lists .ensures .0) (r .retain .result) (r .retain .ensures .0) (k .before .if1 .taken)) (s .run-single .ensures _)
 
 block-wand-requires : tie.Need-block-wand-requires
 block-wand-requires c κs =
@@ -75,11 +75,11 @@ block-wand-requires c κs =
     let r = e .before .before .before in
     let o = r .before in
     let a = o .before .before .before .before .before .before .before .before .before .before .before .before .before .before in (
-      omega (arith, r .retain .ensures .few, a .pre .few),
+      omega (arith, r .retain .ensures .0 .few, a .pre .few),
       o .before .before .before .before .before .before .before .before .norm-reader .ensures,
       a .pre .keeps,
-      left-seated (a .args .scoring) (a .args .file .now) (a .args .query .now) (a .pre .few) _ _ (o .open-lists .ensures) (r .retain .result) (r .retain .ensures) _ (search needs),
-      left-fresh (a .args .scoring) (a .args .file .now) (a .args .query .now) (a .pre .few) _ _ (o .open-lists .ensures) (r .retain .result) (r .retain .ensures),
+      left-seated (a .args .scoring) (a .args .file .now) (a .args .query .now) (a .pre .few) _ _ (o .open-lists .ensures .0) (r .retain .result) (r .retain .ensures .0) _ (search needs),
+      left-fresh (a .args .scoring) (a .args .file .now) (a .args .query .now) (a .pre .few) _ _ (o .open-lists .ensures .0) (r .retain .result) (r .retain .ensures .0),
     )
 
 finish-requires : tie.Need-finish-requires
@@ -99,7 +99,7 @@ returns-2 c =
     let o = r .before in
     let a = o .before .before .before .before .before .before .before .before .before .before .before .before .before .before in
     let R = b .block-wand .ensures in
-    same-route (by-pivots (a .args .scoring) (a .args .file .now) (a .args .query .now) (a .pre .few) _ _ (o .open-lists .ensures) (r .retain .result) (r .retain .ensures) (e .if1 .left))
+    same-route (by-pivots (a .args .scoring) (a .args .file .now) (a .args .query .now) (a .pre .few) _ _ (o .open-lists .ensures .0) (r .retain .result) (r .retain .ensures .0) (e .if1 .left))
     (record { full = b .block-wand .result .full; count = b .block-wand .result .count; place = R .place; outcome-is = c .finish .ensures; ran = R .ran })
 
 pub run-union-spec : {M : Type 1} → statement M
