@@ -2,31 +2,8 @@
 
 use crate::Query;
 
-mod c {
-    extern "C" {
-        pub fn noterank_check(file: *const u8, file_len: usize) -> u32;
-
-        pub fn noterank_run(
-            file: *const u8,
-            file_len: usize,
-            query: *const u32,
-            query_len: usize,
-            walk: u32,
-            mode: u32,
-            scoring: u32,
-            rule: u32,
-            start: f32,
-            k: u32,
-            script: *const f32,
-            script_len: usize,
-            documents: *mut u32,
-            documents_len: usize,
-            scores: *mut f32,
-            scores_len: usize,
-            count: *mut u32,
-        ) -> u32;
-    }
-}
+#[path = "../../../include/noterank.rs"]
+mod c;
 
 /// 0, or the number of the file's refusal.
 pub fn check(file: &[u8]) -> u32 {

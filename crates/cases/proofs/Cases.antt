@@ -26,14 +26,13 @@ use Rattle.notefile.specs.Parts.{partOf}
 use Rattle.notefile.specs.Lists.{blockScore, listBound}
 use Rattle.notefile.specs.Conditions.{headerRight, averageRight, lengthRight, entryRight, skipsRight, postingsRight, blockDocsRight, blockFreqsRight, boundsRight}
 use Rattle.notefile.specs.Refusal.{fileRefusal}
-use Rattle.notefile.specs.Small.{small}
 use Rattle.decoded.specs.Lists.{listOf, queried}
 use Rattle.decoded.specs.Inner.Bytes.{Bytes}
 use Rattle.request.specs.Request.{asked, refusalOf}
 use Rattle.request.specs.declared.Mode.{Mode}
 use Rattle.ranking.specs.Answers.{answer, plainList, Answered}
 use Rattle.ranking.proofs.Demand.{run-plain}
-use Rattle.cases.specs.Table.{Runs, Holds, cases}
+use Rattle.cases.specs.Table.{small, Runs, Holds, cases}
 
 -- an answer that is worked out is every run's
 runs : (file query : List ℕ) → Bytes file → (mode : Mode) (rule : Rule) (script : List Float) (n : ℕ) (a : rules.Outcome Float)

@@ -1,2 +1,3 @@
 -- The theorem over the table of cases.
 pub mod Cases
+pub mod Worked

@@ -17,13 +17,21 @@ use Rattle.bm25.specs.Bound.{maxTf}
 use Rattle.bm25.specs.declared.Scoring.the-variants.{Stepped}
 use Rattle.rule.specs.declared.Rule.{Rule}
 use Rattle.rule.specs.declared.Rule.the-variants.{Script, BestK}
-use Rattle.notefile.specs.Small.{small}
 use Rattle.reports.specs.Rows.{Rows, rowsOf}
 use Rattle.request.specs.Request.{Request, asked}
 use Rattle.request.specs.declared.Mode.{Mode}
 use Rattle.request.specs.declared.Mode.the-variants.{Union, Intersection}
 use Rattle.ranking.specs.Answers.{Answered, RunIs, PlainIs}
 use Rattle.ranking.specs.declared.outcome.Outcome.{Outcome}
+
+-- the small file, part by part
+abbrev pub small : List ℕ
+small =
+    0x18 ∷ 0x80 ∷ 0x40 ∷ 0x00 ∷ 0x08 ∷ 0x41 ∷ 0x00 ∷ 0x00 ∷ 0x00
+    ∷ 0x44 ∷ 0x7A ∷ 0x00 ∷ 0x00 ∷ 0x00 ∷ 0x00 ∷ 0x10 ∷ 0x00 ∷ 0x00 ∷ 0x00 ∷ 0x00 ∷ 0x00 ∷ 0x04
+    ∷ 0x43 ∷ 0xFA ∷ 0x00 ∷ 0x00 ∷ 0x00 ∷ 0x00 ∷ 0x10 ∷ 0x00 ∷ 0x00 ∷ 0x00 ∷ 0x00 ∷ 0x00 ∷ 0x04
+    ∷ 0x81 ∷ 0x82 ∷ 0x81 ∷ 0x83
+    ∷ 0x80 ∷ 0x83 ∷ 0x81 ∷ 0x81 ∷ []
 
 -- A request with its rows and its answer; a maximum-frequency code and its frequency; the bytes of a VInt and its value; a whole number and the
 -- f32 nearest to it, a whole number too.

@@ -1,7 +1,7 @@
 -- VInts one after another: the loop that reads them.
 use mathlib.Core.Path.{_≡_, refl, sym, ap, _∙_}
 use mathlib.Core.List.{List}
-use mathlib.Core.Bool.{Bool, true, false, true≢false}
+use mathlib.Core.Bool.{Bool, true, false, true≢false, cond}
 use mathlib.Core.Logic.{⊎-elim}
 use Prim.Native.Nat.{ℕ, suc, _+_, _≤_, _<_}
 use native.Mathlib.Nat.{le-of-suc-le-suc}
@@ -14,7 +14,7 @@ use Rattle.arrays.specs.Every.{every}
 use Rattle.arrays.proofs.Order.{lt-or-ge}
 use Rattle.arrays.proofs.Every.{fails, one-more, stopped}
 use Rattle.arrays.proofs.Filling.{Filling, begun as filling, goes-on}
-use Rattle.codec.specs.VInt.{pick, capped, vintFrom, vintAt, whole, valueOf, nextOf}
+use Rattle.codec.specs.VInt.{capped, vintFrom, vintAt, whole, valueOf, nextOf}
 use Rattle.codec.specs.VInts.{vintPlace, vintValue, vintWhole}
 use Rattle.codec.specs.Inner.VIntRows.{endOr, VIntsRead}
 use Rattle.codec.specs.declared.vint.VInt.{VInt}
@@ -29,7 +29,7 @@ value-fits s e p k = capped-fits (vintFrom 5 s e (vintPlace s e p k))
     capped-fits : (v : VInt) → valueOf (capped v) < 4294967296
     capped-fits (vint.Value v next) = go (ltb v 4294967296) refl
       where
-        go : (t : Bool) → ltb v 4294967296 ≡ t → valueOf (pick t (vint.Value v next) vint.Broken) < 4294967296
+        go : (t : Bool) → ltb v 4294967296 ≡ t → valueOf (cond t (vint.Value v next) vint.Broken) < 4294967296
         go true e = ltb-true v 4294967296 e
         go false e = omega arith
     capped-fits vint.Broken = omega arith

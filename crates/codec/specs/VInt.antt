@@ -1,16 +1,12 @@
 -- A VInt, as a tail has it: each byte carries seven bits, lowest first, and the last is marked by its high bit. Refusal 6 of the table
 -- allows 5 bytes, and values of 32 bits.
 use mathlib.Core.List.{List}
-use mathlib.Core.Bool.{Bool, true, false}
+use mathlib.Core.Bool.{Bool, true, false, cond}
 use Prim.Native.Nat.{ℕ, zero, suc, _+_, _-_, _*_}
 use lib.Dec.{ltb}
 use lib.ListN.{getD}
 use Rattle.codec.specs.declared.vint.VInt.{VInt}
 use Rattle.codec.specs.declared.vint.VInt.the-variants.{Value, Broken}
-
-abbrev pub pick : Bool → VInt → VInt → VInt
-pick true a b = a
-pick false a b = b
 
 -- seven low bits, and the number that follows them
 abbrev pub more : ℕ → VInt → VInt
@@ -21,13 +17,13 @@ more b Broken = Broken
 unfoldable pub vintFrom : ℕ → List ℕ → ℕ → ℕ → VInt
 vintFrom zero s e p = Broken
 vintFrom (suc n) s e p =
-    pick (ltb p e)
-    (pick (ltb (getD s p 0) 128) (more (getD s p 0) (vintFrom n s e (p + 1))) (Value (getD s p 0 - 128) (p + 1)))
+    cond (ltb p e)
+    (cond (ltb (getD s p 0) 128) (more (getD s p 0) (vintFrom n s e (p + 1))) (Value (getD s p 0 - 128) (p + 1)))
     Broken
 
 -- none over 4,294,967,295
 abbrev pub capped : VInt → VInt
-capped (Value v next) = pick (ltb v 4294967296) (Value v next) Broken
+capped (Value v next) = cond (ltb v 4294967296) (Value v next) Broken
 capped Broken = Broken
 
 -- none over 5 bytes

@@ -5,8 +5,7 @@ use Prim.Native.Nat.{ℕ}
 use lib.Dec.{T}
 use lib.Ieee.{Float, nan, inf, fin, isNan, lt}
 use Rattle.floats.specs.Step.{within}
-use Rattle.floats.specs.Maximum.{larger}
-use Rattle.floats.specs.Inner.Maximum.{maximum, maximumNumber}
+use Rattle.floats.specs.Inner.Maximum.{larger, maximum, maximumNumber}
 
 -- two tests that pick x or y, when x's sign is clear
 picked : (a b : Bool) (x y : Float) → cond a y (cond b x (cond false y x)) ≡ cond a y x

@@ -4,8 +4,8 @@ ghost use Prim.Native.Nat.{_^_, _<_};
 ghost use lib.Ieee.Nearest.{closest};
 ghost use Rattle.floats.specs.Whole.{wholeF32};
 ghost use Rattle.floats.specs.Step.{stepDown};
-ghost use Rattle.floats.specs.Maximum.{larger};
 ghost use Rattle.floats.specs.Threshold.{thresholdOk};
+ghost use Rattle.floats.specs.Inner.Maximum.{larger};
 
 // From here on an f32 is a multiple of 1/1024, and up to twice this no finer.
 const GRID_BASE: f32 = 8192.0;

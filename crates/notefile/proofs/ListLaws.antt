@@ -16,8 +16,9 @@ use Rattle.compression.specs.Documents.{docAt, rises}
 use Rattle.compression.specs.Frequencies.{freqRight}
 use Rattle.notefile.specs.Header.{documents}
 use Rattle.notefile.specs.Skips.{lastDoc}
-use Rattle.notefile.specs.Lists.{fullBlocks, tailSize, isFull, blockSize, isFirst, docValue, strictIn, blockDoc, previousDoc, blockFreq, blockScore, blockBound, listBound, listDoc, listFreq, listScore}
+use Rattle.notefile.specs.Lists.{fullBlocks, tailSize, isFull, blockSize, isFirst, docValue, strictIn, blockDoc, previousDoc, blockFreq, blockScore, blockBound, listBound, listDoc, listScore}
 use Rattle.notefile.specs.Conditions.{docsRise, lastRight, blockDocsRight, blockFreqsRight, covers, boundsRight}
+use Rattle.notefile.specs.Inner.Structs.{listFreq}
 use Rattle.notefile.specs.Inner.Given.{ListRight}
 use Rattle.notefile.specs.declared.part.Part.{Part}
 use Rattle.notefile.proofs.Decoded.{doc-is}

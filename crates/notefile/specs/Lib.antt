@@ -6,5 +6,4 @@ pub mod Skips
 pub mod Lists
 pub mod Conditions
 pub mod Refusal
-pub mod Small
 pub mod Inner

@@ -97,8 +97,5 @@ module _ (file : List ℕ) (x : Part) where
   abbrev pub listDoc : ℕ → ℕ
   listDoc k = blockDoc (k / 128) (k % 128)
 
-  abbrev pub listFreq : ℕ → ℕ
-  listFreq k = blockFreq (k / 128) (k % 128)
-
   abbrev pub listScore : ℕ → Float
   listScore k = blockScore (k / 128) (k % 128)

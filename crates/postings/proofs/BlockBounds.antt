@@ -12,7 +12,7 @@ use lib.ListN.{getD}
 use lib.Ieee.{Float, nan, binary32, ofBits}
 use borrow.Author.Tests.{lt-ltb, le-ltb, eq-eqb, ne-eqb}
 use Rattle.arrays.proofs.Order.{lt-or-ge}
-use Rattle.floats.specs.Maximum.{larger}
+use Rattle.floats.specs.Inner.Maximum.{larger}
 use Rattle.fieldnorm.specs.declared.FieldNormReader.{FieldNormReader}
 use Rattle.route.specs.F32.{f32}
 use Rattle.route.specs.Postings.{Postings, start}

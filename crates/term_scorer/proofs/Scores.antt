@@ -55,7 +55,7 @@ module _ (file : List ℕ) (x : Part) (weight : Float) (cache : List Float) (W :
         | inr g ↦ absurd (omega (arith, rw (le-ltb at (x .count) g) at h))
       ]
 
-      freq-is : at < x .count → getD freqs i 0 ≡ Rattle.notefile.specs.Lists.listFreq file x at
+      freq-is : at < x .count → getD freqs i 0 ≡ Rattle.notefile.specs.Inner.Structs.listFreq file x at
       unfolding postingsIn cursorIn
       freq-is l = P .placed .holds .freqs-are .at i hi ∙ rw (lt-ltb at (x .count) l)
 

@@ -1,5 +1,5 @@
 -- `floats::larger` meets its contract: its test is the definition's.
-use Rattle.floats.specs.Maximum.{larger}
+use Rattle.floats.specs.Inner.Maximum.{larger}
 use Rattle.floats.proofs.larger.Statement.{statement}
 use Rattle.floats.proofs.larger.Tie as tie
 

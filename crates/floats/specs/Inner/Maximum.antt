@@ -1,6 +1,10 @@
--- What IEEE 754-2019 says of the larger of two floats (9.6; the 2008 edition's maxNum is gone), to show that a comparison gives it.
+-- The larger of two floats as the code takes it, and what IEEE 754-2019 says of it (9.6; the 2008 edition's maxNum is gone).
 use mathlib.Core.Bool.{Bool, false, _||_, cond}
 use lib.Ieee.{Float, nan, inf, fin, isNan, lt}
+
+-- by comparison: y where it is above x, else x
+unfoldable pub larger : Float → Float → Float
+larger x y = cond (lt x y) y x
 
 -- the sign bit
 abbrev pub signOf : Float → Bool

@@ -1,7 +1,7 @@
 -- The largest of a loaded tail's scores, by comparison.
 use Prim.Native.Nat.{ℕ, zero, suc}
 use lib.Ieee.{Float}
-use Rattle.floats.specs.Maximum.{larger}
+use Rattle.floats.specs.Inner.Maximum.{larger}
 use Rattle.route.specs.F32.{f32}
 
 -- the largest of `most` and the n values from place i

@@ -6,7 +6,7 @@ use Prim.Native.Nat.{ℕ, _+_, _-_, min, _≤_, _<_}
 use lib.Dec.{ltb, leb}
 use lib.ListN.{length, getD, take}
 use lib.Ieee.{Float, nan}
-use Rattle.floats.specs.Maximum.{larger}
+use Rattle.floats.specs.Inner.Maximum.{larger}
 use Rattle.route.specs.F32.{f32}
 use Rattle.route.specs.Rule.{insertDown, rankFrom, thresholdAfter, best}
 use Rattle.rule.specs.Rules.{ruleOf, startOf}
