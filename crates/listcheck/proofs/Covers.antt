@@ -46,17 +46,14 @@ module _ (maxScore own : Float) (t : T (within 1000 maxScore)) (b : T (within 10
   max-score-lower : lt own maxScore ≡ false → allCovered maxScore n score ≡ allCovered maxScore n score && allCovered own n score
   max-score-lower e = first-both (allCovered maxScore n score) (allCovered own n score) (lower-covers maxScore own t b (not-above 1000 maxScore own t b e) n score)
 
+  pub low-both : {low : Float} → ((lt own maxScore ≡ true) × (low ≡ own)) ⊎ ((lt own maxScore ≡ false) × (low ≡ maxScore)) → allCovered low n score ≡ allCovered maxScore n score && allCovered own n score
+  low-both (inl (e, f)) = rw f (own-lower e)
+  low-both (inr (e, f)) = rw f (max-score-lower e)
+
 module _ (file : List ℕ) (x : Part) (weight : Float) (cache : List Float) (W : WeighedIn x weight cache) (bytes : (k : ℕ) → getD file k 0 < 256) (reader : FieldNormReader) (er : reader ≡ normReader file)
     (docs freqs : List ℕ) (scores : List Float) (S : Scored reader file cache weight Unstepped docs freqs scores) where
   score-is : (i : ℕ) → i < 128 → getD scores i nan ≡ scoreAmong file x docs freqs i
   score-is i h = S .at i h ∙ score-of-doc x weight cache W file bytes er (getD docs i 0) (getD freqs i 0)
 
-  covered-is : (n : ℕ) → n ≤ 128 → (bound : Float) → allCovered bound n (λ i. getD scores i nan) ≡ allCovered bound n (scoreAmong file x docs freqs)
+  pub covered-is : (n : ℕ) → n ≤ 128 → (bound : Float) → allCovered bound n (λ i. getD scores i nan) ≡ allCovered bound n (scoreAmong file x docs freqs)
   covered-is n h bound = every-same _ _ n (λ i l. ap (λ (z : Float). not (lt bound z)) (score-is i (omega arith)))
-
-  -- the test with the lower bound
-  module _ (n : ℕ) (h : n ≤ 128) (maxScore own : Float) (t : T (within 1000 maxScore)) (b : T (within 1000 own)) where
-    pub low-covers : {low : Float} → ((lt own maxScore ≡ true) × (low ≡ own)) ⊎ ((lt own maxScore ≡ false) × (low ≡ maxScore))
-        → {r : Bool} → r ≡ allCovered low n (λ i. getD scores i nan) → r ≡ allCovered maxScore n (scoreAmong file x docs freqs) && allCovered own n (scoreAmong file x docs freqs)
-    low-covers {low} (inl (e, f)) er = er ∙ covered-is n h low ∙ rw f (own-lower maxScore own t b n (scoreAmong file x docs freqs) e)
-    low-covers {low} (inr (e, f)) er = er ∙ covered-is n h low ∙ rw f (max-score-lower maxScore own t b n (scoreAmong file x docs freqs) e)

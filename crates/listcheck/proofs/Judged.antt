@@ -2,12 +2,13 @@
 use mathlib.Core.Path.{_≡_, refl, sym, ap, _∙_}
 use mathlib.Core.Bool.{Bool, true, false, _&&_, cond}
 use mathlib.Core.List.{List}
+use mathlib.Core.Logic.{_⊎_}
 use Prim.Native.Nat.{ℕ, suc, _+_, _*_, _≤_, _<_}
 use native.Mathlib.Numerals.{add-one}
 use native.Mathlib.Omega.{arith}
 use lib.Dec.{T}
 use lib.ListN.{getD}
-use lib.Ieee.{Float, nan}
+use lib.Ieee.{Float, nan, lt}
 use borrow.Author.Tests.{lt-ltb, le-ltb}
 use Rattle.arrays.specs.Every.{every}
 use Rattle.arrays.proofs.Every.{fails, one-more}
@@ -25,6 +26,7 @@ use Rattle.notefile.specs.declared.part.Part.{Part}
 use Rattle.notefile.specs.declared.skip.SkipEntry.{SkipEntry}
 use Rattle.notefile.proofs.Decoded.{every-same}
 use Rattle.notefile.proofs.Scores.{score-by-is, list-bound-in, block-bound-in}
+use Rattle.listcheck.proofs.Covers.{low-both}
 
 -- one block
 module _ (file : List ℕ) (x : Part) (b : ℕ) {docs : List ℕ} {d : Bool} (D : DocsRead file x b d docs) where
@@ -41,19 +43,22 @@ module _ (file : List ℕ) (x : Part) (b : ℕ) {docs : List ℕ} {d : Bool} (D 
       covers-is bound {n} e = ap (λ n. allCovered bound n (scoreAmong file x docs freqs)) e ∙ every-same _ _ (blockSize x b) (λ i h. rw (D .at d-right i h, F .at f-right i h))
 
       module _ {maxScore : Float} {n : ℕ} (max-score-is : maxScore ≡ listBound x) (size : n ≡ blockSize x b) where
-        pub full-bounds : {bound : Float} {r : Bool} → b < fullBlocks x → bound ≡ blockBound file x b → r ≡ allCovered maxScore n (scoreAmong file x docs freqs) && allCovered bound n (scoreAmong file x docs freqs) → r ≡ boundsRight file x b
+        -- the scores were compared with the lower of the two bounds
+        pub full-bounds : {own low : Float} {r : Bool} → b < fullBlocks x → own ≡ blockBound file x b → T (within 1000 maxScore) → T (within 1000 own)
+            → r ≡ allCovered low n (scoreAmong file x docs freqs) → ((lt own maxScore ≡ true) × (low ≡ own)) ⊎ ((lt own maxScore ≡ false) × (low ≡ maxScore)) → r ≡ boundsRight file x b
         unfolding boundsRight
-        full-bounds {bound} full e er = er ∙ rw (covers-is maxScore size, covers-is bound size, max-score-is, e, lt-ltb b (fullBlocks x) full)
+        full-bounds {own} full e t o er w =
+            er ∙ low-both maxScore own t o n (scoreAmong file x docs freqs) w ∙ rw (covers-is maxScore size, covers-is own size, max-score-is, e, lt-ltb b (fullBlocks x) full)
 
-        pub tail-bounds : {r : Bool} → fullBlocks x ≤ b → r ≡ allCovered maxScore n (scoreAmong file x docs freqs) && allCovered maxScore n (scoreAmong file x docs freqs) → r ≡ boundsRight file x b
+        pub tail-bounds : {r : Bool} → fullBlocks x ≤ b → r ≡ allCovered maxScore n (scoreAmong file x docs freqs) → r ≡ boundsRight file x b
         unfolding boundsRight
         tail-bounds past er =
-            er ∙ ap (λ (z : Bool). z && z) (covers-is maxScore size ∙ ap (λ (z : Float). covers file x z b) max-score-is) ∙ twice (covers file x (listBound x) b)
+            er ∙ covers-is maxScore size ∙ ap (λ (z : Float). covers file x z b) max-score-is ∙ alone (covers file x (listBound x) b)
             ∙ sym (ap (λ (z : Bool). covers file x (listBound x) b && cond z (covers file x (blockBound file x b) b) true) (le-ltb b (fullBlocks x) past))
           where
-            twice : (z : Bool) → z && z ≡ z && true
-            twice true = refl
-            twice false = refl
+            alone : (z : Bool) → z ≡ z && true
+            alone true = refl
+            alone false = refl
 
       module _ {r : Bool} (e : r ≡ boundsRight file x b) where
         pub bounds-wrong : r ≡ false → 9 ≡ blockRefusal file x b

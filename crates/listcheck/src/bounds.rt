@@ -3,13 +3,10 @@ use bm25::Scoring;
 use fieldnorm::FieldNormReader;
 use notefile::part::Part;
 ghost use mathlib.Core.Path.{_≡_};
-ghost use mathlib.Core.Bool.{_&&_};
 ghost use Prim.Native.Nat.{_≤_};
-ghost use lib.Dec.{T};
 ghost use lib.ListN.{getD};
 ghost use lib.Ieee.{nan};
 ghost use Rattle.arrays.specs.Lent.{before};
-ghost use Rattle.floats.specs.Step.{within};
 ghost use Rattle.notefile.specs.Header.{normReader};
 ghost use Rattle.notefile.specs.Inner.Given.{WeighedIn};
 ghost use Rattle.notefile.specs.Inner.Reads.{allCovered, scoreAmong};
@@ -30,25 +27,20 @@ fn covered(scores: &[f32; 128], n: usize, bound: f32) -> bool
     right
 }
 
-// Whether neither the list's bound nor the block's own lies below a score of the first n postings. Scores are made for the whole block at
-// once, and the lower bound is compared for both.
-pub fn both_cover(
+// Whether the bound lies below no score of the first n postings. Scores are made for the whole block at once.
+pub fn scores_covered(
     file: &[u8],
     reader: FieldNormReader,
     x: Part,
     cache: &[f32; 256],
     weight: f32,
     n: usize,
-    max_score: f32,
-    own: f32,
+    bound: f32,
     docs: &[u32; 128],
     freqs: &[u32; 128],
 ) -> bool
-    requires { ⌜ (reader ≡ normReader (now file)) × WeighedIn x weight (now cache) × (n ≤ 128)
-        × T (within 1000 «max_score») × T (within 1000 own) ⌝ }
-    ensures { λ r.
-        let score = scoreAmong (before file) x (before docs) (before freqs) in
-        ⌜ r ≡ allCovered «max_score» n score && allCovered own n score ⌝ }
+    requires { ⌜ (reader ≡ normReader (now file)) × WeighedIn x weight (now cache) × (n ≤ 128) ⌝ }
+    ensures { λ r. ⌜ r ≡ allCovered bound n (scoreAmong (before file) x (before docs) (before freqs)) ⌝ }
 {
     let mut scores = [0.0f32; 128];
     bm25_block::score_block(
@@ -61,6 +53,5 @@ pub fn both_cover(
         freqs,
         &mut scores,
     );
-    let low = if own < max_score { own } else { max_score };
-    covered(&scores, n, low)
+    covered(&scores, n, bound)
 }

@@ -1,5 +1,5 @@
 // What one list is refused for: conditions 5 to 9, one pass over each block.
-use crate::bounds::both_cover;
+use crate::bounds::scores_covered;
 use crate::skip::TailPlace;
 use crate::skip::tail_place;
 use bm25::Bm25Weight;
@@ -23,7 +23,7 @@ ghost use Rattle.notefile.specs.Inner.Structs.{lastBefore};
 ghost use Rattle.notefile.specs.Inner.Given.{Against, BlocksIn, Limits, PackedIn, Parted, Skipped};
 ghost use Rattle.notefile.specs.Inner.Reads.{TailValues, blockRefusal, lower};
 
-// What full block b is refused for: 7, 8, 9 or nothing.
+// What full block b is refused for: 7, 8, 9 or nothing. Its scores are compared with the lower of its own bound and the list's.
 fn check_block(
     file: &[u8],
     limit: u32,
@@ -51,18 +51,8 @@ fn check_block(
     }
     let most = bm25::decode_block_wand_max_tf(e.freq_code);
     let own = bm25::score_by(cache, weight, Scoring::Unstepped, e.norm_code, most);
-    if !both_cover(
-        file,
-        reader,
-        x,
-        cache,
-        weight,
-        128,
-        max_score,
-        own,
-        &docs,
-        &freqs,
-    ) {
+    let low = if own < max_score { own } else { max_score };
+    if !scores_covered(file, reader, x, cache, weight, 128, low, &docs, &freqs) {
         return 9;
     }
     0
@@ -94,18 +84,7 @@ fn check_tail(
     if !frequencies(freqs, n, false) {
         return 8;
     }
-    if !both_cover(
-        file,
-        reader,
-        x,
-        cache,
-        weight,
-        n,
-        max_score,
-        max_score,
-        docs,
-        freqs,
-    ) {
+    if !scores_covered(file, reader, x, cache, weight, n, max_score, docs, freqs) {
         return 9;
     }
     0

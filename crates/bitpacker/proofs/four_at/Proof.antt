@@ -16,8 +16,11 @@ inside : (c : tie.Else1) → c .before .before .args .p + 16 ≤ length (c .befo
 inside c = c .before .before .pre .inside (omega arith)
 
 -- and the next four, where the values go on in them
-next : (c : tie.Then2) → c .before .before .before .before .before .before .before .args .p + 32 ≤ length (c .before .before .before .before .before .before .before .args .s .now)
-next c = c .before .before .before .before .before .before .before .pre .across (c .if2 .taken)
+abbrev start : tie.Then2 → tie.Start
+start c = c .before .before .before .before .before .before .before
+
+next : (c : tie.Then2) → start c .args .p + 32 ≤ length (start c .args .s .now)
+next c = start c .pre .across (c .if2 .taken)
 
 returns : tie.Need-returns
 returns c =
@@ -73,32 +76,39 @@ add-above c = omega (arith, next c)
 
 above-requires : tie.Need-above-requires
 above-requires c κs =
-    let e = c .before .before .before .before .before .before .before in
-    (omega (arith, next c), omega (arith, e .pre .shifts, e .pre .widths), high-lt (c .before .before .before .before .read-u32 .result) (e .args .shift) (c .before .before .before .before .read-u32 .ensures .1) (e .pre .shifts))
+    let e = start c in
+    let r = c .before .before .before .before .read-u32 in
+    (omega (arith, next c), omega (arith, e .pre .shifts, e .pre .widths), high-lt (r .result) (e .args .shift) (r .ensures .1) (e .pre .shifts))
 
 add-above-2 : tie.Need-add-above-2
 add-above-2 c = omega (arith, next (c .before))
 
 above-requires-2 : tie.Need-above-requires-2
 above-requires-2 c κs =
-    let e = c .before .before .before .before .before .before .before .before in
-    (omega (arith, next (c .before)), omega (arith, e .pre .shifts, e .pre .widths), high-lt (c .before .before .before .before .read-u322 .result) (e .args .shift) (c .before .before .before .before .read-u322 .ensures .1) (e .pre .shifts))
+    let t = c .before in
+    let e = start t in
+    let r = t .before .before .before .read-u322 in
+    (omega (arith, next t), omega (arith, e .pre .shifts, e .pre .widths), high-lt (r .result) (e .args .shift) (r .ensures .1) (e .pre .shifts))
 
 add-above-3 : tie.Need-add-above-3
 add-above-3 c = omega (arith, next (c .before .before))
 
 above-requires-3 : tie.Need-above-requires-3
 above-requires-3 c κs =
-    let e = c .before .before .before .before .before .before .before .before .before in
-    (omega (arith, next (c .before .before)), omega (arith, e .pre .shifts, e .pre .widths), high-lt (c .before .before .before .before .read-u323 .result) (e .args .shift) (c .before .before .before .before .read-u323 .ensures .1) (e .pre .shifts))
+    let t = c .before .before in
+    let e = start t in
+    let r = t .before .before .read-u323 in
+    (omega (arith, next t), omega (arith, e .pre .shifts, e .pre .widths), high-lt (r .result) (e .args .shift) (r .ensures .1) (e .pre .shifts))
 
 add-above-4 : tie.Need-add-above-4
 add-above-4 c = omega (arith, next (c .before .before .before))
 
 above-requires-4 : tie.Need-above-requires-4
 above-requires-4 c κs =
-    let e = c .before .before .before .before .before .before .before .before .before .before in
-    (omega (arith, next (c .before .before .before)), omega (arith, e .pre .shifts, e .pre .widths), high-lt (c .before .before .before .before .read-u324 .result) (e .args .shift) (c .before .before .before .before .read-u324 .ensures .1) (e .pre .shifts))
+    let t = c .before .before .before in
+    let e = start t in
+    let r = t .before .read-u324 in
+    (omega (arith, next t), omega (arith, e .pre .shifts, e .pre .widths), high-lt (r .result) (e .args .shift) (r .ensures .1) (e .pre .shifts))
 
 returns-2 : tie.Need-returns-2
 returns-2 c =

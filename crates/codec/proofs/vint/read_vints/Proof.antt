@@ -25,7 +25,7 @@ enum-told : tie.Need-enum-told Inv-loop μ-loop
 enum-told c = search needs
 
 returns : tie.Need-returns Inv-loop μ-loop
-returns c = one-broken (c .before .before .before .before .loop .inv) (c .before .before .before .loop-test .taken) (c .before .before .read-vint .ensures) (c .enum-told .given .1)
+returns c = let t = c .before .before .before in one-broken (t .before .loop .inv) (t .loop-test .taken) (c .before .before .read-vint .ensures) (c .enum-told .given .1)
 
 mul-out : tie.Need-mul-out Inv-loop μ-loop
 mul-out c = search needs
@@ -40,7 +40,11 @@ loop-less : tie.Need-loop-less Inv-loop μ-loop
 loop-less c = search needs
 
 loop-again : tie.Need-loop-again Inv-loop μ-loop
-loop-again c = one-read (c .before .before .before .before .before .loop .inv) (c .before .before .before .before .loop-test .taken) (c .before .before .before .read-vint .ensures) (c .before .before .before .before .before .before .before .pre .1) (c .before .v .given .1)
+loop-again c =
+    let r = c .before .before .before in
+    let t = r .before in
+    let l = t .before in
+    one-read (l .loop .inv) (t .loop-test .taken) (r .read-vint .ensures) (l .before .before .pre .1) (c .before .v .given .1)
 
 returns-2 : tie.Need-returns-2 Inv-loop μ-loop
 returns-2 c = all-read (c .before .loop .inv) (c .loop-test .left)

@@ -22,8 +22,9 @@ element-copy-out-head c = search needs
 
 returns-2 : tie.Need-returns-2
 returns-2 c =
-    let e = c .before .before .before .before .before .before in
-    let s = c .before .before .before .before .sums .ensures in
+    let m = c .before .before .before .before in
+    let e = m .before .before in
+    let s = m .sums .ensures in
     record { summed = s; same = first-low (e .args .n) (e .args .limit) s (e .pre .0) (e .fits .limit .fits) (omega arith) (not-true (e .args .first) (c .before .if2 .taken)) (c .if3 .taken) }
 
 sub-last : tie.Need-sub-last
@@ -37,8 +38,9 @@ element-copy-out-last c = search needs
 
 returns-3 : tie.Need-returns-3
 returns-3 c =
-    let e = c .before .before .before .before .before .before .before in
-    let s = c .before .before .before .before .before .sums .ensures in
+    let m = c .before .before .before .before .before in
+    let e = m .before .before in
+    let s = m .sums .ensures in
     record { summed = s; same = last-high (e .args .n) (e .args .limit) s (e .pre .0) (e .fits .limit .fits) (omega arith) (c .if4 .taken) }
 
 rising-requires : tie.Need-rising-requires
@@ -46,9 +48,11 @@ rising-requires c κs = search needs
 
 returns-4 : tie.Need-returns-4
 returns-4 c =
-    let e = c .before .before .before .before .before .before .before .before .before in
-    let s = c .before .before .before .before .before .before .before .sums .ensures in
-    let above = ⊎-elim (λ w. inr (w .1 .left)) (λ w. inl (not-false (e .args .first) (w .left))) (c .before .before .before .before .if2 .came) in
+    let h = c .before .before .before .before in
+    let m = h .before .before .before in
+    let e = m .before .before in
+    let s = m .sums .ensures in
+    let above = ⊎-elim (λ w. inr (w .1 .left)) (λ w. inl (not-false (e .args .first) (w .left))) (h .if2 .came) in
     record { summed = s; same = rising-right (e .args .n) (e .args .limit) s (e .pre .0) (e .fits .limit .fits) (omega arith) (e .pre .2) (e .fits .previous .fits) above (c .before .before .if4 .left) (c .rising .ensures) }
 
 pub documents-spec : {M : Type 1} → statement M

@@ -1,6 +1,7 @@
 -- `list::check_block` meets its contract: documents, frequencies and bounds are tested in this order.
 use mathlib.Core.Path.{_≡_, _∙_}
 use mathlib.Core.Bool.{true, false}
+use mathlib.Core.Logic.{inl, inr, ⊎-elim}
 use Prim.Native.Nat.{ℕ}
 use borrow.Author.Needs.{needs}
 use borrow.Author.Tests.{not-true, not-false}
@@ -63,42 +64,40 @@ own-is c =
     bound-is (a .args .file .now) (a .args .x) (a .args .b) (λ i. begun e .shared-slice-known .given i .fits) (a .args .weight) (a .args .cache .now) (a .pre .0 .weighed) (r .result) (r .ensures)
     (c .before .decode-block-wand-max-tf .ensures) (c .score-by .ensures)
 
-both-cover-requires : tie.Need-both-cover-requires
-both-cover-requires c κs =
-    let s = c .before .before in
-    let k = begun (docs-read (freqs-read s)) in
-    let a = k .before in (
-      a .pre .0 .reader-is,
-      a .pre .0 .weighed,
-      search needs,
-      max-score-in (a .args .x) (a .pre .0 .limits) (a .pre .0 .max-score-is),
-      bound-in (a .args .file .now) (a .args .x) (a .args .b) (λ i. k .shared-slice-known .given i .fits) (a .pre .0 .limits) (own-is s),
-    )
+scores-covered-requires : tie.Need-scores-covered-requires
+scores-covered-requires c κs = let a = start (c .before .before .before) in (a .pre .0 .reader-is, a .pre .0 .weighed, search needs)
 
 -- what the bounds' test says of the block
-abbrev refusal-of : tie.After-both-cover → ℕ
-refusal-of c = let a = start (c .before .before .before) in blockRefusal (a .args .file .now) (a .args .x) (a .args .b)
+abbrev bounded : tie.After-scores-covered → tie.Joined3
+bounded c = c .before .before .before
 
-judged : (c : tie.After-both-cover) → (c .both-cover .result ≡ false → 9 ≡ refusal-of c) × (c .both-cover .result ≡ true → 0 ≡ refusal-of c)
+abbrev refusal-of : tie.After-scores-covered → ℕ
+refusal-of c = let a = start (bounded c .before) in blockRefusal (a .args .file .now) (a .args .x) (a .args .b)
+
+judged : (c : tie.After-scores-covered) → (c .scores-covered .result ≡ false → 9 ≡ refusal-of c) × (c .scores-covered .result ≡ true → 0 ≡ refusal-of c)
 judged c =
-    let s = c .before .before .before in
-    let a = start s in
-    let file = a .args .file .now in
+    let s = bounded c .before in
     let e2 = freqs-read s in
     let e1 = docs-read e2 in
+    let k = begun e1 in
+    let a = k .before in
+    let file = a .args .file .now in
     let D = e1 .before .packed-docs .ensures in
     let d-right = not-false _ (e1 .if1 .left) in
     let F = e2 .before .packed-freqs .ensures in
     let f-right = not-false _ (e2 .if2 .left) in
     let full = a .pre .1 .full in
-    let B = full-bounds file (a .args .x) (a .args .b) D d-right F f-right (a .pre .0 .max-score-is) (full-size (a .args .x) (a .args .b) full) full (own-is s) (c .both-cover .ensures) in
+    let t = max-score-in (a .args .x) (a .pre .0 .limits) (a .pre .0 .max-score-is) in
+    let o = bound-in file (a .args .x) (a .args .b) (λ i. k .shared-slice-known .given i .fits) (a .pre .0 .limits) (own-is s) in
+    let B = full-bounds file (a .args .x) (a .args .b) D d-right F f-right (a .pre .0 .max-score-is) (full-size (a .args .x) (a .args .b) full) full (own-is s) t o (c .scores-covered .ensures)
+    (⊎-elim (λ w. inl (w .0 .taken, w .1)) (λ w. inr (w .0 .left, w .1)) (bounded c .if3 .came)) in
     (bounds-wrong file (a .args .x) (a .args .b) D d-right F f-right B, all-right file (a .args .x) (a .args .b) D d-right F f-right B)
 
 returns-3 : tie.Need-returns-3
-returns-3 c = judged (c .before) .0 (not-true _ (c .if3 .taken))
+returns-3 c = judged (c .before) .0 (not-true _ (c .if4 .taken))
 
 returns-4 : tie.Need-returns-4
-returns-4 c = judged (c .before) .1 (not-false _ (c .if3 .left))
+returns-4 c = judged (c .before) .1 (not-false _ (c .if4 .left))
 
 pub check-block-spec : {M : Type 1} → statement M
 check-block-spec =
@@ -112,6 +111,6 @@ check-block-spec =
     returns-2
     decode-block-wand-max-tf-requires
     score-by-requires
-    both-cover-requires
+    scores-covered-requires
     returns-3
     returns-4)

@@ -45,11 +45,12 @@ lower-of-requires c κs = search needs
 
 add-at : tie.Need-add-at Inv-loop μ-loop
 add-at c =
-    let l = c .before .before .before .before .before .before in
+    let t = c .before .before .before .before .before in
+    let l = t .before in
     let a = l .before .before .before in
     let s = a .args .file .now in
     let x = a .args .x in
-    let p = packed-in s x (a .pre .1) (c .before .before .before .before .before .loop-test .taken) (l .loop .inv .place) in
+    let p = packed-in s x (a .pre .1) (t .loop-test .taken) (l .loop .inv .place) in
     let e = c .before .before .read-skip-entry in
     omega (arith, docs-in p (e .result) (e .ensures) .0, freqs-in p (e .result) (e .ensures) .0)
 
@@ -61,11 +62,12 @@ mul-at c = search needs
 
 add-at-2 : tie.Need-add-at-2 Inv-loop μ-loop
 add-at-2 c =
-    let l = c .before .before .before .before .before .before in
+    let t = c .before .before .before .before .before in
+    let l = t .before in
     let a = l .before .before .before in
     let s = a .args .file .now in
     let x = a .args .x in
-    let p = packed-in s x (a .pre .1) (c .before .before .before .before .before .loop-test .taken) (l .loop .inv .place) in
+    let p = packed-in s x (a .pre .1) (t .loop-test .taken) (l .loop .inv .place) in
     let e = c .before .before .read-skip-entry in
     omega (arith, freqs-in p (e .result) (e .ensures) .1, a .good)
 
@@ -77,12 +79,14 @@ loop-less c = search needs
 
 loop-again : tie.Need-loop-again Inv-loop μ-loop
 loop-again c =
-    let l = c .before .before .before .before .before .before in
+    let r = c .before .before .before .before in
+    let t = r .before in
+    let l = t .before in
     let a = l .before .before .before in
     let s = a .args .file .now in
     let x = a .args .x in
     let e = c .before .before .read-skip-entry in
-    one-judged s x (l .loop .inv) (c .before .before .before .before .before .loop-test .taken) (c .before .before .before .before .check-block .ensures) (c .before .before .before .if1 .left) (e .result) (e .ensures) (c .before .lower-of .ensures)
+    one-judged s x (l .loop .inv) (t .loop-test .taken) (r .check-block .ensures) (c .before .before .before .if1 .left) (e .result) (e .ensures) (c .before .lower-of .ensures)
 
 returns-2 : tie.Need-returns-2 Inv-loop μ-loop
 returns-2 c =

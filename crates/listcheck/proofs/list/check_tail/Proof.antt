@@ -8,7 +8,7 @@ use borrow.Author.Tests.{not-true, not-false}
 use Rattle.notefile.specs.Lists.{fullBlocks}
 use Rattle.notefile.specs.Inner.Reads.{blockRefusal}
 use Rattle.notefile.proofs.TailBlocks.{size-tail, docs-small, freqs-small, docs-tail, freqs-tail}
-use Rattle.listcheck.proofs.Judged.{docs-wrong, freqs-wrong, tail-bounds, bounds-wrong, all-right, max-score-in}
+use Rattle.listcheck.proofs.Judged.{docs-wrong, freqs-wrong, tail-bounds, bounds-wrong, all-right}
 use Rattle.listcheck.proofs.list.check_tail.Statement.{statement}
 use Rattle.listcheck.proofs.list.check_tail.Tie as tie
 
@@ -45,20 +45,19 @@ returns-2 c =
     freqs-wrong (a .args .file .now) (a .args .x) _ D (not-false _ (e .if1 .left)) (freqs-tail (a .pre .2) (c .before .frequencies .ensures)) (not-true _ (c .if2 .taken))
 
 -- the place behind the frequencies' test, and behind the documents'
-abbrev freqs-right : tie.After-both-cover-arg2 → tie.Else2
+abbrev freqs-right : tie.After-scores-covered-arg2 → tie.Else2
 freqs-right c = c .before .before
 
 abbrev docs-right : tie.Else2 → tie.Else1
 docs-right c = c .before .before .before
 
-both-cover-requires : tie.Need-both-cover-requires
-both-cover-requires c κs =
+scores-covered-requires : tie.Need-scores-covered-requires
+scores-covered-requires c κs =
     let a = start (docs-right (freqs-right c) .before .before) in
-    let t = max-score-in (a .args .x) (a .pre .0 .limits) (a .pre .0 .max-score-is) in
-    (a .pre .0 .reader-is, a .pre .0 .weighed, search needs, t, t)
+    (a .pre .0 .reader-is, a .pre .0 .weighed, search needs)
 
-judged : (c : tie.After-both-cover)
-    → (c .both-cover .result ≡ false → 9 ≡ refusal-of (docs-right (freqs-right (c .before)) .before)) × (c .both-cover .result ≡ true → 0 ≡ refusal-of (docs-right (freqs-right (c .before)) .before))
+judged : (c : tie.After-scores-covered)
+    → (c .scores-covered .result ≡ false → 9 ≡ refusal-of (docs-right (freqs-right (c .before)) .before)) × (c .scores-covered .result ≡ true → 0 ≡ refusal-of (docs-right (freqs-right (c .before)) .before))
 judged c =
     let e2 = freqs-right (c .before) in
     let e1 = docs-right e2 in
@@ -69,7 +68,7 @@ judged c =
     let F = freqs-tail (a .pre .2) (e2 .before .frequencies .ensures) in
     let d-right = not-false _ (e1 .if1 .left) in
     let f-right = not-false _ (e2 .if2 .left) in
-    let B = tail-bounds s (a .args .x) _ D d-right F f-right (a .pre .0 .max-score-is) (size-tail (a .pre .2)) (omega arith) (c .both-cover .ensures) in
+    let B = tail-bounds s (a .args .x) _ D d-right F f-right (a .pre .0 .max-score-is) (size-tail (a .pre .2)) (omega arith) (c .scores-covered .ensures) in
     (bounds-wrong s (a .args .x) _ D d-right F f-right B, all-right s (a .args .x) _ D d-right F f-right B)
 
 returns-3 : tie.Need-returns-3
@@ -87,6 +86,6 @@ check-tail-spec =
     returns
     frequencies-requires
     returns-2
-    both-cover-requires
+    scores-covered-requires
     returns-3
     returns-4)

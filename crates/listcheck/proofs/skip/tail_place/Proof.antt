@@ -25,8 +25,12 @@ returns c = let a = c .before .before .before .before .before .before in wrong-l
 loop-holds : tie.Need-loop-holds Inv-loop μ-loop
 loop-holds c = let a = c .before .before .before .before .before .before in begun (a .args .file .now) (a .args .x) (c .if1 .left)
 
+-- the place of the call, from the loop
+abbrev start : tie.At-loop Inv-loop μ-loop → tie.Start Inv-loop μ-loop
+start c = c .before .before .before .before .before .before .before
+
 skip-entry-at-requires : tie.Need-skip-entry-at-requires Inv-loop μ-loop
-skip-entry-at-requires c κs = let a = c .before .before .before .before .before .before .before .before in (record { parted = a .pre; exact = c .before .before .if1 .left }, c .loop-test .taken)
+skip-entry-at-requires c κs = let l = c .before in (record { parted = start l .pre; exact = l .before .if1 .left }, c .loop-test .taken)
 
 add-wide : tie.Need-add-wide Inv-loop μ-loop
 add-wide c = search needs
@@ -51,11 +55,13 @@ widths-right-requires c κs = search needs
 
 returns-2 : tie.Need-returns-2 Inv-loop μ-loop
 returns-2 c =
-    let e = c .before .before .before .before .before .before in
+    let v = c .before .before in
+    let u = v .before .before in
+    let e = u .before .before in
     let l = e .before .before in
-    let a = l .before .before .before .before .before .before .before in
+    let a = start l in
     one-wrong (a .args .file .now) (a .args .x) (l .before .if1 .left) (l .loop .inv) (e .before .loop-test .taken) (e .skip-entry-at .result) _ _ (e .skip-entry-at .ensures .0)
-    (c .before .before .before .before .wide .ensures .0) (c .before .before .wide2 .ensures .0) _ (c .before .widths-right .ensures) (not-true _ (c .if2 .taken))
+    (u .wide .ensures .0) (v .wide2 .ensures .0) _ (c .before .widths-right .ensures) (not-true _ (c .if2 .taken))
 
 add-at : tie.Need-add-at Inv-loop μ-loop
 add-at c = search needs
@@ -67,7 +73,11 @@ mul-at : tie.Need-mul-at Inv-loop μ-loop
 mul-at c = search needs
 
 add-at-2 : tie.Need-add-at-2 Inv-loop μ-loop
-add-at-2 c = let l = c .before .before .before .before .before .before .before .before in omega (arith, l .loop .inv .near, l .loop .inv .within, l .before .before .before .before .before .before .before .pre, l .before .before .before .before .before .before .before .good, c .before .before .before .before .wide .ensures, c .before .before .wide2 .ensures)
+add-at-2 c =
+    let v = c .before .before in
+    let u = v .before .before in
+    let l = u .before .before .before .before in
+    omega (arith, l .loop .inv .near, l .loop .inv .within, start l .pre, start l .good, u .wide .ensures, v .wide2 .ensures)
 
 add-b : tie.Need-add-b Inv-loop μ-loop
 add-b c = search needs
@@ -77,14 +87,16 @@ loop-less c = search needs
 
 loop-again : tie.Need-loop-again Inv-loop μ-loop
 loop-again c =
-    let e = c .before .before .before .before .before .before in
+    let v = c .before .before in
+    let u = v .before .before in
+    let e = u .before .before in
     let l = e .before .before in
-    let a = l .before .before .before .before .before .before .before in
+    let a = start l in
     one-right (a .args .file .now) (a .args .x) (l .before .if1 .left) (l .loop .inv) (e .before .loop-test .taken) (e .skip-entry-at .result) _ _ (e .skip-entry-at .ensures .0)
-    (c .before .before .before .before .wide .ensures .0) (c .before .before .wide2 .ensures .0) _ (c .before .widths-right .ensures) (omega (arith, c .before .before .wide2 .ensures)) (not-false _ (c .if2 .left))
+    (u .wide .ensures .0) (v .wide2 .ensures .0) _ (c .before .widths-right .ensures) (omega (arith, v .wide2 .ensures)) (not-false _ (c .if2 .left))
 
 returns-3 : tie.Need-returns-3 Inv-loop μ-loop
-returns-3 c = let l = c .before in let a = l .before .before .before .before .before .before .before in all-passed (a .args .file .now) (a .args .x) (l .before .if1 .left) (l .loop .inv) (c .loop-test .left)
+returns-3 c = let l = c .before in let a = start l in all-passed (a .args .file .now) (a .args .x) (l .before .if1 .left) (l .loop .inv) (c .loop-test .left)
 
 pub tail-place-spec : {M : Type 1} → statement M
 tail-place-spec =
