@@ -1,0 +1,8 @@
+-- Laws of the text.
+pub mod Putting
+pub mod Decimals
+pub mod InSteps
+pub mod Lines
+pub mod Scores
+pub mod Rendered
+pub mod Worked

@@ -1,0 +1,3 @@
+-- What the contracts of `print` cite: the text that it prints of a file.
+pub mod Text
+pub mod Inner
