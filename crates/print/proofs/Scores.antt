@@ -21,6 +21,8 @@ use Rattle.route.proofs.Scan.{offer-all}
 use Rattle.route.proofs.Hits.{hit-fin}
 use Rattle.route.proofs.Stepped.{stepped, stepped-order, SteppedList}
 use Rattle.bm25.specs.declared.Scoring.the-variants.{Stepped}
+use Rattle.rule.specs.Rules.{ruleOf, startOf}
+use Rattle.rule.specs.declared.Rule.{Rule}
 use Rattle.notefile.specs.Header.{listCount, documents}
 use Rattle.decoded.specs.Lists.{queried}
 use Rattle.decoded.specs.Inner.Bytes.{Bytes}
@@ -28,8 +30,6 @@ use Rattle.decoded.proofs.AcceptedLists.{accepted-list, queried-all}
 use Rattle.request.specs.Request.{asked, modeOf, refusalOf}
 use Rattle.request.specs.declared.Mode.{Mode}
 use Rattle.request.proofs.Requests.{let-through}
-use Rattle.rule.specs.Rules.{ruleOf, startOf}
-use Rattle.rule.specs.declared.Rule.{Rule}
 use Rattle.ranking.specs.Answers.{answer, plainList}
 
 abbrev pub OnGrid : Report Float → Type 0

@@ -1,10 +1,9 @@
 -- `put_ranking` meets its contract: by whether the number is 0.
-use borrow.Author.Needs.{needs}
 use native.Mathlib.Omega.{arith}
 use lib.Dec.{lit≤}
+use borrow.Author.Needs.{needs}
 use Rattle.print.proofs.Putting.{put-as, put-then, put-wider}
 use Rattle.print.proofs.Lines.{refused-text, reports-text}
-use borrow.Author.Needs.{needs}
 use Rattle.print.proofs.render.put_ranking.Statement.{statement}
 use Rattle.print.proofs.render.put_ranking.Tie as tie
 
