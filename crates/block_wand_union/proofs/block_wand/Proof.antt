@@ -23,6 +23,9 @@ abbrev μ-loop : tie.MeasureT-loop
 abbrev start : tie.After-sort-by-doc Inv-loop μ-loop → tie.Start Inv-loop μ-loop
 start c = c .before .before .before .before .before .before .before .before .before
 
+abbrev in-loop : tie.After-turn Inv-loop μ-loop → tie.In-loop Inv-loop μ-loop
+in-loop b = b .before .before .before .before .before
+
 rows-requires : tie.Need-rows-requires Inv-loop μ-loop
 rows-requires c κs = search needs
 
@@ -46,21 +49,21 @@ turn-requires c κs =
 
 same-length : tie.Need-same-length Inv-loop μ-loop
 same-length c =
-    let k = c .before .before .before .before .before .before .before .before .before in
+    let k = in-loop (c .before .before .before .before) in
     let a = start (k .before .before) in
     let S = k .before .loop .inv in
     lengths (a .args .file .now) (a .args .lists .now) (a .args .max-scores .now) _ (a .args .rule) (a .args .script .now) (a .args .documents .now) (a .args .scores .now) _ S .0
 
 same-length-2 : tie.Need-same-length-2 Inv-loop μ-loop
 same-length-2 c =
-    let k = c .before .before .before .before .before .before .before .before .before in
+    let k = in-loop (c .before .before .before .before) in
     let a = start (k .before .before) in
     let S = k .before .loop .inv in
     lengths (a .args .file .now) (a .args .lists .now) (a .args .max-scores .now) _ (a .args .rule) (a .args .script .now) (a .args .documents .now) (a .args .scores .now) _ S .1
 
 returns : tie.Need-returns Inv-loop μ-loop
 returns c =
-    let k = c .before .before .before .before .before .before .before .before .before in
+    let k = in-loop (c .before .before .before .before) in
     let a = start (k .before .before) in
     let S = k .before .loop .inv in
     let W = k .before .before in
@@ -68,7 +71,7 @@ returns c =
 
 report-requires : tie.Need-report-requires Inv-loop μ-loop
 report-requires c κs =
-    let k = c .before .before .before .before .before .before .before .before .before .before .before in
+    let k = in-loop (c .before .before .before .before .before .before) in
     let a = start (k .before .before) in
     let S = k .before .loop .inv in
     let w = row-left (a .args .file .now) (a .args .lists .now) (a .args .max-scores .now) _ (a .args .rule) (a .args .script .now) (a .args .documents .now) (a .args .scores .now) _ S (k .before .before .before .before .rows .ensures) (c .before .before .if2 .left) in
@@ -76,28 +79,30 @@ report-requires c κs =
 
 loop-less : tie.Need-loop-less Inv-loop μ-loop
 loop-less c =
-    let k = c .before .before .before .before .before .before .before .before .before .before .before .before .before .before .before .before in
+    let b = c .before .before .before .before .before .before .before .before .before .before .before in
+    let k = in-loop b in
     let a = start (k .before .before) in
     let S = k .before .loop .inv in
-    less (a .args .file .now) (a .args .lists .now) (a .args .max-scores .now) _ (a .args .rule) (a .args .script .now) (a .args .documents .now) (a .args .scores .now) _ S (k .loop-test .taken) (c .before .before .before .before .before .before .before .before .before .before .before .turn .ensures)
+    less (a .args .file .now) (a .args .lists .now) (a .args .max-scores .now) _ (a .args .rule) (a .args .script .now) (a .args .documents .now) (a .args .scores .now) _ S (k .loop-test .taken) (b .turn .ensures)
 
 loop-again : tie.Need-loop-again Inv-loop μ-loop
 loop-again c =
-    let k = c .before .before .before .before .before .before .before .before .before .before .before .before .before .before .before .before in
+    let b = c .before .before .before .before .before .before .before .before .before .before .before in
+    let k = in-loop b in
     let a = start (k .before .before) in
     let S = k .before .loop .inv in
-    reporting (a .args .file .now) (a .args .lists .now) (a .args .max-scores .now) _ (a .args .rule) (a .args .script .now) (a .args .documents .now) (a .args .scores .now) _ S (k .loop-test .taken) (c .before .before .before .before .before .before .before .before .before .before .before .turn .ensures) (c .before .before .before .before .before .before .before .before .before .if1 .taken) (row-left (a .args .file .now) (a .args .lists .now) (a .args .max-scores .now) _ (a .args .rule) (a .args .script .now) (a .args .documents .now) (a .args .scores .now) _ S (k .before .before .before .before .rows .ensures) (c .before .before .before .before .before .before .before .if2 .left) .2) (c .before .before .before .before .report .ensures)
+    reporting (a .args .file .now) (a .args .lists .now) (a .args .max-scores .now) _ (a .args .rule) (a .args .script .now) (a .args .documents .now) (a .args .scores .now) _ S (k .loop-test .taken) (b .turn .ensures) (c .before .before .before .before .before .before .before .before .before .if1 .taken) (row-left (a .args .file .now) (a .args .lists .now) (a .args .max-scores .now) _ (a .args .rule) (a .args .script .now) (a .args .documents .now) (a .args .scores .now) _ S (k .before .before .before .before .rows .ensures) (c .before .before .before .before .before .before .before .if2 .left) .2) (c .before .before .before .before .report .ensures)
 
 loop-less-2 : tie.Need-loop-less-2 Inv-loop μ-loop
 loop-less-2 c =
-    let k = c .before .before .before .before .before .before .before in
+    let k = in-loop (c .before .before) in
     let a = start (k .before .before) in
     let S = k .before .loop .inv in
     less (a .args .file .now) (a .args .lists .now) (a .args .max-scores .now) _ (a .args .rule) (a .args .script .now) (a .args .documents .now) (a .args .scores .now) _ S (k .loop-test .taken) (c .before .before .turn .ensures)
 
 loop-again-2 : tie.Need-loop-again-2 Inv-loop μ-loop
 loop-again-2 c =
-    let k = c .before .before .before .before .before .before .before in
+    let k = in-loop (c .before .before) in
     let a = start (k .before .before) in
     let S = k .before .loop .inv in
     quietly (a .args .file .now) (a .args .lists .now) (a .args .max-scores .now) _ (a .args .rule) (a .args .script .now) (a .args .documents .now) (a .args .scores .now) _ S (k .loop-test .taken) (c .before .before .turn .ensures) (c .if1 .left)

@@ -20,6 +20,16 @@ abbrev μ-loop : tie.MeasureT-loop
 μ-loop file norms weights caches scoring lists n order suffix max-sum doc window-end block-max-sum rule script places₀ docs₀ freqs₀ documents₀ scores₀ leader room score-threshold threshold₀ i₀ places docs freqs documents scores threshold i =
     128 - i
 
+-- the places that the answers look back to
+abbrev start : tie.After-search-block Inv-loop μ-loop → tie.Start Inv-loop μ-loop
+start c = c .before .before .before .before .before .before .before .before .before .before .before
+
+abbrev at-loop : tie.After-next-hit Inv-loop μ-loop → tie.At-loop Inv-loop μ-loop
+at-loop n = n .before .before .before .before
+
+abbrev counted : tie.At-loop Inv-loop μ-loop → tie.After-rows Inv-loop μ-loop
+counted l = l .before .before .before .before
+
 element-copy-out-leader : tie.Need-element-copy-out-leader Inv-loop μ-loop
 element-copy-out-leader c = search needs
 
@@ -40,13 +50,13 @@ search-block-requires c κs =
 
 loop-holds : tie.Need-loop-holds Inv-loop μ-loop
 loop-holds c =
-    let a = c .before .before .before .before .before .before .before .before .before .before .before in
+    let a = start c in
     walking _ _ _ _ _ _ _ _ _ _ _ (a .pre .0) (a .pre .2) (c .search-block .ensures) (a .pre .4)
 
 next-hit-requires : tie.Need-next-hit-requires Inv-loop μ-loop
 next-hit-requires c κs =
     let l = c .before .before .before in
-    let a = l .before .before .before .before .before .before .before .before .before .before .before .before in
+    let a = start (l .before) in
     (a .pre .0, a .pre .1, l .loop .inv .seated, l .loop .inv .high)
 
 enum-told : tie.Need-enum-told Inv-loop μ-loop
@@ -61,7 +71,7 @@ same-length-2 c = search needs
 returns : tie.Need-returns Inv-loop μ-loop
 returns c =
     let n = c .before .before in
-    let l = n .before .before .before .before in
+    let l = at-loop n in
     none-left _ _ _ _ _ _ _ _ _ _ _ (l .loop .inv) (n .next-hit .ensures) (c .enum-told .given .1) refl
 
 enum-known-hit : tie.Need-enum-known-hit Inv-loop μ-loop
@@ -77,8 +87,8 @@ returns-2 : tie.Need-returns-2 Inv-loop μ-loop
 returns-2 c =
     let h = c .before .before .before in
     let n = h .before .before in
-    let l = n .before .before .before .before in
-    let k = l .before .before .before .before in
+    let l = at-loop n in
+    let k = counted l in
     full _ _ _ _ _ _ _ _ _ _ _ (l .loop .inv) (n .next-hit .ensures) (h .hit .given .1) (c .if1 .taken ∙ k .rows .ensures) refl
 
 report-requires : tie.Need-report-requires Inv-loop μ-loop
@@ -86,9 +96,9 @@ report-requires c κs =
     let e = c .before .before in
     let h = e .before .before .before in
     let n = h .before .before in
-    let l = n .before .before .before .before in
-    let k = l .before .before .before .before in
-    let a = l .before .before .before .before .before .before .before .before .before .before .before .before in
+    let l = at-loop n in
+    let k = counted l in
+    let a = start (l .before) in
     let z = has-row _ _ _ _ _ _ _ _ _ _ _ (l .loop .inv) (λ w. e .if1 .left (w ∙ sym (k .rows .ensures))) in
     (a .pre .3, z .0, z .1)
 
@@ -98,9 +108,7 @@ loop-less c =
     let e = p .before .before .before in
     let h = e .before .before .before in
     let n = h .before .before in
-    let l = n .before .before .before .before in
-    let k = l .before .before .before .before in
-    let a = l .before .before .before .before .before .before .before .before .before .before .before .before in
+    let l = at-loop n in
     omega (arith, further _ _ _ _ _ _ _ _ _ _ _ (l .loop .inv) (n .next-hit .ensures) (h .hit .given .1))
 
 loop-again : tie.Need-loop-again Inv-loop μ-loop
@@ -109,9 +117,9 @@ loop-again c =
     let e = p .before .before .before in
     let h = e .before .before .before in
     let n = h .before .before in
-    let l = n .before .before .before .before in
-    let k = l .before .before .before .before in
-    let a = l .before .before .before .before .before .before .before .before .before .before .before .before in
+    let l = at-loop n in
+    let k = counted l in
+    let a = start (l .before) in
     goes-on _ _ _ _ _ _ _ _ _ _ _ (l .loop .inv) (n .next-hit .ensures) (h .hit .given .1) (λ w. e .if1 .left (w ∙ sym (k .rows .ensures))) (p .report .ensures) (a .pre .5) (c .if2 .taken)
 
 same-length-5 : tie.Need-same-length-5 Inv-loop μ-loop
@@ -126,9 +134,9 @@ returns-3 c =
     let e = p .before .before .before in
     let h = e .before .before .before in
     let n = h .before .before in
-    let l = n .before .before .before .before in
-    let k = l .before .before .before .before in
-    let a = l .before .before .before .before .before .before .before .before .before .before .before .before in
+    let l = at-loop n in
+    let k = counted l in
+    let a = start (l .before) in
     exits _ _ _ _ _ _ _ _ _ _ _ (l .loop .inv) (n .next-hit .ensures) (h .hit .given .1) (λ w. e .if1 .left (w ∙ sym (k .rows .ensures))) (p .report .ensures) (a .pre .5) (c .if2 .left) refl
 
 pub walk-spec : {M : Type 1} → statement M

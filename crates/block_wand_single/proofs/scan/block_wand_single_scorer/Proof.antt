@@ -14,6 +14,16 @@ Inv-loop file norms x w scoring rule script documents₀ scores₀ docs₀ freqs
 abbrev μ-loop : tie.MeasureT-loop
 μ-loop file norms x w scoring rule script documents₀ scores₀ docs₀ freqs₀ values₀ postings₀ doc₀ threshold₀ documents scores docs freqs values postings doc threshold = singleCost 128 (listOf scoring file x) hunt (cursorOf postings)
 
+-- the places that the answers look back to
+abbrev start : tie.After-new Inv-loop μ-loop → tie.Start Inv-loop μ-loop
+start c = c .before .before .before .before .before .before .before .before .before .before
+
+abbrev at-loop : tie.After-scan-block Inv-loop μ-loop → tie.At-loop Inv-loop μ-loop
+at-loop b = b .before .before .before .before .before .before
+
+abbrev scanned : tie.After-scan Inv-loop μ-loop → tie.After-scan-block Inv-loop μ-loop
+scanned s = s .before .before .before .before .before
+
 open-requires : tie.Need-open-requires Inv-loop μ-loop
 open-requires c κs = search needs
 
@@ -24,14 +34,12 @@ new-requires : tie.Need-new-requires Inv-loop μ-loop
 new-requires c κs = search needs
 
 loop-holds : tie.Need-loop-holds Inv-loop μ-loop
-loop-holds c =
-    let z = c .before .before .before .before .before .before .before .before .before .before in
-    running-begun (z .pre .0 .list) _ _ _ (c .before .before .before .«open» .ensures) (c .before .doc .ensures) (c .new .ensures _)
+loop-holds c = running-begun (start c .pre .0 .list) _ _ _ (c .before .before .before .«open» .ensures) (c .before .doc .ensures) (c .new .ensures _)
 
 scan-block-requires : tie.Need-scan-block-requires Inv-loop μ-loop
 scan-block-requires c κs =
     let a = c .before .before .before .before .before in
-    let z = a .before .before .before .before .before .before .before .before .before .before .before in
+    let z = start (a .before) in
     (z .pre .0, z .pre .1, has-begun (z .pre .0 .list) _ _ _ (a .loop .inv), a .loop .inv .placed, hunting (z .pre .0 .list) _ _ _ (a .loop .inv))
 
 stopped-requires : tie.Need-stopped-requires Inv-loop μ-loop
@@ -39,24 +47,21 @@ stopped-requires c κs = search needs
 
 same-length : tie.Need-same-length Inv-loop μ-loop
 same-length c =
-    let b = c .before .before .before .before .before .before .before in
-    let a = b .before .before .before .before .before .before in
-    let z = a .before .before .before .before .before .before .before .before .before .before .before in
-    same-long (z .pre .0 .list) _ _ _ (a .loop .inv) (b .scan-block .ensures) .0
+    let b = scanned (c .before .before) in
+    let a = at-loop b in
+    same-long (start (a .before) .pre .0 .list) _ _ _ (a .loop .inv) (b .scan-block .ensures) .0
 
 same-length-2 : tie.Need-same-length-2 Inv-loop μ-loop
 same-length-2 c =
-    let b = c .before .before .before .before .before .before .before in
-    let a = b .before .before .before .before .before .before in
-    let z = a .before .before .before .before .before .before .before .before .before .before .before in
-    same-long (z .pre .0 .list) _ _ _ (a .loop .inv) (b .scan-block .ensures) .1
+    let b = scanned (c .before .before) in
+    let a = at-loop b in
+    same-long (start (a .before) .pre .0 .list) _ _ _ (a .loop .inv) (b .scan-block .ensures) .1
 
 returns : tie.Need-returns Inv-loop μ-loop
 returns c =
-    let b = c .before .before .before .before .before .before .before in
-    let a = b .before .before .before .before .before .before in
-    let z = a .before .before .before .before .before .before .before .before .before .before .before in
-    let L = z .pre .0 .list in
+    let b = scanned (c .before .before) in
+    let a = at-loop b in
+    let L = start (a .before) .pre .0 .list in
     (ran-full L _ _ _ (a .loop .inv) (b .scan-block .ensures) (c .before .if1 .taken) _ (c .stopped .ensures), stands L _ _ _ (a .loop .inv) (b .scan-block .ensures) _ (c .stopped .ensures))
 
 stopped-requires-2 : tie.Need-stopped-requires-2 Inv-loop μ-loop
@@ -64,39 +69,34 @@ stopped-requires-2 c κs = search needs
 
 same-length-3 : tie.Need-same-length-3 Inv-loop μ-loop
 same-length-3 c =
-    let b = c .before .before .before .before .before .before .before .before in
-    let a = b .before .before .before .before .before .before in
-    let z = a .before .before .before .before .before .before .before .before .before .before .before in
-    same-long (z .pre .0 .list) _ _ _ (a .loop .inv) (b .scan-block .ensures) .0
+    let b = scanned (c .before .before .before) in
+    let a = at-loop b in
+    same-long (start (a .before) .pre .0 .list) _ _ _ (a .loop .inv) (b .scan-block .ensures) .0
 
 same-length-4 : tie.Need-same-length-4 Inv-loop μ-loop
 same-length-4 c =
-    let b = c .before .before .before .before .before .before .before .before in
-    let a = b .before .before .before .before .before .before in
-    let z = a .before .before .before .before .before .before .before .before .before .before .before in
-    same-long (z .pre .0 .list) _ _ _ (a .loop .inv) (b .scan-block .ensures) .1
+    let b = scanned (c .before .before .before) in
+    let a = at-loop b in
+    same-long (start (a .before) .pre .0 .list) _ _ _ (a .loop .inv) (b .scan-block .ensures) .1
 
 returns-2 : tie.Need-returns-2 Inv-loop μ-loop
 returns-2 c =
-    let b = c .before .before .before .before .before .before .before .before in
-    let a = b .before .before .before .before .before .before in
-    let z = a .before .before .before .before .before .before .before .before .before .before .before in
-    let L = z .pre .0 .list in
+    let b = scanned (c .before .before .before) in
+    let a = at-loop b in
+    let L = start (a .before) .pre .0 .list in
     (ran-over L _ _ _ (a .loop .inv) (b .scan-block .ensures) (c .before .before .if1 .left) (c .before .if2 .taken) _ (c .stopped2 .ensures), stands L _ _ _ (a .loop .inv) (b .scan-block .ensures) _ (c .stopped2 .ensures))
 
 loop-less : tie.Need-loop-less Inv-loop μ-loop
 loop-less c =
     let e = c .before .before in
-    let b = e .before .before .before .before .before .before .before in
-    b .scan-block .ensures .nearer (e .before .if1 .left) (e .if2 .left)
+    scanned (e .before .before) .scan-block .ensures .nearer (e .before .if1 .left) (e .if2 .left)
 
 loop-again : tie.Need-loop-again Inv-loop μ-loop
 loop-again c =
     let e = c .before .before in
-    let b = e .before .before .before .before .before .before .before in
-    let a = b .before .before .before .before .before .before in
-    let z = a .before .before .before .before .before .before .before .before .before .before .before in
-    running-on (z .pre .0 .list) _ _ _ (a .loop .inv) (b .scan-block .ensures) (e .before .if1 .left) (e .if2 .left)
+    let b = scanned (e .before .before) in
+    let a = at-loop b in
+    running-on (start (a .before) .pre .0 .list) _ _ _ (a .loop .inv) (b .scan-block .ensures) (e .before .if1 .left) (e .if2 .left)
 
 pub block-wand-single-scorer-spec : {M : Type 1} → statement M
 block-wand-single-scorer-spec =

@@ -19,6 +19,13 @@ abbrev μ-loop : tie.MeasureT-loop
 μ-loop file norms weights caches scoring lists n order suffix candidate-doc leader-score threshold places₀ docs₀ freqs₀ total-score₀ i₀ places docs freqs total-score i =
     n - i
 
+-- the places that the answers look back to
+abbrev in-loop : tie.After-doc Inv-loop μ-loop → tie.In-loop Inv-loop μ-loop
+in-loop d = d .before .before .before .before
+
+abbrev not-past : tie.After-seek Inv-loop μ-loop → tie.Else1 Inv-loop μ-loop
+not-past m = m .before .before .before .before
+
 order-in : (l : tie.In-loop Inv-loop μ-loop) → InOrder (query (l .before .before .before .args .scoring) (l .before .before .before .args .file .now) (l .before .before .before .args .lists .now) (l .before .before .before .args .n) (l .before .before .before .args .order .now))
 order-in l = l .before .before .before .pre .0
 
@@ -50,24 +57,24 @@ returns c =
 seek-requires : tie.Need-seek-requires Inv-loop μ-loop
 seek-requires c κs =
     let d = c .before .before .before .before in
-    let l = d .before .before .before .before in
+    let l = in-loop d in
     (small l, l .before .loop .inv .seated .slot _ (within l), doc-here (l .before .loop .inv .seated) (within l) (d .doc .ensures), omega (arith, l .before .before .before .pre .3))
 
 returns-2 : tie.Need-returns-2 Inv-loop μ-loop
 returns-2 c =
     let m = c .before in
-    let d = m .before .before .before .before .before in
-    let l = d .before .before .before .before in
-    missed _ _ _ _ _ _ (order-in l) (l .before .loop .inv) (l .loop-test .taken) (doc-here (l .before .loop .inv .seated) (within l) (d .doc .ensures)) (m .before .before .before .before .if1 .left) (m .seek .ensures) (c .if2 .taken)
+    let d = not-past m .before in
+    let l = in-loop d in
+    missed _ _ _ _ _ _ (order-in l) (l .before .loop .inv) (l .loop-test .taken) (doc-here (l .before .loop .inv .seated) (within l) (d .doc .ensures)) (not-past m .if1 .left) (m .seek .ensures) (c .if2 .taken)
 
 score-requires : tie.Need-score-requires Inv-loop μ-loop
 score-requires c κs =
     let e = c .before .before .before in
     let m = e .before in
-    let d = m .before .before .before .before .before in
-    let l = d .before .before .before .before in
+    let d = not-past m .before in
+    let l = in-loop d in
     let a = l .before .before .before in
-    let S = seated-there _ _ _ _ _ _ (order-in l) (l .before .loop .inv) (l .loop-test .taken) (doc-here (l .before .loop .inv .seated) (within l) (d .doc .ensures)) (m .before .before .before .before .if1 .left) (m .seek .ensures) in
+    let S = seated-there _ _ _ _ _ _ (order-in l) (l .before .loop .inv) (l .loop-test .taken) (doc-here (l .before .loop .inv .seated) (within l) (d .doc .ensures)) (not-past m .if1 .left) (m .seek .ensures) in
     (small l, a .pre .1 .norms-are, S .slot _ (within l), a .pre .1 .weighed _ (within l), sym (e .if2 .left) ∙ m .seek .ensures .moved .doc-is, a .pre .3)
 
 mul-if3 : tie.Need-mul-if3 Inv-loop μ-loop
@@ -87,18 +94,18 @@ loop-again c =
     let v = c .before .before in
     let e = v .before .before .before .before in
     let m = e .before in
-    let d = m .before .before .before .before .before in
-    let l = d .before .before .before .before in
-    goes-on _ _ _ _ _ _ (order-in l) (l .before .loop .inv) (l .loop-test .taken) (doc-here (l .before .loop .inv .seated) (within l) (d .doc .ensures)) (m .before .before .before .before .if1 .left) (m .seek .ensures) (e .if2 .left) (v .score .ensures) (c .if3 .taken)
+    let d = not-past m .before in
+    let l = in-loop d in
+    goes-on _ _ _ _ _ _ (order-in l) (l .before .loop .inv) (l .loop-test .taken) (doc-here (l .before .loop .inv .seated) (within l) (d .doc .ensures)) (not-past m .if1 .left) (m .seek .ensures) (e .if2 .left) (v .score .ensures) (c .if3 .taken)
 
 returns-3 : tie.Need-returns-3 Inv-loop μ-loop
 returns-3 c =
     let v = c .before .before in
     let e = v .before .before .before .before in
     let m = e .before in
-    let d = m .before .before .before .before .before in
-    let l = d .before .before .before .before in
-    too-low _ _ _ _ _ _ (order-in l) (l .before .loop .inv) (l .loop-test .taken) (doc-here (l .before .loop .inv .seated) (within l) (d .doc .ensures)) (m .before .before .before .before .if1 .left) (m .seek .ensures) (e .if2 .left) (v .score .ensures) (c .if3 .left)
+    let d = not-past m .before in
+    let l = in-loop d in
+    too-low _ _ _ _ _ _ (order-in l) (l .before .loop .inv) (l .loop-test .taken) (doc-here (l .before .loop .inv .seated) (within l) (d .doc .ensures)) (not-past m .if1 .left) (m .seek .ensures) (e .if2 .left) (v .score .ensures) (c .if3 .left)
 
 returns-4 : tie.Need-returns-4 Inv-loop μ-loop
 returns-4 c = let l = c .before .before in due _ _ _ _ _ _ (l .before .before .pre .0) (l .loop .inv) (c .before .loop-test .left) (c .if4 .taken)

@@ -18,6 +18,13 @@ abbrev μ-loop : tie.MeasureT-loop
 μ-loop file norms weights caches scoring lists n order suffix from window-end score-threshold threshold places₀ docs₀ freqs₀ leader i₀ places docs freqs i =
     128 - i
 
+-- the places that the answers look back to
+abbrev start : tie.In-loop Inv-loop μ-loop → tie.Start Inv-loop μ-loop
+start l = l .before .before .before .before
+
+abbrev live : tie.After-score-in-block Inv-loop μ-loop → tie.Else2 Inv-loop μ-loop
+live v = v .before .before .before .before
+
 element-copy-out-leader : tie.Need-element-copy-out-leader Inv-loop μ-loop
 element-copy-out-leader c = search needs
 
@@ -25,13 +32,13 @@ loop-holds : tie.Need-loop-holds Inv-loop μ-loop
 loop-holds c = let a = c .before .before in begun _ _ _ _ _ _ _ (a .pre .2) (a .pre .3)
 
 mul-doc : tie.Need-mul-doc Inv-loop μ-loop
-mul-doc c = omega (arith, slot-small (c .before .before .before .before .pre .0) (c .before .before .before .before .pre .0 .leader))
+mul-doc c = let O = start c .pre .0 in omega (arith, slot-small O (O .leader))
 
 mul-doc-2 : tie.Need-mul-doc-2 Inv-loop μ-loop
-mul-doc-2 c = omega (arith, slot-small (c .before .before .before .before .pre .0) (c .before .before .before .before .pre .0 .leader))
+mul-doc-2 c = let O = start c .pre .0 in omega (arith, slot-small O (O .leader))
 
 index-1-doc : tie.Need-index-1-doc Inv-loop μ-loop
-index-1-doc c = omega (arith, slot-small (c .before .before .before .before .pre .0) (c .before .before .before .before .pre .0 .leader))
+index-1-doc c = let O = start c .pre .0 in omega (arith, slot-small O (O .leader))
 
 index-2-doc : tie.Need-index-2-doc Inv-loop μ-loop
 index-2-doc c = search needs
@@ -39,7 +46,7 @@ index-2-doc c = search needs
 returns : tie.Need-returns Inv-loop μ-loop
 returns c =
     let l = c .before .before in
-    let a = l .before .before .before .before in
+    let a = start l in
     let O = a .pre .0 in
     let H = l .before .loop .inv in
     let b = same-block _ _ _ _ _ _ _ H in
@@ -48,7 +55,7 @@ returns c =
 returns-2 : tie.Need-returns-2 Inv-loop μ-loop
 returns-2 c =
     let l = c .before .before .before in
-    let a = l .before .before .before .before in
+    let a = start l in
     let O = a .pre .0 in
     let H = l .before .loop .inv in
     let b = same-block _ _ _ _ _ _ _ H in
@@ -59,7 +66,7 @@ score-in-block-requires c κs =
     let e = c .before .before .before in
     let f = e .before in
     let l = f .before .before in
-    let a = l .before .before .before .before in
+    let a = start l in
     let O = a .pre .0 in
     let H = l .before .loop .inv in
     let b = same-block _ _ _ _ _ _ _ H in
@@ -74,10 +81,10 @@ add-i c = search needs
 try-candidate-requires : tie.Need-try-candidate-requires Inv-loop μ-loop
 try-candidate-requires c κs =
     let v = c .before .before .before .before in
-    let e = v .before .before .before .before in
+    let e = live v in
     let f = e .before in
     let l = f .before .before in
-    let a = l .before .before .before .before in
+    let a = start l in
     let O = a .pre .0 in
     let H = l .before .loop .inv in
     let b = same-block _ _ _ _ _ _ _ H in
@@ -91,10 +98,10 @@ returns-3 c =
     let m = c .before .before .before in
     let s = m .before .before .before .before in
     let v = s .before in
-    let e = v .before .before .before .before in
+    let e = live v in
     let f = e .before in
     let l = f .before .before in
-    let a = l .before .before .before .before in
+    let a = start l in
     let O = a .pre .0 in
     let H = l .before .loop .inv in
     let b = same-block _ _ _ _ _ _ _ H in
@@ -112,10 +119,10 @@ loop-again c =
     let m = c .before .before in
     let s = m .before .before .before .before in
     let v = s .before in
-    let e = v .before .before .before .before in
+    let e = live v in
     let f = e .before in
     let l = f .before .before in
-    let a = l .before .before .before .before in
+    let a = start l in
     let O = a .pre .0 in
     let H = l .before .loop .inv in
     let b = same-block _ _ _ _ _ _ _ H in
@@ -128,10 +135,10 @@ loop-less-2 c = search needs
 loop-again-2 : tie.Need-loop-again-2 Inv-loop μ-loop
 loop-again-2 c =
     let v = c .before in
-    let e = v .before .before .before .before in
+    let e = live v in
     let f = e .before in
     let l = f .before .before in
-    let a = l .before .before .before .before in
+    let a = start l in
     let O = a .pre .0 in
     let H = l .before .loop .inv in
     let b = same-block _ _ _ _ _ _ _ H in

@@ -6,6 +6,16 @@ use Rattle.intersection_window.proofs.Opening.{gathered, leader-kept, l
 use Rattle.intersection_window.proofs.window.next_window.Statement.{statement}
 use Rattle.intersection_window.proofs.window.next_window.Tie as tie
 
+-- the places that the answers look back to
+abbrev start : tie.After-seek-block → tie.Start
+start s = s .before .before .before .before
+
+abbrev sought : tie.After-block-max → tie.After-seek-block
+sought b = b .before .before .before .before .before
+
+abbrev ended : tie.After-gather → tie.After-last-doc-in-block
+ended g = g .before .before .before .before .before
+
 element-copy-out-leader : tie.Need-element-copy-out-leader
 element-copy-out-leader c = search needs
 
@@ -18,7 +28,7 @@ seek-block-requires c κs =
 block-max-requires : tie.Need-block-max-requires
 block-max-requires c κs =
     let s = c .before .before .before .before in
-    let a = s .before .before .before .before in
+    let a = start s in
     let O = a .pre .0 in
     let R = a .pre .2 in
     let hq = O .below 0 (O .leader) in
@@ -28,8 +38,8 @@ block-max-requires c κs =
 last-doc-in-block-requires : tie.Need-last-doc-in-block-requires
 last-doc-in-block-requires c κs =
     let b = c .before in
-    let s = b .before .before .before .before .before in
-    let a = s .before .before .before .before in
+    let s = sought b in
+    let a = start s in
     let O = a .pre .0 in
     let R = a .pre .2 in
     let hq = O .below 0 (O .leader) in
@@ -39,8 +49,8 @@ last-doc-in-block-requires c κs =
 gather-requires : tie.Need-gather-requires
 gather-requires c κs =
     let b = c .before .before .before .before .before .before in
-    let s = b .before .before .before .before .before in
-    let a = s .before .before .before .before in
+    let s = sought b in
+    let a = start s in
     let O = a .pre .0 in
     let R = a .pre .2 in
     let hq = O .below 0 (O .leader) in
@@ -50,10 +60,10 @@ gather-requires c κs =
 returns : tie.Need-returns
 returns c =
     let g = c .before .before in
-    let l = g .before .before .before .before .before in
+    let l = ended g in
     let b = l .before .before in
-    let s = b .before .before .before .before .before in
-    let a = s .before .before .before .before in
+    let s = sought b in
+    let a = start s in
     let O = a .pre .0 in
     let R = a .pre .2 in
     let hq = O .below 0 (O .leader) in
@@ -64,10 +74,10 @@ load-requires : tie.Need-load-requires
 load-requires c κs =
     let e = c .before .before .before .before .before in
     let g = e .before .before in
-    let l = g .before .before .before .before .before in
+    let l = ended g in
     let b = l .before .before in
-    let s = b .before .before .before .before .before in
-    let a = s .before .before .before .before in
+    let s = sought b in
+    let a = start s in
     let O = a .pre .0 in
     let R = a .pre .2 in
     let hq = O .below 0 (O .leader) in
@@ -79,10 +89,10 @@ returns-2 c =
     let f = c .before .before .before .before in
     let e = f .before .before in
     let g = e .before .before in
-    let l = g .before .before .before .before .before in
+    let l = ended g in
     let b = l .before .before in
-    let s = b .before .before .before .before .before in
-    let a = s .before .before .before .before in
+    let s = sought b in
+    let a = start s in
     let O = a .pre .0 in
     let R = a .pre .2 in
     let hq = O .below 0 (O .leader) in
@@ -93,10 +103,10 @@ returns-3 : tie.Need-returns-3
 returns-3 c =
     let e = c .before .before in
     let g = e .before .before in
-    let l = g .before .before .before .before .before in
+    let l = ended g in
     let b = l .before .before in
-    let s = b .before .before .before .before .before in
-    let a = s .before .before .before .before in
+    let s = sought b in
+    let a = start s in
     let O = a .pre .0 in
     let R = a .pre .2 in
     let hq = O .below 0 (O .leader) in
