@@ -3,6 +3,8 @@ use bm25::Scoring;
 use notecheck::check::Checked;
 use notecheck::check::check;
 use ranking::outcome::Outcome;
+use ranking::outcome::count_of;
+use ranking::outcome::number_of;
 use ranking::plain::plain;
 use ranking::skipping::run;
 use request::Mode;
@@ -15,7 +17,6 @@ ghost use Rattle.notefile.specs.Refusal.{fileRefusal};
 ghost use Rattle.notefile.specs.Inner.Order.{orElse};
 ghost use Rattle.reports.specs.Rows.{rows};
 ghost use Rattle.request.specs.Request.{asked};
-ghost use Rattle.ranking.specs.Answers.{countOf, numberOf};
 ghost use Rattle.ranking.specs.Demand.{result};
 ghost use Rattle.noterank.specs.Interface.{modeAt, ruleAt, scoringAt, Ranked};
 ghost use Rattle.noterank.specs.Inner.Calls.{numbersRefusal, OutcomeBy};
@@ -111,26 +112,12 @@ fn by_walk(
     plain(file, query, mode, scoring, rule, script, documents, scores)
 }
 
-fn number_of(outcome: Outcome) -> u32
-    ensures { λ r. ⌜ r ≡ numberOf outcome ⌝ }
+// A list has at most a file's 1,048,576 documents, so its count fits 32 bits.
+fn short(count: usize) -> u32
+    requires { ⌜ count < 4294967296 ⌝ }
+    ensures { λ r. ⌜ r ≡ count ⌝ }
 {
-    match outcome {
-        Outcome::Done(_) => 0,
-        Outcome::Full(_) => 12,
-        Outcome::Refused(number) => number,
-    }
-}
-
-// A list has at most a file's 1,048,576 documents, so its count fits.
-fn count_of(outcome: Outcome) -> u32
-    requires { ⌜ countOf outcome < 4294967296 ⌝ }
-    ensures { λ r. ⌜ r ≡ countOf outcome ⌝ }
-{
-    match outcome {
-        Outcome::Done(count) => count as u32,
-        Outcome::Full(count) => count as u32,
-        Outcome::Refused(_) => 0,
-    }
+    count as u32
 }
 
 // One run; the header says what each number stands for.
@@ -182,6 +169,6 @@ pub extern "C" fn noterank_run(
         documents,
         scores,
     );
-    *count = count_of(outcome);
+    *count = short(count_of(outcome));
     number_of(outcome)
 }

@@ -15,9 +15,9 @@ use Rattle.notefile.specs.Parts.{partOf}
 use Rattle.notefile.specs.Lists.{blockScore, listBound}
 use Rattle.notefile.specs.Conditions.{headerRight, averageRight, lengthRight, entryRight, skipsRight, postingsRight, blockDocsRight, blockFreqsRight, boundsRight}
 use Rattle.notefile.specs.Refusal.{fileRefusal}
-use Rattle.notefile.specs.Small.{small}
 use Rattle.decoded.specs.Lists.{listOf, queried}
 use Rattle.request.specs.Request.{refusalOf}
+use Rattle.cases.specs.Table.{small}
 use Rattle.print.specs.Text.{decimal, reportsWord, refusedWord, newline, printed}
 
 -- `0` and `362477`

@@ -4,7 +4,8 @@ use crate::text::put;
 use crate::text::put_number;
 use bm25::Scoring;
 use notefile::header::read_header;
-use ranking::outcome::Outcome;
+use ranking::outcome::count_of;
+use ranking::outcome::number_of;
 use request::Mode;
 use rule::Rule;
 ghost use mathlib.Core.Path.{_≡_};
@@ -14,7 +15,6 @@ ghost use lib.ListN.{length, drop};
 ghost use Rattle.arrays.specs.Lent.{before, after};
 ghost use Rattle.notefile.specs.Header.{listCount};
 ghost use Rattle.notefile.specs.Refusal.{fileRefusal};
-ghost use Rattle.ranking.specs.Answers.{numberOf, countOf};
 ghost use Rattle.print.specs.Text.{firstLine, printed};
 ghost use Rattle.print.specs.Inner.Putting.{Put, Ready, textOf};
 
@@ -61,28 +61,6 @@ fn put_ranking(
     }
     let at = put_first(b"reports ", count as u64, out);
     put_rows(documents, scores, count, out, at)
-}
-
-// The table's number of an outcome.
-fn number_of(outcome: Outcome) -> u32
-    ensures { λ r. ⌜ r ≡ numberOf outcome ⌝ }
-{
-    match outcome {
-        Outcome::Done(_) => 0,
-        Outcome::Full(_) => 12,
-        Outcome::Refused(number) => number,
-    }
-}
-
-// How many rows there are.
-fn count_of(outcome: Outcome) -> usize
-    ensures { λ r. ⌜ r ≡ countOf outcome ⌝ }
-{
-    match outcome {
-        Outcome::Done(count) => count,
-        Outcome::Full(count) => count,
-        Outcome::Refused(_) => 0,
-    }
 }
 
 // The file's text at the start of `out`; how many bytes it has.

@@ -1,5 +1,6 @@
 -- `noterank_run` meets its contract: the numbers first, then the walk's run.
 use mathlib.Core.Path.{sym, _∙_}
+use native.Mathlib.Omega.{arith}
 use borrow.Author.Needs.{needs}
 use Rattle.reports.specs.Rows.{rows}
 use Rattle.request.specs.Request.{asked}
@@ -47,16 +48,21 @@ by-walk-requires : tie.Need-by-walk-requires
 by-walk-requires c κs = search needs
 
 count-of-requires : tie.Need-count-of-requires
-count-of-requires c κs =
-    let b = c .before .before .before .before in
+count-of-requires c κs = search needs
+
+short-requires : tie.Need-short-requires
+short-requires c κs =
+    let b = c .before .before .before .before .before in
     let u = b .before .before .before in
     let s = u .before in
     let m = s .before in
     let n = m .before .before in
     let a = start n in
     let file = n .before .before .before .before .before in
+    let few =
     few-by (asked (a .args .file .now) (a .args .query .now) (m .mode-at .result) (s .scoring-at .result) (u .rule-at .result) (a .args .script .now)) _ _ (b .by-walk .result)
-    (λ k. file .shared-slice-known .given k .fits) (a .args .walk) (b .by-walk .ensures)
+    (λ k. file .shared-slice-known .given k .fits) (a .args .walk) (b .by-walk .ensures) in
+    omega (arith, c .count-of .ensures, few)
 
 number-of-requires : tie.Need-number-of-requires
 number-of-requires c κs = search needs
@@ -69,7 +75,8 @@ same-length-2 c = search needs
 
 returns-2 : tie.Need-returns-2
 returns-2 c =
-    let k = c .before in
+    let h = c .before in
+    let k = h .before in
     let b = k .before .before .before .before .before in
     let u = b .before .before .before in
     let s = u .before in
@@ -77,7 +84,7 @@ returns-2 c =
     let e = m .before in
     let n = e .before in
     walk-ranked (call (start n)) (m .mode-at .ensures) (s .scoring-at .ensures) (u .rule-at .ensures) (sym (n .numbers-refusal .ensures) ∙ e .if1 .left) (b .by-walk .result) (b .by-walk .ensures)
-    (c .number-of .ensures) (k .count-of .ensures)
+    (c .number-of .ensures) (h .short .ensures ∙ k .count-of .ensures)
 
 pub noterank-run-spec : {M : Type 1} → statement M
 noterank-run-spec =
@@ -90,6 +97,7 @@ noterank-run-spec =
     rule-at-requires
     by-walk-requires
     count-of-requires
+    short-requires
     number-of-requires
     same-length
     same-length-2
