@@ -1,6 +1,5 @@
 -- `put_ranking` meets its contract: by whether the number is 0.
 use borrow.Author.Needs.{needs}
-use native.Mathlib.Omega.{arith}
 use lib.Dec.{lit≤}
 use Rattle.print.proofs.Putting.{put-as, put-then, put-wider}
 use Rattle.print.proofs.Lines.{refused-text, reports-text}

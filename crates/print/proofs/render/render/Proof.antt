@@ -3,8 +3,7 @@ use mathlib.Core.Path.{refl, sym}
 use lib.Seq.{length-take-le}
 use lib.Ieee.{ofBits, round}
 use Rattle.floats.specs.Step.{gridF}
-use Rattle.print.proofs.Rendered.{Drawn, drawn, whole}
-use native.Mathlib.Omega.{arith}
+use Rattle.print.proofs.Rendered.{drawn, whole}
 use borrow.Author.Needs.{needs}
 use Rattle.print.proofs.render.render.Statement.{statement}
 use Rattle.print.proofs.render.render.Tie as tie

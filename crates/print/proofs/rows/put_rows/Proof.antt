@@ -2,7 +2,6 @@
 use Prim.Native.Nat.{_-_}
 use Rattle.print.proofs.Lines.{Lining, lines-begin, line-put, lines-end}
 use borrow.Author.Needs.{needs}
-use native.Mathlib.Omega.{arith}
 use Rattle.print.proofs.rows.put_rows.Statement.{statement}
 use Rattle.print.proofs.rows.put_rows.Tie as tie
 

@@ -1,7 +1,6 @@
 -- `put` meets its contract: a byte a turn.
 use Prim.Native.Nat.{_-_}
 use lib.ListN.{length}
-use native.Mathlib.Omega.{arith}
 use borrow.Author.Needs.{needs}
 use Rattle.print.proofs.Putting.{Copying, copy-begins, copy-goes-on, copy-ends}
 use Rattle.print.proofs.text.put.Statement.{statement}
