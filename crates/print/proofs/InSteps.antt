@@ -1,17 +1,17 @@
 -- A multiple of 1/1024 up to 16,000, times 1,024, is a whole number that an f32 holds: its steps.
-use mathlib.Core.Path.{_≡_, refl, sym, ap, _∙_, subst}
-use mathlib.Core.Bool.{Bool, true, false, true≢false, cond}
+use mathlib.Core.Path.{_≡_, refl, sym, ap, _∙_}
+use mathlib.Core.Bool.{true, false, true≢false}
 use Prim.Native.Nat.{ℕ, _+_, _*_, _/_, _%_, _^_, _≤_, _<_}
 use native.Mathlib.Nat.{div-add-mod', zero-div, mul-lt-mul-of-pos-right}
 use native.Mathlib.Omega.{arith}
 use lib.IntN.{ℤ, pos}
-use lib.Dec.{T, eqb, leb, eqb→eq, le→leb, lt→ltb, lit<, lit≤}
+use lib.Dec.{T, eqb, leb, eqb→eq, le→leb, lt→ltb, lit<}
 use lib.Ieee.{Float, nan, inf, fin, binary32, up, down, mul, lt, round, ofInt, inFloat, toUnsigned}
 use lib.Ieee.Exact.{HasValue}
 use lib.Ieee.Fits.{down-pos, and-l, and-r}
 use lib.Ieee.Scale.{round-same}
 use lib.Ieee.Back.{round-whole, unsigned-back}
-use borrow.Author.Tests.{ltb-true, ltb-false}
+use borrow.Author.Tests.{ltb-false}
 use Rattle.floats.specs.Step.{steps}
 use Rattle.floats.specs.Threshold.{thresholdOk}
 use Rattle.floats.proofs.Step.{lt-value}

@@ -2,7 +2,7 @@
 use mathlib.Core.Path.{_≡_, refl, sym, ap, _∙_, subst}
 use mathlib.Core.Bool.{cond}
 use mathlib.Core.List.{List, [], _∷_, _++_}
-use Prim.Native.Nat.{ℕ, zero, suc, min, _+_, _≤_, _<_}
+use Prim.Native.Nat.{ℕ, zero, suc, _+_, _≤_}
 use native.Mathlib.Omega.{arith}
 use lib.Dec.{T, eqb}
 use lib.ListN.{length, getD, take, drop, length-append, length-map}
@@ -17,7 +17,7 @@ use Rattle.route.proofs.Cases.{on-test}
 use Rattle.bm25.specs.declared.Scoring.the-variants.{Stepped}
 use Rattle.rule.specs.declared.Rule.the-variants.{Script}
 use Rattle.notefile.specs.Header.{listCount}
-use Rattle.notefile.specs.Refusal.{firstRefusal, fileRefusal}
+use Rattle.notefile.specs.Refusal.{fileRefusal}
 use Rattle.notefile.specs.Inner.Order.{orElse}
 use Rattle.reports.specs.Rows.{Rows, rowsOf, docs}
 use Rattle.decoded.specs.Inner.Bytes.{Bytes}

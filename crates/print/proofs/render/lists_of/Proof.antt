@@ -1,5 +1,4 @@
 -- `lists_of` meets its contract: an accepted file has a header, and at most 16 lists.
-use mathlib.Core.Path.{sym, _∙_}
 use native.Mathlib.Omega.{arith}
 use borrow.Author.Needs.{needs}
 use Rattle.notefile.proofs.Accepted.{header-right}

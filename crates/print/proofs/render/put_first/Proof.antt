@@ -1,5 +1,4 @@
 -- `put_first` meets its contract: the word, the number and the line's end one behind another.
-use native.Mathlib.Omega.{arith}
 use borrow.Author.Needs.{needs}
 use Rattle.print.proofs.Putting.{put-then, put-wider}
 use Rattle.print.proofs.render.put_first.Statement.{statement}

@@ -1,5 +1,4 @@
 -- `put_ranking` meets its contract: by whether the number is 0.
-use native.Mathlib.Omega.{arith}
 use lib.Dec.{lit≤}
 use borrow.Author.Needs.{needs}
 use Rattle.print.proofs.Putting.{put-as, put-then, put-wider}

@@ -1,11 +1,10 @@
 -- `render` meets its contract: the run's outcome is the answer over all lists, and its rows are the plain scan's.
 use mathlib.Core.Path.{refl, sym}
-use native.Mathlib.Omega.{arith}
 use lib.Seq.{length-take-le}
 use lib.Ieee.{ofBits, round}
 use borrow.Author.Needs.{needs}
 use Rattle.floats.specs.Step.{gridF}
-use Rattle.print.proofs.Rendered.{Drawn, drawn, whole}
+use Rattle.print.proofs.Rendered.{drawn, whole}
 use Rattle.print.proofs.render.render.Statement.{statement}
 use Rattle.print.proofs.render.render.Tie as tie
 

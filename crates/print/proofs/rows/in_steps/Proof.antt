@@ -1,8 +1,6 @@
 -- `in_steps` meets its contract: the product of what is above 0 is a whole number, and nothing is cut off.
-use mathlib.Core.Path.{sym, ap, _∙_, subst}
-use lib.Dec.{T}
-use lib.Ieee.{Float, ofBits, toUnsigned, lt, fin}
-use borrow.Author.Needs.{needs}
+use mathlib.Core.Path.{ap, _∙_}
+use lib.Ieee.{ofBits, toUnsigned}
 use Rattle.print.proofs.InSteps.{product-is, whole-back, whole-between, low-steps}
 use Rattle.print.proofs.rows.in_steps.Statement.{statement}
 use Rattle.print.proofs.rows.in_steps.Tie as tie

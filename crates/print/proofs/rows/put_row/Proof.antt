@@ -1,7 +1,6 @@
 -- `put_row` meets its contract: the four parts one behind another.
-use native.Mathlib.Omega.{arith}
 use borrow.Author.Needs.{needs}
-use Rattle.print.proofs.Putting.{put-then, put-as}
+use Rattle.print.proofs.Putting.{put-then}
 use Rattle.print.proofs.rows.put_row.Statement.{statement}
 use Rattle.print.proofs.rows.put_row.Tie as tie
 

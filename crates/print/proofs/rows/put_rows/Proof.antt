@@ -1,6 +1,5 @@
 -- `put_rows` meets its contract: a row a turn.
 use Prim.Native.Nat.{_-_}
-use native.Mathlib.Omega.{arith}
 use borrow.Author.Needs.{needs}
 use Rattle.print.proofs.Lines.{Lining, lines-begin, line-put, lines-end}
 use Rattle.print.proofs.rows.put_rows.Statement.{statement}

@@ -1,6 +1,5 @@
 -- `put` meets its contract: a byte a turn.
 use Prim.Native.Nat.{_-_}
-use native.Mathlib.Omega.{arith}
 use lib.ListN.{length}
 use borrow.Author.Needs.{needs}
 use Rattle.print.proofs.Putting.{Copying, copy-begins, copy-goes-on, copy-ends}
