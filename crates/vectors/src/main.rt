@@ -136,7 +136,8 @@ fn file_at(data: &[u8], at: usize, n: usize) -> &[u8] {
     &data[at..end]
 }
 
-// The run of the case at a place: after its size and the lengths of file and query come walk, mode, scoring, rule, the start's kind and bits, and k.
+// The run of the case at a place: after its size and the lengths of file and query come walk, mode, scoring, rule, the start's kind and
+// bits, and k.
 fn call(
     data: &[u8],
     at: usize,
@@ -166,7 +167,8 @@ fn call(
     )
 }
 
-// Then, behind the script's length, the lengths of both buffers, the number and the count expected; the rows expected stand at a place of their own.
+// Then, behind the script's length, the lengths of both buffers, the number and the count expected; the rows expected stand at a place of
+// their own.
 fn hold(
     data: &[u8],
     at: usize,
