@@ -75,13 +75,13 @@ module _ (file : List ℕ) (x : Part) where
         placed = subst (λ (q : SegmentPostings). Placed file x q docs freqs) (sym e) P;
       }
 
-  -- to know its bound moves nothing
-  pub bound-in : {row docs freqs : List ℕ} → PlaceIn file x row docs freqs → PlaceIn file x (set row 7 1) docs freqs × (cursorIn (set row 7 1) ≡ cursorIn row)
-  bound-in {row} {docs} {freqs} P =
+  -- to know its bound, or not, moves nothing
+  pub bound-in : (k : ℕ) {row docs freqs : List ℕ} → PlaceIn file x row docs freqs → PlaceIn file x (set row 7 k) docs freqs × (cursorIn (set row 7 k) ≡ cursorIn row)
+  bound-in k {row} {docs} {freqs} P =
       let p = postingsIn file x row in
-      let e : set row 7 1 ≡ placeRow p 1 = ap (λ (z : List ℕ). set z 7 1) (P .standing .row-is) in (
-        subst (λ (z : List ℕ). PlaceIn file x z docs freqs) (sym e) (kept-in p 1 (P .standing .narrow) (P .placed)),
-        ap cursorIn e ∙ sym (cursor-is (placeRow p 1)) ∙ ap cursorOf (place-back p 1 (P .placed .stands)) ∙ cursor-is row,
+      let e : set row 7 k ≡ placeRow p k = ap (λ (z : List ℕ). set z 7 k) (P .standing .row-is) in (
+        subst (λ (z : List ℕ). PlaceIn file x z docs freqs) (sym e) (kept-in p k (P .standing .narrow) (P .placed)),
+        ap cursorIn e ∙ sym (cursor-is (placeRow p k)) ∙ ap cursorOf (place-back p k (P .placed .stands)) ∙ cursor-is row,
       )
 
   -- a row's document, whatever the scoring

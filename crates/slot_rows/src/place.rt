@@ -3,7 +3,10 @@ use notefile::part::Part;
 use postings::cursor::SegmentPostings;
 use postings::skip::SkipReader;
 ghost use mathlib.Core.Path.{_≡_};
+ghost use mathlib.Core.Bool.{true};
+ghost use lib.Ieee.{binary32, ofBits};
 ghost use Rattle.arrays.specs.Lent.{before, after};
+ghost use Rattle.bm25.specs.Limits.{weightOk};
 ghost use Rattle.notefile.specs.Inner.Given.{BlocksIn};
 ghost use Rattle.slot_rows.specs.Inner.Rows.{partIn, partRow, PartRow, postingsIn, placeRow, Narrow, Standing};
 
@@ -62,6 +65,14 @@ pub fn part_of(list: &[usize; 8]) -> Part
         postings: list[5],
         end: list[6],
     }
+}
+
+// The weight of a row's list.
+pub fn weight_of(list: &[usize; 8]) -> f32
+    requires { ⌜ PartRow (now list) × (weightOk (ofBits binary32 (partIn (now list) .weight)) ≡ true) ⌝ }
+    ensures { λ r. ⌜ r ≡ ofBits binary32 (partIn (before list) .weight) ⌝ }
+{
+    f32::from_bits(list[0] as u32)
 }
 
 // A place's numbers, put into a row, with a bound that is not known.

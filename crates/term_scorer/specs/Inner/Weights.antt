@@ -1,27 +1,56 @@
--- The weights and norms of the slots' lists, and block bounds that are kept.
+-- The norms of the slots' lists, and block bounds that are kept.
 use mathlib.Core.Path.{_≡_}
+use mathlib.Core.Bool.{cond, _||_}
 use mathlib.Core.List.{List, []}
 use Prim.Native.Nat.{ℕ}
-use lib.ListN.{getD, set}
-use lib.Ieee.{Float, nan}
+use lib.Dec.{eqb, ltb}
+use lib.ListN.{getD, length, set}
+use lib.Ieee.{Float, nan, binary32, ofBits}
 use Rattle.route.specs.Cursor.{blockMax}
 use Rattle.route.specs.F32.{f32}
 use Rattle.bm25.specs.declared.Scoring.{Scoring}
+use Rattle.notefile.specs.Lists.{fullBlocks}
 use Rattle.notefile.specs.Inner.Given.{WeighedIn}
+use Rattle.notefile.specs.declared.part.Part.{Part}
+use Rattle.decoded.specs.Lists.{listOf}
+use Rattle.slot_rows.specs.Inner.Rows.{cursorIn}
 use Rattle.term_scorer.specs.Inner.Slots.{partAt, listAt, cursorAt}
+use Rattle.term_scorer.specs.declared.score.BlockMax.{BlockMax}
+use Rattle.term_scorer.specs.declared.score.BlockMax.the-variants.{Known, Unknown}
+use Rattle.term_scorer.specs.declared.score.Bound.{Bound}
 
--- slot q has its list's weight and norms
-abbrev pub Weighed : List (List ℕ) → List Float → List (List Float) → ℕ → Type 0
-Weighed lists weights caches q = WeighedIn (partAt lists q) (getD weights q nan) (getD caches q [])
+-- a row of the run's floats: 128, so that it can hold a block's scores, or by slot a bound each
+abbrev pub FloatRow : List Float → Type 0
+FloatRow xs = length xs ≡ 128
 
--- where slot q's bound is known, the array has it
+-- a list's norms
+abbrev pub NormsIn : Part → List Float → Type 0
+NormsIn x cache = WeighedIn x (ofBits binary32 (x .weight)) cache
+
+-- slot q has its list's norms
+abbrev pub Weighed : List (List ℕ) → List (List Float) → ℕ → Type 0
+Weighed lists caches q = NormsIn (partAt lists q) (getD caches q [])
+
+-- where slot q's bound is known, the row has it
 abbrev pub BoundKept : Scoring → List ℕ → List (List ℕ) → List (List ℕ) → List Float → ℕ → Type 0
 BoundKept scoring file lists places bounds q =
     getD (getD places q []) 7 0 ≡ 1 → getD bounds q nan ≡ blockMax 128 f32 (listAt scoring file lists q) (cursorAt places q)
 
--- slot q's bound is the route's, and is known: nothing else has changed, and a bound kept before is the same
+-- what a slot keeps of its block's bound: the flag says whether there is one
+abbrev pub blockMaxAt : List (List ℕ) → List Float → ℕ → BlockMax
+blockMaxAt places bounds q = cond (eqb (getD (getD places q []) 7 0) 1) (Known (getD bounds q nan)) Unknown
+
+-- the bound of a row's block, and whether it lasts: it does unless the block is a tail that is not loaded
+pub record BoundFound (scoring : Scoring) (file : List ℕ) (x : Part) (row : List ℕ) (r : Bound) : Type 0 where
+  pub score-is : r .score ≡ blockMax 128 f32 (listOf scoring file x) (cursorIn row)
+  pub lasts-is : r .lasts ≡ (ltb (cursorIn row .blk) (fullBlocks x) || cursorIn row .loaded)
+
+-- slot q's bound is the route's, and is kept unless the block is a tail that is not loaded: nothing else has changed
 pub record Bounded (scoring : Scoring) (file : List ℕ) (lists : List (List ℕ)) (q : ℕ) (places : List (List ℕ))
     (bounds : List Float) (places′ : List (List ℕ)) (bounds′ : List Float) (bound : Float) : Type 0 where
+  pub flag : ℕ
   pub bound-is : bound ≡ blockMax 128 f32 (listAt scoring file lists q) (cursorAt places q)
-  pub places-are : places′ ≡ set places q (set (getD places q []) 7 1)
+  pub places-are : places′ ≡ set places q (set (getD places q []) 7 flag)
   pub bounds-are : bounds′ ≡ set bounds q bound
+  pub flag-is : flag
+      ≡ cond (ltb (cursorAt places q .blk) (fullBlocks (partAt lists q)) || cursorAt places q .loaded) 1 (getD (getD places q []) 7 0)
