@@ -57,11 +57,11 @@ module _ (B : ℕ) (t : Float) (l : List TermScorer) (before len p : ℕ) (first
       ∙ ap (λ z. turned pre-now piv-now z (map f (drop len l))) (whole g l) ∙ ap (turned pre-now piv-now (map g (take len l))) post
 
   -- from the pivot that `find_pivot_doc` found
-  found-turn : (maxScores : List Float) {f g : TermScorer → Scorer Float} → All (Fair maxScores f) l → At before len p ≡ pivotOf maxScores t l
+  found-turn : {f g : TermScorer → Scorer Float} → All (Fair f) l → At before len p ≡ pivotOf t l
       → Moving (seekBlock B p) f l len g l
       → unionTurn B f32 t (goOn (map f l)) ≡ turned (map g (take before l)) (map g (drop before (take len l))) (map g (take len l)) (map g (drop len l))
-  found-turn maxScores {f} fair e S =
-      ap (λ o. afterPivot B f32 t o (map f l)) (pivot-on-route f maxScores t l fair ∙ ap (pivotIn f l) (sym e)) ∙ pivot-turn S
+  found-turn {f} fair e S =
+      ap (λ o. afterPivot B f32 t o (map f l)) (pivot-on-route f t l fair ∙ ap (pivotIn f l) (sym e)) ∙ pivot-turn S
 
   module _ (g : TermScorer → Scorer Float) where
     abbrev after : Turn (UnionPlace Float) Float
@@ -95,18 +95,18 @@ module _ (B : ℕ) (t : Float) (l : List TermScorer) (before len p : ℕ) (first
         ap (λ a. afterAlign B f32 t a p (map g (drop before (take len l))) (map g (drop len l))) e
         ∙ ap (λ z. next (on ++ z) (map g (drop len l))) piv ∙ ap (λ z. next z (map g (drop len l))) (whole h l′) ∙ ap (next (map h (take len l′))) post
 
-module _ (B : ℕ) (t : Float) (l : List TermScorer) (maxScores : List Float) (f : TermScorer → Scorer Float) (fair : All (Fair maxScores f) l) where
+module _ (B : ℕ) (t : Float) (l : List TermScorer) (f : TermScorer → Scorer Float) (fair : All (Fair f) l) where
   -- no pivot ends the loop
-  pub nowhere-turn : Nowhere ≡ pivotOf maxScores t l → unionTurn B f32 t (goOn (map f l)) ≡ quiet (record { more = false; scorers = map f l })
-  nowhere-turn e = ap (λ o. afterPivot B f32 t o (map f l)) (pivot-on-route f maxScores t l fair ∙ ap (pivotIn f l) (sym e))
+  pub nowhere-turn : Nowhere ≡ pivotOf t l → unionTurn B f32 t (goOn (map f l)) ≡ quiet (record { more = false; scorers = map f l })
+  nowhere-turn e = ap (λ o. afterPivot B f32 t o (map f l)) (pivot-on-route f t l fair ∙ ap (pivotIn f l) (sym e))
 
   -- at a pivot, with the first len on their blocks for it
-  module _ (before len p : ℕ) (found : At before len p ≡ pivotOf maxScores t l) (g : TermScorer → Scorer Float) (sought : Moving (seekBlock B p) f l len g l) where
+  module _ (before len p : ℕ) (found : At before len p ≡ pivotOf t l) (g : TermScorer → Scorer Float) (sought : Moving (seekBlock B p) f l len g l) where
     abbrev blockMaxSum : Float
     blockMaxSum = sum f32 (map (blockMaxScore B f32) (map g (take len l)))
 
     places : Found l before len p
-    places = pivot-found maxScores t l found
+    places = pivot-found t l found
 
     ordered : before ≤ len
     ordered = let q = places in omega arith
@@ -114,10 +114,10 @@ module _ (B : ℕ) (t : Float) (l : List TermScorer) (maxScores : List Float) (f
     -- one scorer goes on
     pub low-turn : (ss : List (Scorer Float)) → f32 .above blockMaxSum t ≡ false → ss ≡ blockMaxWasTooLow B f32 (map g (take len l)) (map g (drop len l))
         → unionTurn B f32 t (goOn (map f l)) ≡ quiet (goOn ss)
-    low-turn ss low e = found-turn B t l before len p ordered maxScores fair found sought ∙ (rw low) ∙ ap (λ z. quiet (goOn z)) (sym e)
+    low-turn ss low e = found-turn B t l before len p ordered fair found sought ∙ (rw low) ∙ ap (λ z. quiet (goOn z)) (sym e)
 
     -- the scorers before the pivot are sent to it
     pub high-turn : (u : Turn (UnionPlace Float) Float) → f32 .above blockMaxSum t ≡ true
         → u ≡ afterAlign B f32 t (alignScorers B p (map g (take before l))) p (map g (drop before (take len l))) (map g (drop len l))
         → unionTurn B f32 t (goOn (map f l)) ≡ u
-    high-turn u high e = found-turn B t l before len p ordered maxScores fair found sought ∙ (rw high) ∙ sym e
+    high-turn u high e = found-turn B t l before len p ordered fair found sought ∙ (rw high) ∙ sym e
