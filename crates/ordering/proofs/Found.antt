@@ -11,7 +11,7 @@ use Rattle.route.specs.Lists.{All}
 use Rattle.route.specs.F32.{f32}
 use Rattle.route.specs.Postings.{TERMINATED}
 use Rattle.route.proofs.Cases.{on-test}
-use Rattle.ordering.specs.Inner.Pivots.{Found, beforePivot, countOn, highest, maxOf, pivotAt, pivotOf, placeOfHighest, placeToSeek}
+use Rattle.ordering.specs.Inner.Pivots.{Found, beforePivot, countOn, highest, pivotAt, pivotOf, placeOfHighest, placeToSeek}
 use Rattle.ordering.specs.declared.TermScorer.{TermScorer}
 use Rattle.ordering.specs.declared.Pivot.the-variants.{At, Nowhere}
 use Rattle.ordering.proofs.Places.{drop-take}
@@ -46,18 +46,18 @@ found-at l b₀ b k d (s ∷ ss) e q =
       live = λ z. eqb-false (s .doc) TERMINATED t (sym nd ∙ z);
     })
 
-pub pivot-found : (maxScores : List Float) (t : Float) (l : List TermScorer) {b k d : ℕ} → At b k d ≡ pivotOf maxScores t l → Found l b k d
+pub pivot-found : (t : Float) (l : List TermScorer) {b k d : ℕ} → At b k d ≡ pivotOf t l → Found l b k d
 unfolding pivotOf
-pivot-found maxScores t l {b} {k} {d} e =
-    let b₀ = beforePivot maxScores t (f32 .nil) l in
+pivot-found t l {b} {k} {d} e =
+    let b₀ = beforePivot t (f32 .nil) l in
     found-at l b₀ b k d (drop b₀ l) refl e
 
-highest-in : (maxScores : List Float) (x : TermScorer) (xs : List TermScorer) → placeOfHighest maxScores x xs < suc (length xs)
-highest-in maxScores x [] = omega arith
-highest-in maxScores x (y ∷ ys) =
-    let ih = highest-in maxScores y ys in
-    on-test (f32 .above (maxOf maxScores x) (highest maxScores y ys)) (λ b. rw b (omega arith)) (λ b. rw b (omega arith))
+highest-in : (x : TermScorer) (xs : List TermScorer) → placeOfHighest x xs < suc (length xs)
+highest-in x [] = omega arith
+highest-in x (y ∷ ys) =
+    let ih = highest-in y ys in
+    on-test (f32 .above (x .«max_score») (highest y ys)) (λ b. rw b (omega arith)) (λ b. rw b (omega arith))
 
-pub seek-inside : (maxScores : List Float) (l : List TermScorer) → 0 < length l → placeToSeek maxScores l < length l
-seek-inside maxScores [] h = h
-seek-inside maxScores (x ∷ xs) h = highest-in maxScores x xs
+pub seek-inside : (l : List TermScorer) → 0 < length l → placeToSeek l < length l
+seek-inside [] h = h
+seek-inside (x ∷ xs) h = highest-in x xs

@@ -1,4 +1,4 @@
--- From scorers in their order to the route's scorers: f takes a scorer to the route's, which stands on its document and has its slot's list bound.
+-- From scorers in their order to the route's scorers: f takes a scorer to the route's, which stands on its document and has its list bound.
 use mathlib.Core.List.{List, map, [], _++_, _∷_}
 use mathlib.Core.Option.{Option, none, some}
 use mathlib.Core.Path.{ap, refl, sym, _∙_, _≡_}
@@ -17,7 +17,7 @@ use Rattle.route.specs.Union.{Around, Pivot, findPivotDoc, leastDoc, liveOnly, 
 use Rattle.route.proofs.Cases.{on-test}
 use Rattle.route.proofs.Lists.{all-imp}
 use Rattle.ordering.specs.Inner.Scorers.{byDoc, leastDocOf, moved, noScorer, returned}
-use Rattle.ordering.specs.Inner.Pivots.{beforePivot, countOn, highest, maxOf, pivotAt, pivotOf, placeToSeek}
+use Rattle.ordering.specs.Inner.Pivots.{beforePivot, countOn, highest, pivotAt, pivotOf, placeToSeek}
 use Rattle.ordering.specs.declared.TermScorer.{TermScorer}
 use Rattle.ordering.specs.declared.Pivot as code
 use Rattle.ordering.specs.declared.Pivot.the-variants.{At, Nowhere}
@@ -28,13 +28,13 @@ use Rattle.ordering.proofs.Carried as carried
 abbrev pub SameDoc : (TermScorer → Scorer Float) → TermScorer → Type 0
 SameDoc f s = docOf (f s) ≡ s .doc
 
--- and has the list bound of the slot
-pub record Fair (maxScores : List Float) (f : TermScorer → Scorer Float) (s : TermScorer) : Type 0 where
+-- and has the same list bound
+pub record Fair (f : TermScorer → Scorer Float) (s : TermScorer) : Type 0 where
   pub doc-is : SameDoc f s
-  pub max-is : maxScore (f s) ≡ maxOf maxScores s
+  pub max-is : maxScore (f s) ≡ s .«max_score»
 
-pub fair-docs : (maxScores : List Float) (f : TermScorer → Scorer Float) (l : List TermScorer) → All (Fair maxScores f) l → All (SameDoc f) l
-fair-docs maxScores f l a = all-imp (Fair maxScores f) (SameDoc f) l (λ s h. h .doc-is) a
+pub fair-docs : (f : TermScorer → Scorer Float) (l : List TermScorer) → All (Fair f) l → All (SameDoc f) l
+fair-docs f l a = all-imp (Fair f) (SameDoc f) l (λ s h. h .doc-is) a
 
 module _ (f : TermScorer → Scorer Float) where
   -- the scorers around place i
@@ -101,72 +101,72 @@ module _ (f : TermScorer → Scorer Float) where
       on-test (eqb (x .doc) d) (λ b. rw (t, b) ih) (λ b. rw (t, b))
 
   -- ---- list bounds
-  module _ (maxScores : List Float) where
-    -- the pivot before its document is looked at: pre, then the scorers from the pivot on
-    abbrev cut : List (Scorer Float) → List TermScorer → Option (Pivot Float)
-    cut pre [] = none
-    cut pre (s ∷ ss) = some (record {
-      pre = pre;
-      piv = f s ∷ map f (take (countOn (s .doc) ss) ss);
-      post = map f (drop (countOn (s .doc) ss) ss);
-      doc = s .doc;
-    })
 
-    cut-push : (x : Scorer Float) (pre : List (Scorer Float)) (l : List TermScorer) → pushPre x (cut pre l) ≡ cut (x ∷ pre) l
-    cut-push x pre [] = refl
-    cut-push x pre (s ∷ ss) = refl
+  -- the pivot before its document is looked at: pre, then the scorers from the pivot on
+  abbrev cut : List (Scorer Float) → List TermScorer → Option (Pivot Float)
+  cut pre [] = none
+  cut pre (s ∷ ss) = some (record {
+    pre = pre;
+    piv = f s ∷ map f (take (countOn (s .doc) ss) ss);
+    post = map f (drop (countOn (s .doc) ss) ss);
+    doc = s .doc;
+  })
 
-    cut-is : (t acc : Float) (l : List TermScorer) → All (Fair maxScores f) l
-        → pivotFrom f32 t acc (map f l) ≡ cut (map f (take (beforePivot maxScores t acc l) l)) (drop (beforePivot maxScores t acc l) l)
-    cut-is t acc [] a = refl
-    cut-is t acc (x ∷ xs) a =
-        let m = a .0 .max-is in
-        let e = a .0 .doc-is in
-        let acc′ = f32 .add acc (maxOf maxScores x) in
-        let docs = fair-docs maxScores f xs (a .1) in
-        let on = on-is (x .doc) xs docs in
-        let off = off-is (x .doc) xs docs in
-        let b′ = beforePivot maxScores t acc′ xs in
-        let test : f32 .above (f32 .add acc (maxScore (f x))) t ≡ f32 .above acc′ t = rw m in
-        let later =
-        ap (λ (z : Float). pushPre (f x) (pivotFrom f32 t (f32 .add acc z) (map f xs))) m
-        ∙ ap (pushPre (f x)) (cut-is t acc′ xs (a .1)) ∙ cut-push (f x) (map f (take b′ xs)) (drop b′ xs) in
-        on-test (f32 .above acc′ t) (λ b. rw (test, b, e, on, off)) (λ b. rw (test, b) later)
+  cut-push : (x : Scorer Float) (pre : List (Scorer Float)) (l : List TermScorer) → pushPre x (cut pre l) ≡ cut (x ∷ pre) l
+  cut-push x pre [] = refl
+  cut-push x pre (s ∷ ss) = refl
 
-    -- the pivot's document, and its places from the start
-    live-is : (l : List TermScorer) (b : ℕ) (m : List TermScorer) → drop b l ≡ m → liveOnly (cut (map f (take b l)) m) ≡ pivotIn l (pivotAt b m)
-    live-is l b [] e = refl
-    live-is l b (s ∷ ss) e =
-        let k = countOn (s .doc) ss in
-        let n : b + 1 + k - b ≡ suc k = omega arith in
-        let piv : drop b (take (b + 1 + k) l) ≡ s ∷ take k ss = drop-take b (b + 1 + k) l ∙ (rw (n, e)) in
-        let q : b + 1 + k ≡ b + suc k = omega arith in
-        let post : drop (b + 1 + k) l ≡ drop k ss = ap (λ (z : ℕ). drop z l) q ∙ sym (drop-drop (suc k) b l) ∙ ap (drop (suc k)) e in
-        on-test (eqb (s .doc) TERMINATED) (λ t. rw t) (λ t. rw (t, piv, post))
+  cut-is : (t acc : Float) (l : List TermScorer) → All (Fair f) l
+      → pivotFrom f32 t acc (map f l) ≡ cut (map f (take (beforePivot t acc l) l)) (drop (beforePivot t acc l) l)
+  cut-is t acc [] a = refl
+  cut-is t acc (x ∷ xs) a =
+      let m = a .0 .max-is in
+      let e = a .0 .doc-is in
+      let acc′ = f32 .add acc (x .«max_score») in
+      let docs = fair-docs f xs (a .1) in
+      let on = on-is (x .doc) xs docs in
+      let off = off-is (x .doc) xs docs in
+      let b′ = beforePivot t acc′ xs in
+      let test : f32 .above (f32 .add acc (maxScore (f x))) t ≡ f32 .above acc′ t = rw m in
+      let later =
+      ap (λ (z : Float). pushPre (f x) (pivotFrom f32 t (f32 .add acc z) (map f xs))) m
+      ∙ ap (pushPre (f x)) (cut-is t acc′ xs (a .1)) ∙ cut-push (f x) (map f (take b′ xs)) (drop b′ xs) in
+      on-test (f32 .above acc′ t) (λ b. rw (test, b, e, on, off)) (λ b. rw (test, b) later)
 
-    pub pivot-on-route : (t : Float) (l : List TermScorer) → All (Fair maxScores f) l → findPivotDoc f32 t (map f l) ≡ pivotIn l (pivotOf maxScores t l)
-    unfolding pivotOf
-    pivot-on-route t l a =
-        let b = beforePivot maxScores t (f32 .nil) l in
-        ap liveOnly (cut-is t (f32 .nil) l a) ∙ live-is l b (drop b l) refl
+  -- the pivot's document, and its places from the start
+  live-is : (l : List TermScorer) (b : ℕ) (m : List TermScorer) → drop b l ≡ m → liveOnly (cut (map f (take b l)) m) ≡ pivotIn l (pivotAt b m)
+  live-is l b [] e = refl
+  live-is l b (s ∷ ss) e =
+      let k = countOn (s .doc) ss in
+      let n : b + 1 + k - b ≡ suc k = omega arith in
+      let piv : drop b (take (b + 1 + k) l) ≡ s ∷ take k ss = drop-take b (b + 1 + k) l ∙ (rw (n, e)) in
+      let q : b + 1 + k ≡ b + suc k = omega arith in
+      let post : drop (b + 1 + k) l ≡ drop k ss = ap (λ (z : ℕ). drop z l) q ∙ sym (drop-drop (suc k) b l) ∙ ap (drop (suc k)) e in
+      on-test (eqb (s .doc) TERMINATED) (λ t. rw t) (λ t. rw (t, piv, post))
 
-    -- ---- the scorer to seek
+  pub pivot-on-route : (t : Float) (l : List TermScorer) → All (Fair f) l → findPivotDoc f32 t (map f l) ≡ pivotIn l (pivotOf t l)
+  unfolding pivotOf
+  pivot-on-route t l a =
+      let b = beforePivot t (f32 .nil) l in
+      ap liveOnly (cut-is t (f32 .nil) l a) ∙ live-is l b (drop b l) refl
 
-    seek-max : (x : TermScorer) (xs : List TermScorer) → All (Fair maxScores f) (x ∷ xs)
-        → maxScore (scorerToSeek f32 (f x) (map f xs) .one) ≡ highest maxScores x xs
-    seek-max x [] a = a .0 .max-is
-    seek-max x (y ∷ ys) a =
-        let ih = seek-max y ys (a .1) in
-        let m = a .0 .max-is in
-        let test : f32 .above (maxScore (f x)) (maxScore (scorerToSeek f32 (f y) (map f ys) .one)) ≡ f32 .above (maxOf maxScores x) (highest maxScores y ys) = rw (ih, m) in
-        on-test (f32 .above (maxOf maxScores x) (highest maxScores y ys)) (λ b. rw (test, b) m) (λ b. rw (test, b) ih)
+  -- ---- the scorer to seek
 
-    pub seek-on-route : (x : TermScorer) (xs : List TermScorer) → All (Fair maxScores f) (x ∷ xs)
-        → scorerToSeek f32 (f x) (map f xs) ≡ around (x ∷ xs) (placeToSeek maxScores (x ∷ xs))
-    seek-on-route x [] a = refl
-    seek-on-route x (y ∷ ys) a =
-        let ih = seek-on-route y ys (a .1) in
-        let h = seek-max y ys (a .1) in
-        let m = a .0 .max-is in
-        let test : f32 .above (maxScore (f x)) (maxScore (scorerToSeek f32 (f y) (map f ys) .one)) ≡ f32 .above (maxOf maxScores x) (highest maxScores y ys) = rw (h, m) in
-        on-test (f32 .above (maxOf maxScores x) (highest maxScores y ys)) (λ b. rw (test, b)) (λ b. rw (test, b, ih))
+  seek-max : (x : TermScorer) (xs : List TermScorer) → All (Fair f) (x ∷ xs)
+      → maxScore (scorerToSeek f32 (f x) (map f xs) .one) ≡ highest x xs
+  seek-max x [] a = a .0 .max-is
+  seek-max x (y ∷ ys) a =
+      let ih = seek-max y ys (a .1) in
+      let m = a .0 .max-is in
+      let test : f32 .above (maxScore (f x)) (maxScore (scorerToSeek f32 (f y) (map f ys) .one)) ≡ f32 .above (x .«max_score») (highest y ys) = rw (ih, m) in
+      on-test (f32 .above (x .«max_score») (highest y ys)) (λ b. rw (test, b) m) (λ b. rw (test, b) ih)
+
+  pub seek-on-route : (x : TermScorer) (xs : List TermScorer) → All (Fair f) (x ∷ xs)
+      → scorerToSeek f32 (f x) (map f xs) ≡ around (x ∷ xs) (placeToSeek (x ∷ xs))
+  seek-on-route x [] a = refl
+  seek-on-route x (y ∷ ys) a =
+      let ih = seek-on-route y ys (a .1) in
+      let h = seek-max y ys (a .1) in
+      let m = a .0 .max-is in
+      let test : f32 .above (maxScore (f x)) (maxScore (scorerToSeek f32 (f y) (map f ys) .one)) ≡ f32 .above (x .«max_score») (highest y ys) = rw (h, m) in
+      on-test (f32 .above (x .«max_score») (highest y ys)) (λ b. rw (test, b)) (λ b. rw (test, b, ih))

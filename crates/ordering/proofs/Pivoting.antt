@@ -12,40 +12,40 @@ use borrow.Author.Tests.{eq-eqb, ne-eqb}
 use Rattle.route.specs.F32.{f32}
 use Rattle.route.specs.Postings.{TERMINATED}
 use Rattle.ordering.specs.Inner.Scorers.{noScorer}
-use Rattle.ordering.specs.Inner.Pivots.{beforePivot, countOn, maxOf, pivotAt, pivotOf}
+use Rattle.ordering.specs.Inner.Pivots.{beforePivot, countOn, pivotAt, pivotOf}
 use Rattle.ordering.specs.declared.TermScorer.{TermScorer}
 use Rattle.ordering.specs.declared.Pivot.the-variants.{At, Nowhere}
 use Rattle.ordering.proofs.Places.{drop-take-cons, drop-take-nil}
 
-module _ (maxScores : List Float) (t : Float) (l : List TermScorer) (n : ℕ) where
+module _ (t : Float) (l : List TermScorer) (n : ℕ) where
   -- the first i, with their list bounds summed to acc, do not exceed t
   pub record Summing (i : ℕ) (acc : Float) : Type 0 where
     pub inside : i ≤ n
-    pub whole : beforePivot maxScores t (f32 .nil) (take n l) ≡ i + beforePivot maxScores t acc (drop i (take n l))
+    pub whole : beforePivot t (f32 .nil) (take n l) ≡ i + beforePivot t acc (drop i (take n l))
 
   pub summing : Summing 0 (f32 .nil)
   summing = record { inside = omega arith; whole = rw zero-add }
 
   module _ (long : n ≤ length l) {i : ℕ} {acc : Float} (S : Summing i acc) where
-    pub exceeds : i < n → f32 .above (f32 .add acc (maxOf maxScores (getD l i noScorer))) t ≡ true
-        → i ≡ beforePivot maxScores t (f32 .nil) (take n l)
+    pub exceeds : i < n → f32 .above (f32 .add acc (getD l i noScorer .«max_score»)) t ≡ true
+        → i ≡ beforePivot t (f32 .nil) (take n l)
     exceeds h b =
-        let q : beforePivot maxScores t acc (drop i (take n l)) ≡ 0 = rw (drop-take-cons l n i noScorer h long, b) in
+        let q : beforePivot t acc (drop i (take n l)) ≡ 0 = rw (drop-take-cons l n i noScorer h long, b) in
         let w = S .whole in
         omega arith
 
-    pub adds : i < n → f32 .above (f32 .add acc (maxOf maxScores (getD l i noScorer))) t ≡ false
-        → Summing (i + 1) (f32 .add acc (maxOf maxScores (getD l i noScorer)))
+    pub adds : i < n → f32 .above (f32 .add acc (getD l i noScorer .«max_score»)) t ≡ false
+        → Summing (i + 1) (f32 .add acc (getD l i noScorer .«max_score»))
     adds h b =
         let w = S .whole in
-        let q : beforePivot maxScores t acc (drop i (take n l))
-        ≡ suc (beforePivot maxScores t (f32 .add acc (maxOf maxScores (getD l i noScorer))) (drop (i + 1) (take n l))) =
+        let q : beforePivot t acc (drop i (take n l))
+        ≡ suc (beforePivot t (f32 .add acc (getD l i noScorer .«max_score»)) (drop (i + 1) (take n l))) =
         rw (drop-take-cons l n i noScorer h long, b, add-one) in
         record { inside = omega arith; whole = omega arith }
 
-    pub never : n ≤ i → i ≡ beforePivot maxScores t (f32 .nil) (take n l)
+    pub never : n ≤ i → i ≡ beforePivot t (f32 .nil) (take n l)
     never h =
-        let q : beforePivot maxScores t acc (drop i (take n l)) ≡ 0 = rw (drop-take-nil l n i h) in
+        let q : beforePivot t acc (drop i (take n l)) ≡ 0 = rw (drop-take-nil l n i h) in
         let w = S .whole in
         omega arith
 
@@ -76,21 +76,21 @@ module _ (d : ℕ) (l : List TermScorer) (n from : ℕ) where
         let w = S .whole in
         omega arith
 
-module _ (maxScores : List Float) (t : Float) (l : List TermScorer) (n b : ℕ) (e : b ≡ beforePivot maxScores t (f32 .nil) (take n l)) where
-  there : pivotAt b (drop b (take n l)) ≡ pivotOf maxScores t (take n l)
+module _ (t : Float) (l : List TermScorer) (n b : ℕ) (e : b ≡ beforePivot t (f32 .nil) (take n l)) where
+  there : pivotAt b (drop b (take n l)) ≡ pivotOf t (take n l)
   unfolding pivotOf
   there = ap (λ (k : ℕ). pivotAt k (drop k (take n l))) e
 
-  pub none-exceeds : n ≤ b → Nowhere ≡ pivotOf maxScores t (take n l)
+  pub none-exceeds : n ≤ b → Nowhere ≡ pivotOf t (take n l)
   none-exceeds h = sym (ap (pivotAt b) (drop-take-nil l n b h)) ∙ there
 
   module _ (h : b < n) (long : n ≤ length l) where
-    here : pivotAt b (getD l b noScorer ∷ drop (suc b) (take n l)) ≡ pivotOf maxScores t (take n l)
+    here : pivotAt b (getD l b noScorer ∷ drop (suc b) (take n l)) ≡ pivotOf t (take n l)
     here = sym (ap (pivotAt b) (drop-take-cons l n b noScorer h long)) ∙ there
 
-    pub finished : getD l b noScorer .doc ≡ TERMINATED → Nowhere ≡ pivotOf maxScores t (take n l)
+    pub finished : getD l b noScorer .doc ≡ TERMINATED → Nowhere ≡ pivotOf t (take n l)
     finished q = let z = eq-eqb (getD l b noScorer .doc) TERMINATED q in (rw z) ∙ here
 
     pub found : {k : ℕ} → (getD l b noScorer .doc ≡ TERMINATED → ⊥) → k ≡ b + 1 + countOn (getD l b noScorer .doc) (drop (b + 1) (take n l))
-        → At b k (getD l b noScorer .doc) ≡ pivotOf maxScores t (take n l)
+        → At b k (getD l b noScorer .doc) ≡ pivotOf t (take n l)
     found ne q = let z = ne-eqb (getD l b noScorer .doc) TERMINATED ne in (rw (z, q, add-one)) ∙ here

@@ -10,11 +10,11 @@ use lib.ListN.{drop, getD, length, take}
 use lib.Ieee.{Float}
 use Rattle.route.specs.F32.{f32}
 use Rattle.ordering.specs.Inner.Scorers.{leastDocOf, noScorer}
-use Rattle.ordering.specs.Inner.Pivots.{highest, maxOf, placeOfHighest, placeToSeek}
+use Rattle.ordering.specs.Inner.Pivots.{highest, placeOfHighest, placeToSeek}
 use Rattle.ordering.specs.declared.TermScorer.{TermScorer}
 use Rattle.ordering.proofs.Places.{drop-take-cons, drop-take-nil}
 
-module _ (maxScores : List Float) (l : List TermScorer) (n : ℕ) where
+module _ (l : List TermScorer) (n : ℕ) where
   abbrev scorer : ℕ → TermScorer
   scorer i = getD l i noScorer
 
@@ -24,11 +24,11 @@ module _ (maxScores : List Float) (l : List TermScorer) (n : ℕ) where
   -- of the scorers from place i on, `top` is the highest list bound and `at` its place
   pub record Seeking (at : ℕ) (top : Float) (i : ℕ) : Type 0 where
     pub inside : i < n
-    pub top-is : top ≡ highest maxScores (scorer i) (behind i)
-    pub at-is : at ≡ i + placeOfHighest maxScores (scorer i) (behind i)
+    pub top-is : top ≡ highest (scorer i) (behind i)
+    pub at-is : at ≡ i + placeOfHighest (scorer i) (behind i)
 
   module _ (long : n ≤ length l) where
-    pub begun : 0 < n → Seeking (n - 1) (maxOf maxScores (scorer (n - 1))) (n - 1)
+    pub begun : 0 < n → Seeking (n - 1) (scorer (n - 1) .«max_score») (n - 1)
     begun h =
         let x = drop-take-nil l n (suc (n - 1)) (omega arith) in
         record { inside = omega arith; top-is = rw x; at-is = rw (x, add-zero) }
@@ -43,25 +43,25 @@ module _ (maxScores : List Float) (l : List TermScorer) (n : ℕ) where
           let k = S .inside in
           ap (λ (z : ℕ). drop z (take n l)) e ∙ drop-take-cons l n i noScorer k long
 
-      pub higher : f32 .above (maxOf maxScores (scorer j)) top ≡ true → Seeking j (maxOf maxScores (scorer j)) j
+      pub higher : f32 .above (scorer j .«max_score») top ≡ true → Seeking j (scorer j .«max_score») j
       higher b =
           let k = S .inside in
           let b′ = rw (S .top-is) at b in
           record { inside = omega arith; top-is = rw (next, b′); at-is = rw (next, b′, add-zero) }
 
-      pub lower : f32 .above (maxOf maxScores (scorer j)) top ≡ false → Seeking at top j
+      pub lower : f32 .above (scorer j .«max_score») top ≡ false → Seeking at top j
       lower b =
           let k = S .inside in
           let b′ = rw (S .top-is) at b in
           record { inside = omega arith; top-is = rw (next, b′) (S .top-is); at-is = rw (next, b′) (let q = S .at-is in omega arith) }
 
-    pub ended : {at : ℕ} {top : Float} {i : ℕ} → Seeking at top i → i ≤ 0 → at ≡ placeToSeek maxScores (take n l)
+    pub ended : {at : ℕ} {top : Float} {i : ℕ} → Seeking at top i → i ≤ 0 → at ≡ placeToSeek (take n l)
     ended {i} S h =
         let k = S .inside in
         let z : i ≡ 0 = omega arith in
         let q : take n l ≡ scorer 0 ∷ behind 0 = drop-take-cons l n 0 noScorer (omega arith) long in
-        S .at-is ∙ ap (λ (j : ℕ). j + placeOfHighest maxScores (scorer j) (behind j)) z ∙ zero-add (placeOfHighest maxScores (scorer 0) (behind 0))
-        ∙ sym (ap (placeToSeek maxScores) q)
+        S .at-is ∙ ap (λ (j : ℕ). j + placeOfHighest (scorer j) (behind j)) z ∙ zero-add (placeOfHighest (scorer 0) (behind 0))
+        ∙ sym (ap placeToSeek q)
 
 module _ (l : List TermScorer) (n goal : ℕ) where
   -- the least of `least` and the documents from place i on is the goal

@@ -67,25 +67,25 @@ abbrev pub leastLast : ℕ → (TermScorer → Scorer Float) → List TermScorer
 leastLast B f [] = TERMINATED
 leastLast B f (x ∷ xs) = leastLastDoc B (f x) (map f xs)
 
-module _ (B : ℕ) (maxScores : List Float) (f g : TermScorer → Scorer Float) where
-  low-is : (xs : List TermScorer) (post : List (Scorer Float)) (at : ℕ) → 0 < length xs → All (Fair maxScores f) xs → at ≡ placeToSeek maxScores xs
+module _ (B : ℕ) (f g : TermScorer → Scorer Float) where
+  low-is : (xs : List TermScorer) (post : List (Scorer Float)) (at : ℕ) → 0 < length xs → All (Fair f) xs → at ≡ placeToSeek xs
       → blockMaxWasTooLow B f32 (map f xs) post
       ≡ map f (take at xs) ++ restoreOrdering docOf (seek B (leastDoc (behind (leastLast B f xs)) post) (f (getD xs at noScorer))) (map f (drop (suc at) xs) ++ post)
   low-is [] post at h a e = absurd (omega arith)
   low-is (x ∷ xs) post at h a e =
-      let p = seek-on-route f maxScores x xs a ∙ ap (around f (x ∷ xs)) (sym e) in
+      let p = seek-on-route f x xs a ∙ ap (around f (x ∷ xs)) (sym e) in
       rw p
 
-  pub too-low-on-route : (l : List TermScorer) (len at d : ℕ) (x′ : TermScorer) → 0 < len → len ≤ length l → All (Fair maxScores f) l → Apart l
-      → at ≡ placeToSeek maxScores (take len l) → d ≡ leastDocOf (behind (leastLast B f (take len l))) (drop len l)
+  pub too-low-on-route : (l : List TermScorer) (len at d : ℕ) (x′ : TermScorer) → 0 < len → len ≤ length l → All (Fair f) l → Apart l
+      → at ≡ placeToSeek (take len l) → d ≡ leastDocOf (behind (leastLast B f (take len l))) (drop len l)
       → SameOff (getD l at noScorer .slot) f g → g x′ ≡ seek B d (f (getD l at noScorer)) → SameDoc g x′
       → map g (moved (set l at x′) at) ≡ blockMaxWasTooLow B f32 (map f (take len l)) (map f (drop len l))
   too-low-on-route l len at d x′ pos k a apart e q same s doc =
       let tl : length (take len l) ≡ len = omega (arith, length-take len l) in
-      let al : at < len = let z = seek-inside maxScores (take len l) (omega arith) in omega arith in
+      let al : at < len = let z = seek-inside (take len l) (omega arith) in omega arith in
       let h : at < length l = omega arith in
       let l′ = set l at x′ in
-      let docs = fair-docs maxScores f l a in
+      let docs = fair-docs f l a in
       let docs′ = replaced-all l at x′ h apart (SameDoc f) (SameDoc g) (λ y o z. ap docOf (same y o) ∙ z) doc docs in
       let o = same-others f g l at h apart same in
       let front : map g (take at l′) ≡ map f (take at l) = ap (map g) (take-set-le at l at x′ (omega arith)) ∙ o .0 in
@@ -100,7 +100,7 @@ module _ (B : ℕ) (maxScores : List Float) (f g : TermScorer → Scorer Float) 
       let next : List (Scorer Float) = map f (take at l) ++ restoreOrdering docOf (seek B d (f (getD l at noScorer))) (map f (drop (suc at) l)) in
       let run : map g (moved l′ at) ≡ next = rw (front, one, back) at (restored-on-route g l′ at (rw (length-set l at x′) h) docs′) in
       let route : blockMaxWasTooLow B f32 (map f (take len l)) post ≡ next =
-      rw (q′, front-cut, one-cut, back-cut) at (low-is (take len l) post at (omega arith) (all-take (Fair maxScores f) len l a) e) in
+      rw (q′, front-cut, one-cut, back-cut) at (low-is (take len l) post at (omega arith) (all-take (Fair f) len l a) e) in
       run ∙ sym route
 
 -- ---- a hit: the scorers on the pivot have advanced

@@ -9,7 +9,7 @@ use Rattle.route.specs.Report.{Report, dueAt}
 use Rattle.route.specs.Postings.{Postings, TERMINATED, start}
 use Rattle.route.specs.Cursor.{findIn}
 use Rattle.route.specs.Scorer.{Scorer, onCur, docOf, scoreHere, maxScore, seekBlock, seek, blockMaxScore}
-use Rattle.route.specs.Route.{Turn, quiet, Route}
+use Rattle.route.specs.Route.{Load, loadOf, loadsOf, Turn, quiet, Route}
 use Rattle.route.specs.Union.{leastLastDoc}
 
 -- At the early exit; at `while doc < TERMINATED`; at the candidates left of a window that ends at `window_end`, with the
@@ -127,25 +127,26 @@ module _ (B : ℕ) (O : Ops) where
 
   -- all secondaries matched: `if total_score > threshold { threshold = callback(..); .. }`
   abbrev pub foundTurn : O .S → Option (O .S) → ℕ → List (Report (O .S)) → ℕ → List (O .S) → ℕ → Scorer (O .S) → List (Scorer (O .S))
-      → Turn (InterPlace (O .S)) (O .S)
-  foundTurn t none c cs e bs d ld ss = quiet (record { stage = within cs e bs; doc = d; leader = ld; secs = ss })
-  foundTurn t (some x) c cs e bs d ld ss = record {
+      → List Load → Turn (InterPlace (O .S)) (O .S)
+  foundTurn t none c cs e bs d ld ss ls = quiet (record { stage = within cs e bs; doc = d; leader = ld; secs = ss }) ls
+  foundTurn t (some x) c cs e bs d ld ss ls = record {
     next = record { stage = cond (O .above x t) (called cs e bs) (within cs e bs); doc = d; leader = ld; secs = ss };
     due = dueAt O t c x;
+    loads = ls;
   }
 
   -- one turn, by the stage: the early exit, a window, a candidate, the exit behind a call
   abbrev pub interBy : Stage (O .S) → O .S → ℕ → Scorer (O .S) → List (Scorer (O .S)) → Turn (InterPlace (O .S)) (O .S)
   interBy early t d ld ss =
-      quiet (record { stage = cond (O .above (maxScoreSum O ld ss) t) window over; doc = d; leader = ld; secs = ss })
-  interBy window t d ld ss = quiet (windowTurn t d ld ss)
-  interBy (within [] e bs) t d ld ss = quiet (record { stage = window; doc = suc e; leader = ld; secs = ss })
+      quiet (record { stage = cond (O .above (maxScoreSum O ld ss) t) window over; doc = d; leader = ld; secs = ss }) []
+  interBy window t d ld ss = let u = windowTurn t d ld ss in quiet u (loadOf ld (u .leader))
+  interBy (within [] e bs) t d ld ss = quiet (record { stage = window; doc = suc e; leader = ld; secs = ss }) []
   interBy (within (c ∷ cs) e bs) t d ld ss =
       let x = tryCandidate (c .doc) t (c .score) ss bs in
-      foundTurn t (x .found) (c .doc) cs e bs d ld (x .secs)
+      foundTurn t (x .found) (c .doc) cs e bs d ld (x .secs) (loadsOf ss (x .secs))
   interBy (called cs e bs) t d ld ss =
-      quiet (record { stage = cond (O .above (maxScoreSum O ld ss) t) (within cs e bs) over; doc = d; leader = ld; secs = ss })
-  interBy over t d ld ss = quiet (record { stage = over; doc = d; leader = ld; secs = ss })
+      quiet (record { stage = cond (O .above (maxScoreSum O ld ss) t) (within cs e bs) over; doc = d; leader = ld; secs = ss }) []
+  interBy over t d ld ss = quiet (record { stage = over; doc = d; leader = ld; secs = ss }) []
 
   -- `block_wand_intersection` behind its `sort_by_key`, with the leader split off
   abbrev pub leaderRoute : Scorer (O .S) → List (Scorer (O .S)) → Route (O .S)

@@ -1,20 +1,43 @@
--- A route, 01's word for the path of a skipping run: places, and turns from one to the next with at most one report each.
-use mathlib.Core.Bool.{Bool, true}
+-- A route, 01's word for the path of a skipping run: places, and turns from one to the next. A turn ends at its report, if it has one.
+use mathlib.Core.Bool.{Bool, true, cond}
 use mathlib.Core.Option.{Option, none}
 use mathlib.Core.Path.{_≡_}
-use mathlib.Core.List.{List}
+use mathlib.Core.List.{List, [], _∷_, _++_}
 use Prim.Native.Nat.{ℕ, zero, suc}
+use lib.Dec.{eqb}
 use Rattle.route.specs.Report.{Report, Callback, reported}
 use Rattle.route.specs.Scorer.{Scorer}
 
--- What a turn leaves: the next place, and a report if one is due.
+-- A block that was decoded, by its list's position in the query and its number.
+pub record Load : Type 0 where
+  pub ord : ℕ
+  pub block : ℕ
+
+module _ {S : Type 0} where
+  -- the load of a scorer's move: `load_block` is called where the skip reader has come to another block than the one decoded last
+  abbrev pub loadOf : Scorer S → Scorer S → List Load
+  loadOf s s′ = cond (eqb (s .cur .dec) (s′ .cur .dec)) [] (record { ord = s .ord; block = s′ .cur .dec } ∷ [])
+
+  -- of scorers that move one after the other, from the first on, or from the last
+  abbrev pub loadsOf : List (Scorer S) → List (Scorer S) → List Load
+  loadsOf [] ss′ = []
+  loadsOf (s ∷ ss) [] = []
+  loadsOf (s ∷ ss) (s′ ∷ ss′) = loadOf s s′ ++ loadsOf ss ss′
+
+  abbrev pub loadsBack : List (Scorer S) → List (Scorer S) → List Load
+  loadsBack [] ss′ = []
+  loadsBack (s ∷ ss) [] = []
+  loadsBack (s ∷ ss) (s′ ∷ ss′) = loadsBack ss ss′ ++ loadOf s s′
+
+-- What a turn leaves: the next place, a report if one is due, and the blocks that it decoded, in order.
 pub record Turn (P S : Type 0) : Type 0 where
   pub next : P
   pub due : Option (Report S)
+  pub loads : List Load
 
 -- a turn without a report
-abbrev pub quiet : {P S : Type 0} → P → Turn P S
-quiet p = record { next = p; due = none }
+abbrev pub quiet : {P S : Type 0} → P → List Load → Turn P S
+quiet p ls = record { next = p; due = none; loads = ls }
 
 -- A turn is a function of the place before it and of the threshold of the moment. At its end a route stays.
 pub record Route (S : Type 0) : Type 1 where

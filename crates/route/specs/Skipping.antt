@@ -16,7 +16,7 @@ use Rattle.route.specs.Plain.{Mode, union, intersection, single}
 
 -- The route of a query that refusal 10 stops: no turn is taken.
 abbrev pub noRoute : {S : Type 0} → Route S
-noRoute = record { Place = Unit {0}; first = tt; ended = λ p. true; turn = λ t p. quiet p; scorers = λ p. [] }
+noRoute = record { Place = Unit {0}; first = tt; ended = λ p. true; turn = λ t p. quiet p []; scorers = λ p. [] }
 
 module _ (B : ℕ) (O : Ops) where
   -- a single run takes one list (01, refusal 10)

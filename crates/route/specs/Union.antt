@@ -1,16 +1,16 @@
 -- The route of `block_wand`: a pivot, then one scorer past blocks that are too low, or the scorers onto the pivot.
-use mathlib.Core.Bool.{Bool, true, false, cond, not}
+use mathlib.Core.Bool.{Bool, true, false, cond}
 use mathlib.Core.Option.{Option, none, some}
 use mathlib.Core.List.{List, [], _∷_, _++_, map}
 use Prim.Native.Nat.{ℕ, suc, min}
 use lib.Dec.{eqb}
-use lib.ListN.{length}
+use lib.ListN.{length, take, drop}
 use Rattle.route.specs.Score.{Ops, sum}
 use Rattle.route.specs.Report.{dueAt}
 use Rattle.route.specs.Postings.{TERMINATED}
 use Rattle.route.specs.Ordering.{restoreOrdering, sortBy, sweep, putBack}
 use Rattle.route.specs.Scorer.{Scorer, docOf, scoreHere, maxScore, lastDocInBlock, seekBlock, seek, advance, blockMaxScore}
-use Rattle.route.specs.Route.{Turn, quiet, Route}
+use Rattle.route.specs.Route.{Load, loadOf, loadsOf, loadsBack, Turn, quiet, Route}
 use Rattle.route.specs.Single.{blockWandSingleScorer}
 
 -- `find_pivot_doc`'s answer: the scorers up to `before_pivot_len`, on to `pivot_len`, the rest, and `pivot_doc`.
@@ -31,14 +31,26 @@ pub data Aligned (S : Type 0) : Type 0 where
   aligned : List (Scorer S) → Aligned S
   missed : Around S → Aligned S
 
--- whether the loop goes on, and the scorers in their present order
+-- At the `while let`; behind a call of the callback, with so many scorers on the pivot that have still to advance; returned.
+pub data Stage : Type 0 where
+  looking : Stage
+  called : ℕ → Stage
+  over : Stage
+
+-- the run has returned
+abbrev pub isOver : Stage → Bool
+isOver looking = false
+isOver (called n) = false
+isOver over = true
+
+-- the stage, and the scorers in their present order
 pub record UnionPlace (S : Type 0) : Type 0 where
-  pub more : Bool
+  pub stage : Stage
   pub scorers : List (Scorer S)
 
 -- the loop goes on over these scorers
 abbrev pub goOn : {S : Type 0} → List (Scorer S) → UnionPlace S
-goOn ss = record { more = true; scorers = ss }
+goOn ss = record { stage = looking; scorers = ss }
 
 -- `if doc_to_seek_after != TERMINATED { doc_to_seek_after += 1; }`
 abbrev pub behind : ℕ → ℕ
@@ -118,21 +130,36 @@ module _ (O : Ops) where
       (record { left = x ∷ m .left; one = m .one; right = m .right })
 
 module _ (B : ℕ) (O : Ops) where
-  -- `block_max_was_too_low_advance_one_scorer`, over the scorers up to `pivot_len` and those behind
+  -- `block_max_was_too_low_advance_one_scorer`, over the scorers up to `pivot_len` and those behind: the one that seeks
+  abbrev pub pastLow : Scorer (O .S) → List (Scorer (O .S)) → List (Scorer (O .S)) → Scorer (O .S)
+  pastLow x xs post = seek B (leastDoc (behind (leastLastDoc B x xs)) post) (scorerToSeek O x xs .one)
+
   abbrev pub blockMaxWasTooLow : List (Scorer (O .S)) → List (Scorer (O .S)) → List (Scorer (O .S))
   blockMaxWasTooLow [] post = post
   blockMaxWasTooLow (x ∷ xs) post =
       let m = scorerToSeek O x xs in
-      let d = leastDoc (behind (leastLastDoc B x xs)) post in
-      m .left ++ restoreOrdering docOf (seek B d (m .one)) (m .right ++ post)
+      m .left ++ restoreOrdering docOf (pastLow x xs post) (m .right ++ post)
 
-  -- behind `align_scorers`; the scores are added in the order that the scorers have now, which shows in unstepped sums (01, union)
-  abbrev pub afterAlign : O .S → Aligned (O .S) → ℕ → List (Scorer (O .S)) → List (Scorer (O .S)) → Turn (UnionPlace (O .S)) (O .S)
-  afterAlign t (missed m) p piv post = quiet (goOn (missedOn m (piv ++ post)))
-  afterAlign t (aligned pre) p piv post = record {
-    next = goOn (advanceAllScorersOnPivot B (pre ++ piv) post);
-    due = dueAt O t p (sum O (map scoreHere (pre ++ piv)));
-  }
+  abbrev pub tooLowLoads : List (Scorer (O .S)) → List (Scorer (O .S)) → List Load
+  tooLowLoads [] post = []
+  tooLowLoads (x ∷ xs) post = loadOf (scorerToSeek O x xs .one) (pastLow x xs post)
+
+  -- All scorers of `on` stand on the pivot p. Their scores are added in the order that the scorers have now, which shows in unstepped
+  -- sums (01, union). A report is handed out before they advance.
+  abbrev pub scored : O .S → ℕ → List Load → List (Scorer (O .S)) → List (Scorer (O .S)) → Turn (UnionPlace (O .S)) (O .S)
+  scored t p ls on post =
+      let x = sum O (map scoreHere on) in
+      record {
+        next = cond (O .above x t) (record { stage = called (length on); scorers = on ++ post }) (goOn (advanceAllScorersOnPivot B on post));
+        due = dueAt O t p x;
+        loads = ls ++ cond (O .above x t) [] (loadsOf on (map (advance B) on));
+      }
+
+  -- behind `align_scorers` of the scorers `pre`
+  abbrev pub afterAlign : O .S → List (Scorer (O .S)) → Aligned (O .S) → ℕ → List (Scorer (O .S)) → List (Scorer (O .S))
+      → Turn (UnionPlace (O .S)) (O .S)
+  afterAlign t pre (missed m) p piv post = quiet (goOn (missedOn m (piv ++ post))) (loadsBack pre (m .left ++ (m .one ∷ m .right)))
+  afterAlign t pre (aligned pre′) p piv post = scored t p (loadsBack pre pre′) (pre′ ++ piv) post
 
   -- the body of the `while let`, at a pivot
   abbrev pub onPivot : O .S → Pivot (O .S) → Turn (UnionPlace (O .S)) (O .S)
@@ -140,24 +167,31 @@ module _ (B : ℕ) (O : Ops) where
       let pre = map (seekBlock B (c .doc)) (c .pre) in
       let piv = map (seekBlock B (c .doc)) (c .piv) in
       cond (O .above (sum O (map (blockMaxScore B O) (pre ++ piv))) t)
-      (afterAlign t (alignScorers B (c .doc) pre) (c .doc) piv (c .post))
-      (quiet (goOn (blockMaxWasTooLow (pre ++ piv) (c .post))))
+      (afterAlign t pre (alignScorers B (c .doc) pre) (c .doc) piv (c .post))
+      (quiet (goOn (blockMaxWasTooLow (pre ++ piv) (c .post))) (tooLowLoads (pre ++ piv) (c .post)))
 
   -- no pivot ends the loop
   abbrev pub afterPivot : O .S → Option (Pivot (O .S)) → List (Scorer (O .S)) → Turn (UnionPlace (O .S)) (O .S)
-  afterPivot t none ss = quiet (record { more = false; scorers = ss })
+  afterPivot t none ss = quiet (record { stage = over; scorers = ss }) []
   afterPivot t (some c) ss = onPivot t c
 
-  -- one turn of `while let Some(..) = find_pivot_doc(..)`
+  -- one turn of `while let Some(..) = find_pivot_doc(..)`, or the rest of one
+  abbrev pub unionBy : Stage → O .S → List (Scorer (O .S)) → Turn (UnionPlace (O .S)) (O .S)
+  unionBy looking t ss = afterPivot t (findPivotDoc O t ss) ss
+  unionBy (called n) t ss =
+      let on = take n ss in
+      quiet (goOn (advanceAllScorersOnPivot B on (drop n ss))) (loadsOf on (map (advance B) on))
+  unionBy over t ss = quiet (record { stage = over; scorers = ss }) []
+
   abbrev pub unionTurn : O .S → UnionPlace (O .S) → Turn (UnionPlace (O .S)) (O .S)
-  unionTurn t u = cond (u .more) (afterPivot t (findPivotDoc O t (u .scorers)) (u .scorers)) (quiet u)
+  unionTurn t u = unionBy (u .stage) t (u .scorers)
 
   -- the loop of `block_wand`, over scorers with a document each
   abbrev pub pivotRoute : List (Scorer (O .S)) → Route (O .S)
   pivotRoute ss = record {
     Place = UnionPlace (O .S);
     first = goOn (sortBy docOf ss);
-    ended = λ u. not (u .more);
+    ended = λ u. isOver (u .stage);
     turn = unionTurn;
     scorers = λ u. u .scorers;
   }

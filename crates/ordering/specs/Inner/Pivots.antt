@@ -1,11 +1,11 @@
--- What is found by the list bounds, which stand by slot: the pivot, and the scorer to seek.
+-- What is found by the scorers' list bounds: the pivot, and the scorer to seek.
 use mathlib.Core.Bool.{cond}
 use mathlib.Core.List.{List, [], _∷_}
 use mathlib.Core.Path.{_≡_}
 use Prim.Native.Nat.{ℕ, suc, _+_, _≤_, _<_}
 use lib.Dec.{eqb}
-use lib.ListN.{drop, getD, length, take}
-use lib.Ieee.{Float, nan}
+use lib.ListN.{drop, length, take}
+use lib.Ieee.{Float}
 use Rattle.route.specs.Lists.{All}
 use Rattle.route.specs.F32.{f32}
 use Rattle.route.specs.Postings.{TERMINATED}
@@ -24,35 +24,30 @@ abbrev pub pivotAt : ℕ → List TermScorer → Pivot
 pivotAt b [] = Nowhere
 pivotAt b (s ∷ ss) = cond (eqb (s .doc) TERMINATED) Nowhere (At b (b + 1 + countOn (s .doc) ss) (s .doc))
 
-module _ (maxScores : List Float) where
-  -- the list bound of a scorer
-  abbrev pub maxOf : TermScorer → Float
-  maxOf s = getD maxScores (s .slot) nan
+-- how many stand before the scorer with which the sum of list bounds, from acc on, exceeds t; all, if it never does
+abbrev pub beforePivot : Float → Float → List TermScorer → ℕ
+beforePivot t acc [] = 0
+beforePivot t acc (s ∷ ss) =
+    cond (f32 .above (f32 .add acc (s .«max_score»)) t) 0 (suc (beforePivot t (f32 .add acc (s .«max_score»)) ss))
 
-  -- how many stand before the scorer with which the sum of list bounds, from acc on, exceeds t; all, if it never does
-  abbrev pub beforePivot : Float → Float → List TermScorer → ℕ
-  beforePivot t acc [] = 0
-  beforePivot t acc (s ∷ ss) =
-      cond (f32 .above (f32 .add acc (maxOf s)) t) 0 (suc (beforePivot t (f32 .add acc (maxOf s)) ss))
+-- `find_pivot_doc`
+unfoldable pub pivotOf : Float → List TermScorer → Pivot
+pivotOf t ss = let b = beforePivot t (f32 .nil) ss in pivotAt b (drop b ss)
 
-  -- `find_pivot_doc`
-  unfoldable pub pivotOf : Float → List TermScorer → Pivot
-  pivotOf t ss = let b = beforePivot t (f32 .nil) ss in pivotAt b (drop b ss)
+-- the highest list bound of x ∷ xs
+abbrev pub highest : TermScorer → List TermScorer → Float
+highest x [] = x .«max_score»
+highest x (y ∷ ys) = cond (f32 .above (x .«max_score») (highest y ys)) (x .«max_score») (highest y ys)
 
-  -- the highest list bound of x ∷ xs
-  abbrev pub highest : TermScorer → List TermScorer → Float
-  highest x [] = maxOf x
-  highest x (y ∷ ys) = cond (f32 .above (maxOf x) (highest y ys)) (maxOf x) (highest y ys)
+-- its place, the last among equals
+abbrev pub placeOfHighest : TermScorer → List TermScorer → ℕ
+placeOfHighest x [] = 0
+placeOfHighest x (y ∷ ys) = cond (f32 .above (x .«max_score») (highest y ys)) 0 (suc (placeOfHighest y ys))
 
-  -- its place, the last among equals
-  abbrev pub placeOfHighest : TermScorer → List TermScorer → ℕ
-  placeOfHighest x [] = 0
-  placeOfHighest x (y ∷ ys) = cond (f32 .above (maxOf x) (highest y ys)) 0 (suc (placeOfHighest y ys))
-
-  -- `scorer_to_seek` of `block_max_was_too_low_advance_one_scorer`, among scorers of which there is one at least
-  abbrev pub placeToSeek : List TermScorer → ℕ
-  placeToSeek [] = 0
-  placeToSeek (x ∷ xs) = placeOfHighest x xs
+-- `scorer_to_seek` of `block_max_was_too_low_advance_one_scorer`, among scorers of which there is one at least
+abbrev pub placeToSeek : List TermScorer → ℕ
+placeToSeek [] = 0
+placeToSeek (x ∷ xs) = placeOfHighest x xs
 
 -- the scorers from place `before` on, up to len, stand on doc, which is a document
 pub record Found (l : List TermScorer) (before len doc : ℕ) : Type 0 where
