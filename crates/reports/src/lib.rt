@@ -9,6 +9,13 @@ ghost use Rattle.rule.specs.Inner.Follows.{Keeps};
 ghost use Rattle.reports.specs.Rows.{rowsOf};
 ghost use Rattle.reports.specs.Inner.Rows.{Reported};
 
+// Why a run that goes on by turns stands still: a report is due, its document and its score; the route is over; or its turns are taken.
+pub enum Event {
+    Report(u32, f32),
+    Over,
+    Paused,
+}
+
 // How many rows there are: as many as the shorter buffer has.
 pub fn rows(documents: &[u32], scores: &[f32]) -> usize
     ensures { λ r. ⌜ r ≡ rowsOf (before documents) (before scores) ⌝ }

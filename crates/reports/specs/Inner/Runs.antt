@@ -3,7 +3,7 @@ use mathlib.Core.Path.{_≡_}
 use mathlib.Core.Bool.{Bool, true, false, cond}
 use mathlib.Core.List.{List, []}
 use mathlib.Core.Option.{some}
-use Prim.Native.Nat.{ℕ}
+use Prim.Native.Nat.{ℕ, suc}
 use lib.ListN.{length}
 use lib.Ieee.{Float}
 use Rattle.route.specs.F32.{f32}
@@ -12,7 +12,7 @@ use Rattle.route.specs.Rule.{Outcome, ruled}
 use Rattle.route.specs.Lists.{All}
 use Rattle.route.specs.Cursor.{Cursor}
 use Rattle.route.specs.Scorer.{Scorer}
-use Rattle.route.specs.Route.{Route, Run, Turn, quiet, after}
+use Rattle.route.specs.Route.{Route, Run, after}
 use Rattle.rule.specs.Rules.{ruleOf, startOf}
 use Rattle.rule.specs.declared.Rule.{Rule}
 use Rattle.rule.specs.declared.Threshold.{Threshold}
@@ -22,11 +22,6 @@ use Rattle.reports.specs.Inner.Rows.{Kept}
 -- the rule in the place of the Rust's callback
 abbrev pub callbackOf : Rule → List Float → Callback Float
 callbackOf rule script = ruled f32 (ruleOf rule script) (startOf rule)
-
--- turns under one threshold lead from one place to another, none of them at the end and none with a report
-pub data Quietly {P : Type 0} (turn : Float → P → Turn P Float) (ended : P → Bool) (t : Float) : P → P → Type 0 where
-  stays : {p : P} → Quietly turn ended t p p
-  goes : {p q r : P} → Quietly turn ended t p q → ended q ≡ false → turn t q ≡ quiet r → Quietly turn ended t p r
 
 -- a scorer of the route stands on the cursor of its slot
 abbrev pub AtRest : (ℕ → Cursor) → Scorer Float → Type 0
@@ -43,11 +38,6 @@ module _ (W : Route Float) (rule : Rule) (script : List Float) where
   Stopped true n u =
       (length (u .state) ≡ n) × ((x : Report Float) × (W .turn (callbackOf rule script .threshold (u .state)) (u .place) .due ≡ some x))
 
-  -- where the scorers stand as it stops: where the route does, or, with every row full, where the turn leads whose report has none
-  abbrev pub leftAt : Bool → Run (W .Place) (List (Report Float)) → W .Place
-  leftAt false u = u .place
-  leftAt true u = W .turn (callbackOf rule script .threshold (u .state)) (u .place) .next
-
   module _ (documents₀ : List ℕ) (scores₀ : List Float) where
     -- a run on its way: some steps of the route lead to `place`, and rows and threshold are what they leave
     pub record Going (t : Threshold) (documents : List ℕ) (values : List Float) (place : W .Place) : Type 0 where
@@ -55,10 +45,10 @@ module _ (W : Route Float) (rule : Rule) (script : List Float) where
       pub place-is : runAfter steps .place ≡ place
       pub kept : Kept rule script (runAfter steps .state) documents₀ scores₀ t documents values
 
-    -- a run that has returned, with `count` reports
+    -- A run that has returned, with `count` reports. Where every row was full it stands behind the turn whose report has no row.
     pub record Ran (full : Bool) (count : ℕ) (documents : List ℕ) (values : List Float) (place : W .Place) : Type 0 where
       pub steps : ℕ
-      pub place-is : runAfter steps .place ≡ place
+      pub place-is : runAfter (cond full (suc steps) steps) .place ≡ place
       pub written : Written (runAfter steps .state) documents₀ scores₀ documents values
       pub count-is : count ≡ length (runAfter steps .state)
       pub stopped : Stopped full (rowsOf documents₀ scores₀) (runAfter steps)
@@ -67,7 +57,7 @@ module _ (W : Route Float) (rule : Rule) (script : List Float) where
     pub record Rests (cursor : ℕ → Cursor) (full : Bool) (count : ℕ) (documents : List ℕ) (values : List Float) : Type 0 where
       pub place : W .Place
       pub ran : Ran full count documents values place
-      pub at-rest : All (AtRest cursor) (W .scorers (leftAt full (runAfter (ran .steps))))
+      pub at-rest : All (AtRest cursor) (W .scorers place)
 
 -- 01's table: 12 where the rows were full, else 0, with the reports
 abbrev pub outcomeOf : Bool → List (Report Float) → Outcome Float
