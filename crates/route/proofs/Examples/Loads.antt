@@ -11,8 +11,9 @@ use Rattle.route.specs.Postings.{Postings, TERMINATED, start}
 use Rattle.route.specs.Plain.{Mode, intersection, plain, single, union}
 use Rattle.route.specs.Cursor.{blockMax, docHere, fresh, seekBlockIn, seekIn}
 use Rattle.route.specs.Ordering.{restoreOrdering, sweep}
+use Rattle.route.specs.Route.{Load}
 use Rattle.route.specs.Skipping.{Skips}
-use Rattle.route.specs.Inner.Loads.{Load, skippingLoads}
+use Rattle.route.specs.Inner.Loads.{skippingLoads}
 
 abbrev nats : Ops
 nats = record { S = ℕ; nil = 0; add = _+_; sub = _-_; above = λ x t. ltb t x }
