@@ -22,6 +22,7 @@ pub mod Single
 pub mod Union
 pub mod Intersection
 pub mod Agree
+pub mod Loads
 pub mod Reports
 pub mod Rows
 pub mod Demand
