@@ -1,19 +1,17 @@
 -- What a list's bounds cover.
 use mathlib.Core.Bool.{cond}
-use mathlib.Core.Option.{Option, none, some}
-use mathlib.Core.Path.{ap, refl, _∙_, _≡_}
+use mathlib.Core.Path.{ap, _≡_}
 use Prim.Native.Nat.{suc, zero, ℕ, _+_, _-_, _<_, _≤_}
 use native.Mathlib.Omega.{arith}
 use lib.Dec.{eqb, ltb}
-use borrow.Author.Tests.{eq-eqb, eqb-false, eqb-true, lt-ltb, ltb-false, ltb-true}
+use borrow.Author.Tests.{eq-eqb, lt-ltb, ltb-false, ltb-true}
 use Rattle.route.specs.Score.{Ops, larger}
-use Rattle.route.specs.Postings.{Postings, lookFrom, scoreOf, start}
+use Rattle.route.specs.Postings.{Postings, start}
 use Rattle.route.specs.Cursor.{Cursor, blockMax, maxFrom, tailMax}
 use Rattle.route.specs.Inner.Lists.{ListOk}
 use Rattle.route.proofs.Cases.{by-test, on-test}
 use Rattle.route.proofs.Order.{Ordered, Values, larger-rank}
 use Rattle.route.proofs.ListLaws.{ScoresOk}
-use Rattle.route.proofs.Places.{doc-inj}
 
 module _ (B : ℕ) {O : Ops} {L : Ordered O} {P : O .S → Type 0} (vs : Values O L P) where
   larger-fin : (s v : O .S) → P s → P v → P (larger O s v)

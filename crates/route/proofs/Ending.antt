@@ -1,5 +1,6 @@
 -- A route whose turns come nearer to its end gets there in a bounded number of steps, and leaves one list.
 use mathlib.Core.Bool.{false, true}
+use mathlib.Core.List.{[]}
 use mathlib.Core.Path.{ap, sym, _∙_, _≡_}
 use Prim.Native.Nat.{suc, zero, ℕ, _+_, _<_, _≤_}
 use native.Mathlib.Nat.{add-comm, add-suc, add-zero}
@@ -36,7 +37,7 @@ module _ {S : Type 0} (W : Route S) where
 
   -- a route stays at its end, so that it leaves one list
   abbrev pub Stays : Type 0
-  Stays = (t : S) (p : W .Place) → W .ended p ≡ true → W .turn t p ≡ quiet p
+  Stays = (t : S) (p : W .Place) → W .ended p ≡ true → W .turn t p ≡ quiet p []
 
   module _ (K : Callback S) (stays : Stays) where
     pub stays-on : (r : K .State) (n m : ℕ) → W .ended (after K W r n .place) ≡ true → after K W r (n + m) ≡ after K W r n

@@ -1,4 +1,4 @@
--- Laws from the bottom: order and rule, lists and cursors, sums, then each route agrees with the plain scan, ends and never turns back, by mode, then all modes, their reports and demand 3.
+-- Laws from the bottom: order and rule, lists and cursors, sums, then each route agrees with the plain scan, ends and never turns back, by mode, then all modes, what loads tell, their reports and demand 3.
 pub mod Cases
 pub mod Lists
 pub mod Order
@@ -22,6 +22,7 @@ pub mod Single
 pub mod Union
 pub mod Intersection
 pub mod Agree
+pub mod Loads
 pub mod Reports
 pub mod Rows
 pub mod Demand

@@ -2,7 +2,7 @@
 use mathlib.Core.List.{List, [], map, _++_, _∷_}
 use mathlib.Core.Path.{ap, refl, subst, _∙_, _≡_}
 use Prim.Native.Nat.{suc}
-use lib.ListN.{length}
+use lib.ListN.{drop, length, take}
 use Rattle.route.specs.Lists.{All}
 
 -- A permutation as a plain derivation: no truncation and no path at its heads, so that it can be recursed on directly.
@@ -25,6 +25,14 @@ all-back P [] m a = a
 all-back P (x ∷ xs) m a = all-back P xs m (a .1)
 
 module _ {A : Type 0} where
+  pub take-front : (l m : List A) → take (length l) (l ++ m) ≡ l
+  take-front [] m = refl
+  take-front (x ∷ l) m = ap (λ z. x ∷ z) (take-front l m)
+
+  pub drop-front : (l m : List A) → drop (length l) (l ++ m) ≡ m
+  drop-front [] m = refl
+  drop-front (x ∷ l) m = drop-front l m
+
   pub perm-refl : (xs : List A) → Perm xs xs
   perm-refl [] = p-nil
   perm-refl (x ∷ xs) = p-cons x (perm-refl xs)

@@ -1,5 +1,5 @@
 -- A route that never turns back: its reports' documents rise strictly, and what the lists' scores and sums have, the reports' scores have.
-use mathlib.Core.Bool.{false}
+use mathlib.Core.Bool.{Bool, cond, false, true}
 use mathlib.Core.List.{List, [], _++_, _∷_}
 use mathlib.Core.Option.{Option, none, some}
 use mathlib.Core.Path.{subst, sym, _≡_}
@@ -11,7 +11,7 @@ use Rattle.route.specs.Score.{Ops, sumFrom}
 use Rattle.route.specs.Report.{Callback, Report, dueAt, reported}
 use Rattle.route.specs.Rule.{Rule, ruled}
 use Rattle.route.specs.Route.{Ends, Route, Run, Turn, after}
-use Rattle.route.proofs.Cases.{by-test, on-test}
+use Rattle.route.proofs.Cases.{on-test}
 use Rattle.route.proofs.Lists.{all-append}
 use Rattle.route.proofs.Ending.{Nears, Stays}
 
@@ -79,10 +79,14 @@ module _ {S : Type 0} where
           → Goes N Ahead f (W .turn t p .next) (W .turn t p .due)
 
 module _ (O : Ops) (P : O .S → Type 0) (N : ℕ) where
-  pub due-goes : {A : Type 0} (Ahead : ℕ → A → Type 0) (t : O .S) (f d : ℕ) (x : O .S) (p : A) → f ≤ d → d < N → P x → Ahead f p → Ahead (suc d) p
-      → Goes P N Ahead f p (dueAt O t d x)
-  due-goes Ahead t f d x p h b k a s =
-      by-test (Goes P N Ahead f p) (O .above x t) (some (record { doc = d; score = x })) none (λ _. (h, b, k, s)) (λ _. a)
+  -- a document's turn, by whether it is reported: a report goes on behind it
+  pub due-goes : {A : Type 0} (Ahead : ℕ → A → Type 0) (t : O .S) (f d : ℕ) (x : O .S) (next : Bool → A) → f ≤ d → d < N → P x
+      → Ahead (suc d) (next true) → Ahead f (next false) → Goes P N Ahead f (next (O .above x t)) (dueAt O t d x)
+  due-goes Ahead t f d x next h b k s a = go (O .above x t)
+    where
+      go : (z : Bool) → Goes P N Ahead f (next z) (cond z (some (record { doc = d; score = x })) none)
+      go true = (h, b, k, s)
+      go false = a
 
   module _ (rule : Rule (O .S)) (start : O .S) (W : Route (O .S)) (stays : Stays W) (Kept : W .Place → Type 0) (cost : W .Place → ℕ)
       (near : Nears W Kept cost) (Ahead : ℕ → W .Place → Type 0) (on : Onward P N W Kept Ahead) where

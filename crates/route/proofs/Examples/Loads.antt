@@ -6,13 +6,14 @@ use lib.Dec.{ltb}
 use lib.ListN.{getD, length}
 use Rattle.route.specs.Score.{Ops}
 use Rattle.route.specs.Report.{Report}
-use Rattle.route.specs.Rule.{Rule, best, script}
+use Rattle.route.specs.Rule.{Rule, best, ruled, script}
 use Rattle.route.specs.Postings.{Postings, TERMINATED, start}
 use Rattle.route.specs.Plain.{Mode, intersection, plain, single, union}
 use Rattle.route.specs.Cursor.{blockMax, docHere, fresh, seekBlockIn, seekIn}
 use Rattle.route.specs.Ordering.{restoreOrdering, sweep}
-use Rattle.route.specs.Skipping.{Skips}
-use Rattle.route.specs.Inner.Loads.{Load, skippingLoads}
+use Rattle.route.specs.Route.{Load, after}
+use Rattle.route.specs.Skipping.{Skips, route}
+use Rattle.route.specs.Inner.Loads.{skippingLoads}
 
 abbrev nats : Ops
 nats = record { S = ℕ; nil = 0; add = _+_; sub = _-_; above = λ x t. ltb t x }
@@ -96,6 +97,13 @@ union-loads : skippingLoads 2 nats union (l1 ∷ l2 ∷ l3 ∷ []) (script []) 9
     ≡ load 0 0 ∷ load 1 0 ∷ load 2 0 ∷ load 0 1 ∷ load 1 1 ∷ load 2 1 ∷ load 0 2 ∷ load 0 3 ∷ load 1 2 ∷ load 1 3 ∷ []
 unfolding start
 union-loads = refl
+
+-- a report ends its turn: behind document 2 the next block is decoded in the turn after its report
+report-ends-turn : (after (ruled nats (script []) 0) (route 2 nats union (l1 ∷ l2 ∷ [])) [] 5 .state ≡ row 0 4 ∷ row 1 3 ∷ row 2 1 ∷ [])
+    × (skippingLoads 2 nats union (l1 ∷ l2 ∷ []) (script []) 0 5 ≡ load 0 0 ∷ load 1 0 ∷ [])
+    × (skippingLoads 2 nats union (l1 ∷ l2 ∷ []) (script []) 0 6 ≡ load 0 0 ∷ load 1 0 ∷ load 0 1 ∷ [])
+unfolding start
+report-ends-turn = (refl, refl, refl)
 
 single-loads : skippingLoads 2 nats single (l1 ∷ []) (script []) 6 30 ≡ load 0 0 ∷ load 0 1 ∷ load 0 3 ∷ []
 unfolding start

@@ -17,7 +17,7 @@ use Rattle.route.specs.Plain.{hit, intersection, optList, present, scan,
 use Rattle.route.specs.Cursor.{findIn}
 use Rattle.route.specs.Ordering.{sortBy}
 use Rattle.route.specs.Scorer.{Scorer, blockMaxScore, docOf, lastDocInBlock, scorersFrom, seekBlock, sizeHint}
-use Rattle.route.specs.Route.{Ends, Route, Turn, after}
+use Rattle.route.specs.Route.{Ends, Load, Route, Turn, after, loadsOf}
 use Rattle.route.specs.Union.{leastLastDoc}
 use Rattle.route.specs.Intersection.{InterPlace, Stage, Tried, allRemain, called, candidatesIn, early, foundTurn, interBy, isOver, leaderRoute, loadLeader, maxScoreSum, over, seekBlockAll, tryCandidate, window, windowTurn, within}
 use Rattle.route.specs.Inner.Cursors.{Past}
@@ -277,13 +277,13 @@ module _ {B N : ℕ} {O : Ops} {L : Ordered O} {K : Callback (O .S)} (G : NeverF
         → ((x : ℕ) → suc c ≤ x → x ≤ e → Bnd B N E x sl bs) → CandsOk E Q pm bs e tr (suc c) cs → In cs e bs ld ss r
     next-in cs e bs c tr ld ss r a lo h b k = record { f = suc c; tr = tr; at = a; low = lo; upto = omega arith; bnd = b; cands = k }
 
-    found-inv : (o : Option (O .S)) (cs : List (Report (O .S))) (e : ℕ) (bs : List (O .S)) (d c tr : ℕ) (ld : T) (ss : List T) (r : K .State) (x0 : O .S)
+    found-inv : (ls : List Load) (o : Option (O .S)) (cs : List (Report (O .S))) (e : ℕ) (bs : List (O .S)) (d c tr : ℕ) (ld : T) (ss : List T) (r : K .State) (x0 : O .S)
         → At c ld ss r → tr ≤ L .rank (K .threshold r) → c ≤ e → c < N → ((x : ℕ) → suc c ≤ x → x ≤ e → Bnd B N E x sl bs)
         → CandsOk E Q pm bs e tr (suc c) cs
         → scoresAt E Q pm c ≡ x0 ∷ present c sl → Found B N E c (K .threshold r) (x0 ∷ []) sl o
-        → Turned r (foundTurn B O (K .threshold r) o c cs e bs d ld ss)
+        → Turned r (foundTurn B O (K .threshold r) o c cs e bs d ld ss ls)
     unfolding State IInv
-    found-inv none cs e bs d c tr ld ss r x0 a lo ce cn b k w h =
+    found-inv ls none cs e bs d c tr ld ss r x0 a lo ce cn b k w h =
         next-in cs e bs c tr ld ss r
         (at-up c (suc c) ld ss r (omega arith) a
         (sym (pass-to G (hit O intersection q) hits-fin N c (suc c) r (omega arith) (a .good)
@@ -293,7 +293,7 @@ module _ {B N : ℕ} {O : Ops} {L : Ordered O} {K : Callback (O .S)} (G : NeverF
         (all-low E Q pm c (K .threshold r) (λ u. let l = ap length w in omega (arith, ap (λ v. L .rank (sum O v)) w, h (omega arith))))))
         ∙ a .left))
         lo ce b k
-    found-inv (some x) cs e bs d c tr ld ss r x0 a lo ce cn b k w h =
+    found-inv ls (some x) cs e bs d c tr ld ss r x0 a lo ce cn b k w h =
         let full : length (scoresAt E Q pm c) ≡ suc (length sl) = ap length w ∙ ap suc (h .1) in
         let is : hit O intersection q c ≡ some x = all-some E Q pm c full ∙ ap (λ v. some (sum O v)) w ∙ ap some (sym (h .0)) in
         let fx : L .Fin x = subst (FinOf O L) is (hits-fin c) in
@@ -350,7 +350,7 @@ module _ {B N : ℕ} {O : Ops} {L : Ordered O} {K : Callback (O .S)} (G : NeverF
         t = tryCandidate B O (c .doc) (K .threshold r) (c .score) ss bs
 
         go : CandsOk E Q pm bs e (i .tr) (i .f) (c ∷ cs)
-            → Turned r (foundTurn B O (K .threshold r) (t .found) (c .doc) cs e bs d ld (t .secs))
+            → Turned r (foundTurn B O (K .threshold r) (t .found) (c .doc) cs e bs d ld (t .secs) (loadsOf ss (t .secs)))
         go (j, j1, j2, j3, j4, j5, j6, j7) =
             let k = parts-ok E Q pm .0 .ok in
             let bw = k .below j j1 in
@@ -383,7 +383,7 @@ module _ {B N : ℕ} {O : Ops} {L : Ordered O} {K : Callback (O .S)} (G : NeverF
             let w : scoresAt E Q pm (c .doc) ≡ x0 ∷ present (c .doc) sl =
             ap (λ o. optList o ++ present (c .doc) sl) (subst (λ z. scoreOf ll z ≡ some x0) j2
             (score-at ll B N k (ll .doc j) j j1 refl)) in
-            found-inv (t .found) cs e bs d (c .doc) (i .tr) ld (t .secs) r x0 a′ (i .low) j5 (omega arith) (λ y m n. i .bnd y (omega arith) n) j7 w
+            found-inv (loadsOf ss (t .secs)) (t .found) cs e bs d (c .doc) (i .tr) ld (t .secs) r x0 a′ (i .low) j5 (omega arith) (λ y m n. i .bnd y (omega arith) n) j7 w
             (subst (λ z. Found B N E (c .doc) (K .threshold r) (x0 ∷ []) z (t .found)) (a .is-sl) (tr .found-is))
 
     called-inv : (cs : List (Report (O .S))) (e : ℕ) (bs : List (O .S)) (d : ℕ) (ld : T) (ss : List T) (r : K .State) → In cs e bs ld ss r

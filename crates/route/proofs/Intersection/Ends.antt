@@ -16,7 +16,7 @@ use Rattle.route.specs.Postings.{Postings, TERMINATED, docAt, start}
 use Rattle.route.specs.Cursor.{findIn}
 use Rattle.route.specs.Ordering.{sortBy}
 use Rattle.route.specs.Scorer.{Scorer, blockMaxScore, docOf, lastDocInBlock, scoreHere, scorersFrom, seek, seekBlock, sizeHint}
-use Rattle.route.specs.Route.{quiet}
+use Rattle.route.specs.Route.{Load, loadsOf, quiet}
 use Rattle.route.specs.Union.{leastLastDoc}
 use Rattle.route.specs.Intersection.{InterPlace, Stage, Tried, allRemain, called, candidatesFrom, candidatesIn, dropped, early, foundTurn, hasRemainingDocs, interBy, isOver, leaderRoute, loadLeader, maxScoreSum, over, pushSec, seekBlockAll, tailOf, tryCandidate, window, windowTurn, within}
 use Rattle.route.specs.Inner.Lists.{ListOk}
@@ -231,11 +231,11 @@ module _ (B N : ℕ) (O : Ops) where
       moved : d < TERMINATED → WfS (seekBlock B d ld) × All WfS (seekBlockAll B d ss)
       moved lv = (wf-shallow d ld (omega arith) (a .0) .0, shallow-each WfS d ss (λ s k. wf-shallow d s (omega arith) k .0) (a .1))
 
-  found-less : (t : O .S) (o : Option (O .S)) (c : ℕ) (cs : List (Report (O .S))) (e : ℕ) (bs : List (O .S)) (d : ℕ) (ld : Scorer (O .S)) (ss : Ts) (m : ℕ)
-      → InWindow cs e d ld ss → interCost (called cs e bs) d < m → Less m (foundTurn B O t o c cs e bs d ld ss .next)
+  found-less : (ls : List Load) (t : O .S) (o : Option (O .S)) (c : ℕ) (cs : List (Report (O .S))) (e : ℕ) (bs : List (O .S)) (d : ℕ) (ld : Scorer (O .S)) (ss : Ts) (m : ℕ)
+      → InWindow cs e d ld ss → interCost (called cs e bs) d < m → Less m (foundTurn B O t o c cs e bs d ld ss ls .next)
   unfolding Less InterKept interCost
-  found-less t none c cs e bs d ld ss m k h = (k, omega arith)
-  found-less t (some x) c cs e bs d ld ss m k h =
+  found-less ls t none c cs e bs d ld ss m k h = (k, omega arith)
+  found-less ls t (some x) c cs e bs d ld ss m k h =
       by-test (λ st. InterKept st d ld ss × (interCost st d < m)) (O .above x t) (called cs e bs) (within cs e bs) (λ _. (k, h))
       (λ _. (k, omega arith))
 
@@ -245,7 +245,7 @@ module _ (B N : ℕ) (O : Ops) where
   within-less t [] e bs d ld ss (a, de, ec, ln, docs) = ((a, omega arith), omega (arith, rows-le (2147483649 - suc e) (2147483648 - d) (omega arith)))
   within-less t (c ∷ cs) e bs d ld ss (a, de, ec, ln, docs) =
       let x = tryCandidate B O (c .doc) t (c .score) ss bs in
-      found-less t (x .found) (c .doc) cs e bs d ld (x .secs) ((2147483648 - d) * row + suc (suc (length cs) + suc (length cs)))
+      found-less (loadsOf ss (x .secs)) t (x .found) (c .doc) cs e bs d ld (x .secs) ((2147483648 - d) * row + suc (suc (length cs) + suc (length cs)))
       ((a .0, try-each WfS (c .doc) t (c .score) ss bs (λ s k. wf-seek (c .doc) s (docs .0) k) (a .1)), de, ec, omega arith, docs .1) (omega arith)
 
   -- a stage that may end
@@ -284,11 +284,11 @@ module _ (B N : ℕ) (O : Ops) where
 
 module _ (B : ℕ) (O : Ops) where
   pub intersection-stays : (t : O .S) (u : InterPlace (O .S)) → isOver (u .stage) ≡ true
-      → interBy B O (u .stage) t (u .doc) (u .leader) (u .secs) ≡ quiet u
+      → interBy B O (u .stage) t (u .doc) (u .leader) (u .secs) ≡ quiet u []
   intersection-stays t u = go (u .stage)
     where
       go : (st : Stage (O .S)) → isOver st ≡ true
-          → interBy B O st t (u .doc) (u .leader) (u .secs) ≡ quiet (record { stage = st; doc = u .doc; leader = u .leader; secs = u .secs })
+          → interBy B O st t (u .doc) (u .leader) (u .secs) ≡ quiet (record { stage = st; doc = u .doc; leader = u .leader; secs = u .secs }) []
       go early e = absurd (false≢true e)
       go window e = absurd (false≢true e)
       go (within cs e′ bs) e = absurd (false≢true e)

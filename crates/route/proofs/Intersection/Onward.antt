@@ -12,6 +12,7 @@ use Rattle.route.specs.Postings.{Postings, TERMINATED, lastDoc, start}
 use Rattle.route.specs.Cursor.{findIn}
 use Rattle.route.specs.Scorer.{Scorer, blockMaxScore, scoreHere, seek, seekBlock}
 use Rattle.route.specs.Union.{leastLastDoc}
+use Rattle.route.specs.Route.{Load, loadsOf}
 use Rattle.route.specs.Intersection.{InterPlace, Stage, Tried, called, candidatesFrom, candidatesIn, early, foundTurn, interBy, isOver, leaderRoute, maxScoreSum, over, seekBlockAll, tailOf, tryCandidate, window, windowTurn, within}
 use Rattle.route.specs.Inner.Lists.{ListOk}
 use Rattle.route.proofs.Cases.{by-test}
@@ -100,15 +101,13 @@ module _ (B N : ℕ) (O : Ops) (P : O .S → Type 0) where
       (Z .add-has tot (scoreHere s′) p (has .0 (s′ .cur .at) (docAt-lt B N (s .list) (a .0 .ok) (s′ .cur .at) (omega arith)))) (a .1) (has .1))
       tt
 
-  found-goes : (t : O .S) (f : ℕ) (o : Option (O .S)) (c : ℕ) (cs : List (Report (O .S))) (e : ℕ) (bs : List (O .S)) (d : ℕ) (ld : Scorer (O .S)) (ss : Ts)
+  found-goes : (ls : List Load) (t : O .S) (f : ℕ) (o : Option (O .S)) (c : ℕ) (cs : List (Report (O .S))) (e : ℕ) (bs : List (O .S)) (d : ℕ) (ld : Scorer (O .S)) (ss : Ts)
       → f ≤ c → c < N → HasOf P o → Upward (suc c) (suc e) cs → All Fair cs → All Has (ld ∷ ss)
-      → Goes P N InterAhead f (foundTurn B O t o c cs e bs d ld ss .next) (foundTurn B O t o c cs e bs d ld ss .due)
-  found-goes t f none c cs e bs d ld ss h b p u a has = ((upward-from f (suc c) (suc e) cs (omega arith) u, a), has)
-  found-goes t f (some x) c cs e bs d ld ss h b p u a has =
-      let either : (g : ℕ) → Upward g (suc e) cs → StageAhead g (cond (O .above x t) (called cs e bs) (within cs e bs)) d =
-      λ g v. by-test (λ st. StageAhead g st d) (O .above x t) (called cs e bs) (within cs e bs) (λ _. (v, a)) (λ _. (v, a)) in
-      due-goes O P N InterAhead t f c x (foundTurn B O t (some x) c cs e bs d ld ss .next) h b p
-      (either f (upward-from f (suc c) (suc e) cs (omega arith) u), has) (either (suc c) u, has)
+      → (let u = foundTurn B O t o c cs e bs d ld ss ls in Goes P N InterAhead f (u .next) (u .due))
+  found-goes ls t f none c cs e bs d ld ss h b p u a has = ((upward-from f (suc c) (suc e) cs (omega arith) u, a), has)
+  found-goes ls t f (some x) c cs e bs d ld ss h b p u a has =
+      due-goes O P N InterAhead t f c x (λ z. record { stage = cond z (called cs e bs) (within cs e bs); doc = d; leader = ld; secs = ss }) h b p
+      ((u, a), has) ((upward-from f (suc c) (suc e) cs (omega arith) u, a), has)
 
   -- a stage that may end
   or-over : (b : Bool) (f : ℕ) (st : Stage (O .S)) (d : ℕ) → StageAhead f st d → StageAhead f (cond b st over) d
@@ -125,7 +124,7 @@ module _ (B N : ℕ) (O : Ops) (P : O .S → Type 0) where
       let x = tryCandidate B O (c .doc) t (c .score) ss bs in
       let fair = a .1 .0 in
       let lv : c .doc < TERMINATED = omega (arith, fair .0, k .0 .0 .ok .few) in
-      found-goes t f (x .found) (c .doc) cs e bs d ld (x .secs) (a .0 .0) (fair .0)
+      found-goes (loadsOf ss (x .secs)) t f (x .found) (c .doc) cs e bs d ld (x .secs) (a .0 .0) (fair .0)
       (try-has Z (c .doc) t (c .score) ss bs lv (fair .1) (k .0 .1) (has .1)) (a .0 .1) (a .1 .1)
       (has .0, try-each B N O Has (c .doc) t (c .score) ss bs (λ s h. h) (has .1))
   turn-goes Z t f (called cs e bs) d ld ss n k a has = (or-over (O .above (maxScoreSum O ld ss) t) f (within cs e bs) d a, has)

@@ -13,7 +13,7 @@ use Rattle.route.specs.Postings.{Postings, TERMINATED, docAt, lastDoc, s
 use Rattle.route.specs.Plain.{scan, turnOf}
 use Rattle.route.specs.Cursor.{Cursor, advanceIn, blockMax, docHere, fresh, seekIn}
 use Rattle.route.specs.Route.{Ends, Route, after}
-use Rattle.route.specs.Single.{Phase, SinglePlace, blockWandSingleScorer, hunt, huntTurn, isOver, landed, leave, over, singleBy, walk, walkTurn}
+use Rattle.route.specs.Single.{Phase, SinglePlace, blockWandSingleScorer, called, hunt, huntTurn, isOver, landed, leave, over, passed, singleBy, walk, walkTurn}
 use Rattle.route.specs.Inner.Lists.{ListOk}
 use Rattle.route.specs.Inner.Cursors.{Past, Wf}
 use Rattle.route.proofs.Cases.{by-test, lt-of-ne, on-test}
@@ -43,6 +43,8 @@ module _ (B N : ℕ) {O : Ops} {L : Ordered O} {K : Callback (O .S)} (G : NeverF
     InvBy : Phase → Cursor → ℕ → K .State → Type 0
     InvBy hunt c d r = Wf B l c × Past B l c d × (d ≤ lastDoc l B (c .blk)) × (Rest d r ≡ total) × G .Good r
     InvBy walk c d r = Wf B l c × Past B l c d × (d ≡ docHere l c) × (d < TERMINATED) × (Rest d r ≡ total) × G .Good r
+    -- its document is reported
+    InvBy called c d r = Wf B l c × Past B l c d × (d ≡ docHere l c) × (d < TERMINATED) × (Rest (suc d) r ≡ total) × G .Good r
     InvBy over c d r = r ≡ total
 
     Inv : SinglePlace → K .State → Type 0
@@ -116,6 +118,18 @@ module _ (B N : ℕ) {O : Ops} {L : Ordered O} {K : Callback (O .S)} (G : NeverF
         ∙ e)
         g))
 
+    passed-inv : (c : Cursor) (d : ℕ) (s : K .State) → InvBy called c d s → Inv (passed B O l c d) s
+    unfolding Inv InvBy Rest
+    passed-inv c d s (w, p, q, h, e, g) =
+        by-test (λ p. Inv p s) (eqb d (lastDoc l B (c .blk))) (leave B O l d c) (landed B O l (advanceIn l B c))
+        (λ t. leave-inv c d s w (past-up B N l k c d (suc d) (omega arith) p) h e g)
+        (λ t.
+        let o = on-block B N l k c d w p (omega arith) (omega arith) in
+        let a = advance-is B N l k c w o (omega arith) in
+        let nx = a .next in
+        let up : suc d ≤ docHere l (advanceIn l B c) = omega (arith, docAt-rises B N l k (c .at) (advanceIn l B c .at) (omega arith) (omega arith)) in
+        landed-inv (advanceIn l B c) (suc d) s (a .wf) (a .past (suc d) (omega arith) (past-up B N l k c d (suc d) (omega arith) p)) up e g)
+
     walk-inv : (c : Cursor) (d : ℕ) (r : K .State) → InvBy walk c d r
         → Inv (walkTurn B O l (K .threshold r) c d .next) (offer O K d (l .score (c .at)) r)
     unfolding Inv InvBy Rest
@@ -130,20 +144,15 @@ module _ (B N : ℕ) {O : Ops} {L : Ordered O} {K : Callback (O .S)} (G : NeverF
         let turned : Rest (suc d) s ≡ total =
         ap (λ o. Rest (suc d) (turnOf O K o d r)) (sym sc)
         ∙ sym (rest-turn G (scoreOf l) fin N d r (omega (arith, k .below (c .at) i))) ∙ e in
-        by-test (λ p. Inv p s) (eqb d (lastDoc l B (c .blk))) (leave B O l d c) (landed B O l (advanceIn l B c))
-        (λ t. leave-inv c d s w (past-up B N l k c d (suc d) (omega arith) p) h turned g′)
-        (λ t.
-        let o = on-block B N l k c d w p (omega arith) (omega arith) in
-        let a = advance-is B N l k c w o (omega arith) in
-        let nx = a .next in
-        let up : suc d ≤ docHere l (advanceIn l B c) = omega (arith, docAt-rises B N l k (c .at) (advanceIn l B c .at) (omega arith) (omega arith)) in
-        landed-inv (advanceIn l B c) (suc d) s (a .wf) (a .past (suc d) (omega arith) (past-up B N l k c d (suc d) (omega arith) p)) up turned g′)
+        by-test (λ p. Inv p s) (O .above (l .score (c .at)) (K .threshold r)) (record { phase = called; cur = c; doc = d }) (passed B O l c d)
+        (λ _. (w, p, q, h, turned, g′)) (λ _. passed-inv c d s (w, p, q, h, turned, g′))
 
     step-inv : (ph : Phase) (c : Cursor) (d : ℕ) (r : K .State) → InvBy ph c d r
         → Inv (singleBy B O l ph (K .threshold r) c d .next) (reported K (singleBy B O l ph (K .threshold r) c d .due) r)
     unfolding Inv InvBy
     step-inv hunt c d r i = hunt-inv c d r i
     step-inv walk c d r i = walk-inv c d r i
+    step-inv called c d r i = passed-inv c d r i
     step-inv over c d r i = i
 
     over-inv : (p : SinglePlace) (r : K .State) → isOver (p .phase) ≡ true → Inv p r → r ≡ total
@@ -153,6 +162,7 @@ module _ (B N : ℕ) {O : Ops} {L : Ordered O} {K : Callback (O .S)} (G : NeverF
         go : (ph : Phase) → isOver ph ≡ true → InvBy ph (p .cur) (p .doc) r → r ≡ total
         go hunt e i = absurd (false≢true e)
         go walk e i = absurd (false≢true e)
+        go called e i = absurd (false≢true e)
         go over e i = i
 
   first-inv : (r : K .State) → G .Good r → Inv (Rest 0 r) (record { phase = hunt; cur = fresh; doc = docHere l fresh }) r

@@ -1,16 +1,17 @@
 -- For both scorings: the single route's cursor stays in its list, and the route ends.
 use mathlib.Core.Bool.{cond, false, false≢true, true, true≢false}
+use mathlib.Core.List.{[]}
 use mathlib.Core.Path.{ap, refl, _≡_}
-use Prim.Native.Nat.{suc, ℕ, _*_, _+_, _-_, _<_, _≤_}
+use Prim.Native.Nat.{pred, suc, ℕ, _*_, _-_, _<_, _≤_}
 use native.Mathlib.Omega.{arith}
 use lib.Dec.{eqb, ltb}
-use borrow.Author.Tests.{eqb-false, eqb-true, ltb-false, ltb-true}
+use borrow.Author.Tests.{eq-eqb, eqb-false, eqb-true, ltb-false, ltb-true}
 use Rattle.route.specs.Score.{Ops}
 use Rattle.route.specs.Postings.{Postings, TERMINATED, docAt, lastDoc, start}
 use Rattle.route.specs.Cursor.{Cursor, advanceIn, blockMax, docHere, fresh, seekBlockIn, seekIn}
 use Rattle.route.specs.Scorer.{Scorer}
 use Rattle.route.specs.Route.{Route, quiet}
-use Rattle.route.specs.Single.{Phase, SinglePlace, blockWandSingleScorer, hunt, huntTurn, isOver, landed, leave, over, singleBy, singleTurn, walk, walkTurn}
+use Rattle.route.specs.Single.{Phase, SinglePlace, blockWandSingleScorer, called, hunt, huntTurn, isOver, landed, leave, over, passed, singleBy, singleStep, walk, walkTurn}
 use Rattle.route.specs.Inner.Singles.{edge, singleCost, SingleKept}
 use Rattle.route.specs.Inner.Lists.{ListOk}
 use Rattle.route.specs.Inner.Cursors.{Past, Wf}
@@ -31,7 +32,7 @@ module _ (B N : ℕ) (O : Ops) (l : Postings (O .S)) (k : ListOk B N l) where
       let h = k .wide in
       (omega (arith, w .hi, start-le B (c .dec) (l .full) (omega arith)), omega (arith, start-le B (c .blk) (l .full) i))
 
-  landed-less : (c : Cursor) (x m : ℕ) → Wf B l c → Past B l c x → x ≤ docHere l c → (docHere l c < TERMINATED → 2 * (edge B l - c .at) < m) → 0 < m
+  landed-less : (c : Cursor) (x m : ℕ) → Wf B l c → Past B l c x → x ≤ docHere l c → (docHere l c < TERMINATED → 3 * (edge B l - c .at) < m) → 0 < m
       → Less m (landed B O l c)
   unfolding Less SingleKept singleCost
   landed-less c x m w p h f z =
@@ -45,8 +46,8 @@ module _ (B N : ℕ) (O : Ops) (l : Postings (O .S)) (k : ListOk B N l) where
       ((w, past-up B N l k c x (docHere l c) h p, refl, lt), f lt))
 
   leave-less : (c : Cursor) (e m : ℕ) → Wf B l c → Past B l c (suc e) → e < TERMINATED → lastDoc l B (c .blk) ≤ e
-      → suc (2 * (edge B l - start B (suc (c .blk)))) ≤ m → 0 < m → start B (suc (c .blk)) ≤ edge B l
-      → suc (suc (2 * (edge B l - start B (suc (c .blk))))) ≤ m → Less m (leave B O l e c)
+      → suc (3 * (edge B l - start B (suc (c .blk)))) ≤ m → 0 < m → start B (suc (c .blk)) ≤ edge B l
+      → suc (suc (3 * (edge B l - start B (suc (c .blk))))) ≤ m → Less m (leave B O l e c)
   unfolding Less SingleKept singleCost
   leave-less c e m w p h le f z ed g =
       let s = seekBlock-is B N l k (suc e) c h w in
@@ -70,7 +71,7 @@ module _ (B N : ℕ) (O : Ops) (l : Postings (O .S)) (k : ListOk B N l) where
       let wd = k .wide in
       let ss = start-suc B (c .blk) in
       let cap = last-cap B N l k (c .blk) in
-      let m = suc (2 * (edge B l - start B (c .blk))) in
+      let m = suc (3 * (edge B l - start B (c .blk))) in
       by-test (Less m) (O .above (blockMax B O l c) t) (landed B O l (seekIn l B d c))
       (cond (eqb (lastDoc l B (c .blk)) TERMINATED) (record { phase = over; cur = c; doc = d }) (leave B O l (lastDoc l B (c .blk)) c))
       (λ _.
@@ -98,13 +99,12 @@ module _ (B N : ℕ) (O : Ops) (l : Postings (O .S)) (k : ListOk B N l) where
       full-edge : (b : ℕ) → b ≤ l .full → start B b ≤ edge B l
       full-edge b h = unfold edge in omega (arith, start-le B b (l .full) h)
 
-  walk-less : (t : O .S) (c : Cursor) (d : ℕ) → SingleKept B l walk c d → Less (singleCost B l walk c) (walkTurn B O l t c d .next)
+  passed-less : (c : Cursor) (d m : ℕ) → SingleKept B l called c d → pred (3 * (edge B l - c .at)) ≤ m → Less m (passed B O l c d)
   unfolding Less SingleKept singleCost
-  walk-less t c d (w, p, q, h) =
+  passed-less c d m (w, p, q, h) le =
       let be = below-edge c w in
       let b0 = be .0 in
       let o = on-block B N l k c d w p (omega arith) (omega arith) in
-      let m = 2 * (edge B l - c .at) in
       let hi = w .hi in
       let od = ap (start B) o in
       let ss = start-suc B (c .blk) in
@@ -126,6 +126,13 @@ module _ (B N : ℕ) (O : Ops) (l : Postings (O .S)) (k : ListOk B N l) where
       full-edge : (b : ℕ) → b ≤ l .full → start B b < edge B l
       full-edge b h = unfold edge in omega (arith, start-le B b (l .full) h, k .wide)
 
+  walk-less : (t : O .S) (c : Cursor) (d : ℕ) → SingleKept B l walk c d → Less (singleCost B l walk c) (walkTurn B O l t c d .next)
+  unfolding Less SingleKept singleCost
+  walk-less t c d (w, p, q, h) =
+      let one-less : pred (3 * (edge B l - c .at)) < 3 * (edge B l - c .at) = omega (arith, below-edge c w .0) in
+      by-test (Less (3 * (edge B l - c .at))) (O .above (l .score (c .at)) t) (record { phase = called; cur = c; doc = d }) (passed B O l c d)
+      (λ _. ((w, p, q, h), one-less)) (λ _. passed-less c d (3 * (edge B l - c .at)) (w, p, q, h) (omega arith))
+
   first-kept : SingleKept B l hunt (fresh) (docHere l (fresh))
   unfolding SingleKept
   first-kept =
@@ -143,25 +150,29 @@ module _ (B N : ℕ) (O : Ops) (l : Postings (O .S)) (k : ListOk B N l) where
 
   turn-less : (t : O .S) (ph : Phase) (c : Cursor) (d : ℕ) → isOver ph ≡ false → SingleKept B l ph c d
       → Less (singleCost B l ph c) (singleBy B O l ph t c d .next)
+  unfolding singleCost
   turn-less t hunt c d e i = hunt-less t c d i
   turn-less t walk c d e i = walk-less t c d i
+  turn-less t called c d e i = passed-less c d (pred (3 * (edge B l - c .at))) i (omega arith)
   turn-less t over c d e i = absurd (true≢false e)
 
   module _ (ord : ℕ) where
     abbrev W : Route (O .S)
     W = blockWandSingleScorer B O (record { ord = ord; list = l; cur = fresh })
 
-    -- for both scorings: two steps for each place of the list are enough
+    -- for both scorings: three steps for each place of the list are enough
     pub single-nears : Nears W (λ p. SingleKept B l (p .phase) (p .cur) (p .doc)) (λ p. singleCost B l (p .phase) (p .cur))
     unfolding Less
     single-nears = record { begins = first-kept; nears = λ t p e i. turn-less t (p .phase) (p .cur) (p .doc) e i }
 
 module _ (B : ℕ) (O : Ops) where
   -- an over place stays
-  pub single-stays : (s : Scorer (O .S)) (t : O .S) (p : SinglePlace) → isOver (p .phase) ≡ true → singleTurn B O (s .list) t p ≡ quiet p
+  pub single-stays : (s : Scorer (O .S)) (t : O .S) (p : SinglePlace) → isOver (p .phase) ≡ true → singleStep B O s t p ≡ quiet p []
   single-stays s t p = go (p .phase)
     where
-      go : (ph : Phase) → isOver ph ≡ true → singleBy B O (s .list) ph t (p .cur) (p .doc) ≡ quiet (record { phase = ph; cur = p .cur; doc = p .doc })
+      go : (ph : Phase) → isOver ph ≡ true
+          → singleStep B O s t (record { phase = ph; cur = p .cur; doc = p .doc }) ≡ quiet (record { phase = ph; cur = p .cur; doc = p .doc }) []
       go hunt e = absurd (false≢true e)
       go walk e = absurd (false≢true e)
-      go over e = refl
+      go called e = absurd (false≢true e)
+      go over e = rw (eq-eqb (p .cur .dec) (p .cur .dec) refl)

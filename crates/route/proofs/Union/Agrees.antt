@@ -1,5 +1,5 @@
 -- The union's route reports what the plain scan reports: every document that it passes is covered by bounds that do not exceed the threshold.
-use mathlib.Core.Bool.{Bool, false, false≢true, not, true}
+use mathlib.Core.Bool.{false, false≢true, true, true≢false}
 use mathlib.Core.List.{List, [], append-assoc, append-nil, map, map-append, _++_, _∷_}
 use mathlib.Core.Option.{Option, none, some}
 use mathlib.Core.Path.{ap, refl, subst, sym, _∙_, _≡_}
@@ -16,9 +16,9 @@ use Rattle.route.specs.Postings.{Postings, TERMINATED, scoreOf}
 use Rattle.route.specs.Plain.{hit, optList, present, scan, totalOf, union}
 use Rattle.route.specs.Cursor.{seekBlockIn}
 use Rattle.route.specs.Ordering.{retain, sortBy}
-use Rattle.route.specs.Scorer.{Scorer, blockMaxScore, docOf, lastDocInBlock, maxScore, scorersFrom, seekBlock}
+use Rattle.route.specs.Scorer.{Scorer, blockMaxScore, docOf, lastDocInBlock, maxScore, scoreHere, scorersFrom, seekBlock}
 use Rattle.route.specs.Route.{Ends, Route, Turn, after, quiet}
-use Rattle.route.specs.Union.{Aligned, Pivot, UnionPlace, afterAlign, afterPivot, alignScorers, aligned, blockMaxWasTooLow, goOn, liveOnly, missed, onPivot, pivotFrom, pivotRoute, unionTurn}
+use Rattle.route.specs.Union.{Aligned, Pivot, Stage, UnionPlace, advanceAllScorersOnPivot, afterAlign, afterPivot, alignScorers, aligned, blockMaxWasTooLow, called, goOn, isOver, liveOnly, looking, missed, onPivot, over, pivotFrom, pivotRoute, tooLowLoads, unionBy}
 use Rattle.route.specs.Inner.Orders.{Sorted}
 use Rattle.route.proofs.Cases.{by-test, lt-of-ne, on-test}
 use Rattle.route.proofs.Lists.{all-append, all-back, all-front, all-imp, all-map, all-perm, p-trans, perm-eq, perm-length}
@@ -31,6 +31,7 @@ use Rattle.route.proofs.Scorers.{QueryOk, Sc, blocks-ok, contrib, contr
 use Rattle.route.proofs.Union.Pivot.{AlignIs, CutIs, CutOk, align-is, cut-is}
 use Rattle.route.proofs.Hits.{one-total}
 use Rattle.route.proofs.Union.Lag.{Lag, l-blocks, l-none, l-tops, lag-all, lag-app, lag-keep, lag-length, lag-none, lagOf, shallow-stays-all}
+use Rattle.route.proofs.Union.Landed.{landedBy}
 use Rattle.route.proofs.Union.State.{Carries, Inv, Ready, Rest, Same, cut-low, hits-fin, stop-end, stop-none}
 use Rattle.route.proofs.Union.TooLow.{too-low-any}
 use Rattle.route.proofs.Union.Missed.{miss}
@@ -47,10 +48,11 @@ module _ {B N : ℕ} {O : Ops} {L : Ordered O} {K : Callback (O .S)} (G : NeverF
   abbrev bbs : List T → List (O .S)
   bbs ss = map (blockMaxScore B O) ss
 
-  -- while the loop goes on there is a frontier; at its end the reports are the whole list
-  pub UInv : K .State → Bool → List T → K .State → Type 0
-  UInv total true ss r = (f : ℕ) × Inv G Q total f ss r
-  UInv total false ss r = r ≡ total
+  -- while the loop goes on there is a frontier, behind a report that of the scorers once landed; at its end the reports are the whole list
+  pub UInv : K .State → Stage → List T → K .State → Type 0
+  UInv total looking ss r = (f : ℕ) × Inv G Q total f ss r
+  UInv total (called n) ss r = (f : ℕ) × Inv G Q total f (landedBy B (called n) ss) r
+  UInv total over ss r = r ≡ total
 
   -- ---- the step
 
@@ -151,7 +153,7 @@ module _ {B N : ℕ} {O : Ops} {L : Ordered O} {K : Callback (O .S)} (G : NeverF
   align-inv : (total : K .State) (p : ℕ) (pre piv post : List T) (r : K .State) (a : Aligned (O .S)) → Ready G Q total p p (pre ++ piv) post r
       → 0 < length piv
       → All (λ s. docOf s ≡ p) piv → (0 < length pre → L .rank (sum O (map maxScore pre)) ≤ L .rank (K .threshold r)) → AlignIs B p pre a
-      → Carries G Q total r (afterAlign B O (K .threshold r) a p piv post)
+      → Carries G Q total r (afterAlign B O (K .threshold r) pre a p piv post)
   align-inv total p pre piv post r (aligned xs) i n on lo k = hit-inv G Q total p pre piv post r xs i n on k
   align-inv total p pre piv post r (missed m) i n on lo k = (p, miss G Q total p pre piv post r m i on lo k)
 
@@ -180,8 +182,8 @@ module _ {B N : ℕ} {O : Ops} {L : Ordered O} {K : Callback (O .S)} (G : NeverF
       let fs = Z .sum-fin (bbs (pre ++ piv)) (blocks-ok B N Z p (pre ++ piv) aP) (omega arith) in
       by-test (Carries G Q total r)
       (O .above (sum O (bbs (pre ++ piv))) (K .threshold r))
-      (afterAlign B O (K .threshold r) (alignScorers B p pre) p piv (c .post))
-      (quiet (goOn (blockMaxWasTooLow B O (pre ++ piv) (c .post))))
+      (afterAlign B O (K .threshold r) pre (alignScorers B p pre) p piv (c .post))
+      (quiet (goOn (blockMaxWasTooLow B O (pre ++ piv) (c .post))) (tooLowLoads B O (pre ++ piv) (c .post)))
       (λ t. align-inv total p pre piv (c .post) r (alignScorers B p pre) rd (omega arith)
       (map-keys docOf (λ d. d ≡ p) sh (c .piv)
       (all-imp (Fit p) (λ s. docOf (sh s) ≡ docOf s) (c .piv) (λ s x. shallow-is B N Z p p s (omega arith) x .1)
@@ -229,8 +231,8 @@ module _ {B N : ℕ} {O : Ops} {L : Ordered O} {K : Callback (O .S)} (G : NeverF
       let lo : L .rank (sum O (bbs (pre ++ piv))) ≤ L .rank (K .threshold r) = omega arith in
       by-test (Carries G Q total r)
       (O .above (sum O (bbs (pre ++ piv))) (K .threshold r))
-      (afterAlign B O (K .threshold r) (alignScorers B p pre) p piv (c .post))
-      (quiet (goOn (blockMaxWasTooLow B O (pre ++ piv) (c .post))))
+      (afterAlign B O (K .threshold r) pre (alignScorers B p pre) p piv (c .post))
+      (quiet (goOn (blockMaxWasTooLow B O (pre ++ piv) (c .post))) (tooLowLoads B O (pre ++ piv) (c .post)))
       (λ t. absurd (let z = above-true O L (sum O (bbs (pre ++ piv))) (K .threshold r) fs (G .threshold-fin r (i .good)) t in omega arith))
       (λ t. too-low-any G Q total f p (pre ++ piv) (c .post) r np rd (omega arith)
       (λ h. subst (λ z. All (λ s. f ≤ suc (lastDocInBlock B s)) (lagOf f z) × (L .rank (sum O (bbs (lagOf f z))) ≤ L .rank (K .threshold r)))
@@ -240,21 +242,34 @@ module _ {B N : ℕ} {O : Ops} {L : Ordered O} {K : Callback (O .S)} (G : NeverF
       tops-map [] = refl
       tops-map (x ∷ xs) = ap (λ z. x .list .top ∷ z) (tops-map xs)
 
-  more-is : (t : O .S) (c : Pivot (O .S)) → onPivot B O t c .next .more ≡ true
-  more-is t c =
-      by-test (λ (u : Turn (UnionPlace (O .S)) (O .S)). u .next .more ≡ true)
-      (O .above (sum O (bbs (map (seekBlock B (c .doc)) (c .pre) ++ map (seekBlock B (c .doc)) (c .piv)))) t)
-      (afterAlign B O t (alignScorers B (c .doc) (map (seekBlock B (c .doc)) (c .pre))) (c .doc) (map (seekBlock B (c .doc)) (c .piv)) (c .post))
-      (quiet (goOn (blockMaxWasTooLow B O (map (seekBlock B (c .doc)) (c .pre) ++ map (seekBlock B (c .doc)) (c .piv)) (c .post))))
-      (λ _. go (alignScorers B (c .doc) (map (seekBlock B (c .doc)) (c .pre)))) (λ _. refl)
+  -- a pivot does not end the loop
+  goes-on : (t : O .S) (c : Pivot (O .S)) → isOver (onPivot B O t c .next .stage) ≡ false
+  goes-on t c =
+      let pre : List T = map (seekBlock B (c .doc)) (c .pre) in
+      let piv : List T = map (seekBlock B (c .doc)) (c .piv) in
+      by-test (λ (u : Turn (UnionPlace (O .S)) (O .S)). isOver (u .next .stage) ≡ false) (O .above (sum O (bbs (pre ++ piv))) t)
+      (afterAlign B O t pre (alignScorers B (c .doc) pre) (c .doc) piv (c .post))
+      (quiet (goOn (blockMaxWasTooLow B O (pre ++ piv) (c .post))) (tooLowLoads B O (pre ++ piv) (c .post)))
+      (λ _. go pre piv (alignScorers B (c .doc) pre)) (λ _. refl)
     where
-      go : (a : Aligned (O .S)) → afterAlign B O t a (c .doc) (map (seekBlock B (c .doc)) (c .piv)) (c .post) .next .more ≡ true
-      go (aligned xs) = refl
-      go (missed m) = refl
+      go : (pre piv : List T) (a : Aligned (O .S)) → isOver (afterAlign B O t pre a (c .doc) piv (c .post) .next .stage) ≡ false
+      go pre piv (aligned xs) =
+          by-test (λ (u : UnionPlace (O .S)). isOver (u .stage) ≡ false) (O .above (sum O (map scoreHere (xs ++ piv))) t)
+          (record { stage = called (length (xs ++ piv)); scorers = (xs ++ piv) ++ c .post })
+          (goOn (advanceAllScorersOnPivot B (xs ++ piv) (c .post))) (λ _. refl) (λ _. refl)
+      go pre piv (missed m) = refl
+
+  -- at a place that goes on
+  on-inv : (total : K .State) (st : Stage) (ss : List T) (r : K .State) → isOver st ≡ false → (f : ℕ) × Inv G Q total f (landedBy B st ss) r
+      → UInv total st ss r
+  unfolding UInv
+  on-inv total looking ss r e i = i
+  on-inv total (called n) ss r e i = i
+  on-inv total over ss r e i = absurd (true≢false e)
 
   -- the invariant of a turn from r: while it goes on there is a frontier, and at the end the reports are the total
   abbrev Turned : K .State → K .State → Turn (UnionPlace (O .S)) (O .S) → Type 0
-  Turned total r u = UInv total (u .next .more) (u .next .scorers) (reported K (u .due) r)
+  Turned total r u = UInv total (u .next .stage) (u .next .scorers) (reported K (u .due) r)
 
   cut-inv : (total : K .State) (f : ℕ) (ss : List T) (r : K .State) (o : Option (Pivot (O .S))) → Inv G Q total f ss r
       → CutIs B N Z (K .threshold r) [] ss o
@@ -270,17 +285,17 @@ module _ {B N : ℕ} {O : Ops} {L : Ordered O} {K : Callback (O .S)} (G : NeverF
       let d = subst (All (λ s. docOf s ≡ c .doc)) (k .shape .piv-is) (k .shape .on) .0 in
       let cp = docAt-cap B N (k .shape .head .list) (h .good .ok) (k .shape .head .cur .at) in
       let lv : c .doc < TERMINATED = lt-of-ne (omega arith) (eqb-false (c .doc) TERMINATED e) in
-      subst (λ b. UInv total b (onPivot B O (K .threshold r) c .next .scorers) (reported K (onPivot B O (K .threshold r) c .due) r))
-      (sym (more-is (K .threshold r) c))
-      (pivot-inv total f ss r c i k lv))
+      let u = onPivot B O (K .threshold r) c in
+      on-inv total (u .next .stage) (u .next .scorers) (reported K (u .due) r) (goes-on (K .threshold r) c) (pivot-inv total f ss r c i k lv))
 
-  turn-inv : (total : K .State) (b : Bool) (ss : List T) (r : K .State) → UInv total b ss r
-      → Turned total r (unionTurn B O (K .threshold r) (record { more = b; scorers = ss }))
+  turn-inv : (total : K .State) (st : Stage) (ss : List T) (r : K .State) → UInv total st ss r
+      → Turned total r (unionBy B O st (K .threshold r) ss)
   unfolding UInv
-  turn-inv total true ss r i =
+  turn-inv total looking ss r i =
       cut-inv total (i .0) ss r (pivotFrom O (K .threshold r) (O .nil) ss) (i .1)
       (cut-is B N Z (i .0) (K .threshold r) [] ss (G .threshold-fin r (i .1 .good)) tt (i .1 .scs) (i .1 .order) (let z = i .1 .few in omega arith))
-  turn-inv total false ss r i = i
+  turn-inv total (called n) ss r i = i
+  turn-inv total over ss r i = i
 
   -- ---- the beginning
 
@@ -296,7 +311,7 @@ module _ {B N : ℕ} {O : Ops} {L : Ordered O} {K : Callback (O .S)} (G : NeverF
   abbrev live : List T
   live = retain docOf (scorersFrom 0 q)
 
-  begin : (r : K .State) → G .Good r → UInv (Rest G Q 0 r) true (sortBy docOf live) r
+  begin : (r : K .State) → G .Good r → UInv (Rest G Q 0 r) looking (sortBy docOf live) r
   unfolding UInv
   begin r g =
       let ss = scorersFrom 0 q in
@@ -325,20 +340,21 @@ module _ {B N : ℕ} {O : Ops} {L : Ordered O} {K : Callback (O .S)} (G : NeverF
   W = pivotRoute B O live
 
   after-inv : (r : K .State) → G .Good r → (n : ℕ)
-      → UInv (Rest G Q 0 r) (after K W r n .place .more) (after K W r n .place .scorers) (after K W r n .state)
+      → UInv (Rest G Q 0 r) (after K W r n .place .stage) (after K W r n .place .scorers) (after K W r n .state)
   after-inv r g zero = begin r g
-  after-inv r g (suc n) = let u = after K W r n in turn-inv (Rest G Q 0 r) (u .place .more) (u .place .scorers) (u .state) (after-inv r g n)
+  after-inv r g (suc n) = let u = after K W r n in turn-inv (Rest G Q 0 r) (u .place .stage) (u .place .scorers) (u .state) (after-inv r g n)
 
-  over-inv : (total : K .State) (b : Bool) (ss : List T) (r : K .State) → not b ≡ true → UInv total b ss r → r ≡ total
+  over-inv : (total : K .State) (st : Stage) (ss : List T) (r : K .State) → isOver st ≡ true → UInv total st ss r → r ≡ total
   unfolding UInv
-  over-inv total true ss r e i = absurd (false≢true e)
-  over-inv total false ss r e i = i
+  over-inv total looking ss r e i = absurd (false≢true e)
+  over-inv total (called n) ss r e i = absurd (false≢true e)
+  over-inv total over ss r e i = i
 
   -- THE UNION'S ROUTE: when it ends, its reports are the plain scan's
   pub union-agrees : (r total : K .State) → G .Good r → Ends K W r total → total ≡ scan O K (hit O union q) N 0 r
   union-agrees r total g e =
       let u = after K W r (e .steps) in
-      sym (e .leaves) ∙ over-inv (Rest G Q 0 r) (u .place .more) (u .place .scorers) (u .state) (e .ended) (after-inv r g (e .steps))
+      sym (e .leaves) ∙ over-inv (Rest G Q 0 r) (u .place .stage) (u .place .scorers) (u .state) (e .ended) (after-inv r g (e .steps))
       ∙ ap (λ z. scan O K (hit O union q) z 0 r) (sub-zero N)
 
   -- ---- one list with documents: the single route takes over

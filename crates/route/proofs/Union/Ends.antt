@@ -1,30 +1,31 @@
 -- For both scorings: each turn of the union comes nearer to the end. Nothing is asked of scores.
-use mathlib.Core.Bool.{Bool, cond, false, not, true, true≢false}
+use mathlib.Core.Bool.{false, false≢true, true, true≢false}
 use mathlib.Core.List.{List, [], append-assoc, map, map-append, _++_, _∷_}
 use mathlib.Core.Option.{Option, none, some}
-use mathlib.Core.Path.{ap, subst, sym, _∙_, _≡_}
-use Prim.Native.Nat.{suc, ℕ, _+_, _<_, _≤_}
+use mathlib.Core.Path.{ap, refl, subst, sym, _∙_, _≡_}
+use Prim.Native.Nat.{suc, ℕ, _*_, _+_, _<_, _≤_}
 use native.Mathlib.Omega.{arith}
 use lib.Dec.{eqb, ltb}
-use lib.ListN.{length, length-append, length-map}
-use borrow.Author.Tests.{eqb-false, le-leb, ltb-false, ltb-true, not-true}
+use lib.ListN.{drop, length, length-append, length-map, length-take, take, take-append-drop}
+use borrow.Author.Tests.{eqb-false, le-leb, ltb-false, ltb-true}
 use Rattle.route.specs.Lists.{All}
 use Rattle.route.specs.Score.{Ops, sum}
 use Rattle.route.specs.Postings.{Postings, TERMINATED}
-use Rattle.route.specs.Ordering.{retain, sortBy, sweep}
-use Rattle.route.specs.Scorer.{Scorer, advance, blockMaxScore, docOf, lastDocInBlock, scorersFrom, seek, seekBlock}
-use Rattle.route.specs.Route.{Route, Turn, quiet}
-use Rattle.route.specs.Union.{Aligned, Around, Pivot, UnionPlace, afterAlign, afterPivot, alignScorers, aligned, behind, blockMaxWasTooLow, findPivotDoc, goOn, leastDoc, leastLastDoc, liveOnly, missed, missedOn, onPivot, pivotFrom, pivotRoute, scorerToSeek, unionTurn}
+use Rattle.route.specs.Ordering.{retain, sweep}
+use Rattle.route.specs.Scorer.{Scorer, advance, blockMaxScore, docOf, lastDocInBlock, scoreHere, scorersFrom, seek, seekBlock}
+use Rattle.route.specs.Route.{Load, Route, Turn, loadsBack, quiet}
+use Rattle.route.specs.Union.{Aligned, Around, Pivot, Stage, UnionPlace, advanceAllScorersOnPivot, afterAlign, afterPivot, alignScorers, aligned, behind, blockMaxWasTooLow, called, goOn, isOver, leastDoc, leastLastDoc, liveOnly, looking, missed, missedOn, onPivot, over, pivotFrom, pivotRoute, scored, scorerToSeek, tooLowLoads, unionBy, unionTurn}
 use Rattle.route.specs.Inner.Unions.{UnionKept, SafeS}
 use Rattle.route.specs.Inner.Lists.{ListOk}
 use Rattle.route.specs.Inner.Orders.{From, Sorted}
 use Rattle.route.proofs.Cases.{by-test, lt-of-ne, on-test}
-use Rattle.route.proofs.Lists.{all-append, all-back, all-front, all-imp, all-map, all-perm}
+use Rattle.route.proofs.Lists.{all-append, all-back, all-front, all-imp, all-map, all-perm, drop-front, take-front}
 use Rattle.route.proofs.Places.{docAt-cap, docAt-le, last-cap}
 use Rattle.route.proofs.Cursor.{fresh-is}
 use Rattle.route.proofs.Ordering.{end-sorted, level-sorted, map-keys, map-sorted, putBack-all, putBack-each, putBack-sorted, retain-all, sort-perm, sort-sorted, sorted-back, swept-all}
 use Rattle.route.proofs.Union.Pivot.{AlignIs, Missed, Shape, ShapeOf, align-is, behind-gt, behind-is, head-all, head-on, leastDoc-gt, leastDoc-le, leastLast-ge, leastLast-le, pick-is, shape-is}
 use Rattle.route.proofs.Ending.{Nears}
+use Rattle.route.proofs.Union.Landed.{landedBy}
 use Rattle.route.proofs.Union.Safe.{USafe, adv-less, left-all, left-app, left-map, left-of, left-perm, left-shallow, left-sweep, move-safe, safe-advance, safe-seek, safe-shallow, seek-left, seek-less}
 
 module _ (B N : ℕ) (O : Ops) where
@@ -125,45 +126,24 @@ module _ (B N : ℕ) (O : Ops) where
       eq-of : {x : ℕ} → x ≤ p → p ≤ x → x ≡ p
       eq-of {x} h g = omega arith
 
-  hit-safe : (m p : ℕ) (pre piv post xs : Ts) → p < TERMINATED → 0 < length piv → All (SafeS B N) (pre ++ (piv ++ post)) → All (λ s. docOf s ≡ p) piv
-      → left-all B N (pre ++ (piv ++ post)) ≤ m
-      → (xs ≡ map (seek B p) pre) × All (λ s. docOf s ≡ p) xs
-      → (let all = map (advance B) (xs ++ piv) ++ post in USafe B N m (sortBy docOf (sweep docOf (length all) all)))
+  hit-safe : (m p : ℕ) (on post : Ts) → p < TERMINATED → 0 < length on → All (SafeS B N) (on ++ post) → All (λ s. docOf s ≡ p) on
+      → left-all B N (on ++ post) ≤ m → USafe B N m (advanceAllScorersOnPivot B on post)
   unfolding left-all
-  hit-safe m p pre piv post xs lv np a on e k =
-      let apre = all-front (SafeS B N) pre (piv ++ post) a in
-      let ab = all-back (SafeS B N) pre (piv ++ post) a in
-      let apiv = all-front (SafeS B N) piv post ab in
-      let apost = all-back (SafeS B N) piv post ab in
-      let axs : All (SafeS B N) xs = subst (All (SafeS B N)) (sym (k .0))
-      (all-map (SafeS B N) (SafeS B N) (seek B p) pre (λ s c. safe-seek B N p s (omega arith) c .safe) apre) in
-      let H : Ts = xs ++ piv in
-      let aH = all-append (SafeS B N) xs piv axs apiv in
-      let oH = all-append (λ s. docOf s ≡ p) xs piv (k .1) on in
-      let all : Ts = map (advance B) H ++ post in
+  hit-safe m p on post lv np a here e =
+      let all : Ts = map (advance B) on ++ post in
       let sw : Ts = sweep docOf (length all) all in
-      let adv = advanced H aH oH in
-      let lH = length-append xs piv in
-      let mx : left-all B N xs ≤ left-all B N pre =
-      omega (
-        arith,
-        ap (left-all B N) (k .0),
-        left-map B N (seek B p) pre
-            (all-imp (SafeS B N) (λ s. left-of B N (seek B p s) ≤ left-of B N s) pre (λ s c. seek-left B N p s (omega arith) c) apre),
-      ) in
-      let drop = adv .1 (omega arith) in
+      let adv = advanced on (all-front (SafeS B N) on post a) here in
+      let less = adv .1 np in
       record {
-        scs = swept-all docOf (SafeS B N) (length all) all (all-append (SafeS B N) (map (advance B) H) post (adv .0) apost);
+        scs = swept-all docOf (SafeS B N) (length all) all
+            (all-append (SafeS B N) (map (advance B) on) post (adv .0) (all-back (SafeS B N) on post a));
         order = sort-sorted docOf sw;
         less = omega (
           arith,
           left-perm B N (sort-perm docOf sw),
           left-sweep B N (length all) all,
-          left-app B N
-              (map (advance B) H) post,
-          left-app B N xs piv,
-          left-app B N pre (piv ++ post),
-          left-app B N piv post,
+          left-app B N (map (advance B) on) post,
+          left-app B N on post,
         );
       }
     where
@@ -181,16 +161,81 @@ module _ (B N : ℕ) (O : Ops) where
           more [] f l = omega arith
           more (z ∷ zs) f l = omega (arith, f (omega arith))
 
-  align-safe : (m p : ℕ) (t : O .S) (pre piv post : Ts) (al : Aligned (O .S)) → p < TERMINATED → 0 < length piv
+  -- a turn for each place that is left and for each report, and one that finds no pivot
+  abbrev pub costBy : Stage → ℕ → ℕ
+  costBy looking n = suc (2 * n)
+  costBy (called k) n = 2 * n
+  costBy over n = 0
+
+  pub unionCost : UnionPlace (O .S) → ℕ
+  unionCost u = costBy (u .stage) (left-all B N (u .scorers))
+
+  -- kept, and nearer to the end than a search for a pivot with m places left
+  Next : ℕ → UnionPlace (O .S) → Type 0
+  Next m u = UnionKept B N O u × (unionCost u < suc (2 * m))
+
+  looking-next : (m : ℕ) (ss : Ts) → USafe B N m ss → Next m (goOn ss)
+  unfolding Next unionCost
+  looking-next m ss s =
+      let nearer : suc (2 * left-all B N ss) < suc (2 * m) = omega (arith, s .less) in
+      (record { scs = s .scs; order = s .order; stands = tt }, nearer)
+
+  over-next : (m : ℕ) (ss : Ts) → All (SafeS B N) ss → Sorted docOf ss → Next m (record { stage = over; scorers = ss })
+  unfolding Next unionCost
+  over-next m ss a o = let nearer : 0 < suc (2 * m) = omega arith in (record { scs = a; order = o; stands = tt }, nearer)
+
+  hit-next : (m p : ℕ) (t : O .S) (ls : List Load) (on post : Ts) → p < TERMINATED → 0 < length on → All (SafeS B N) (on ++ post)
+      → All (λ s. docOf s ≡ p) on → All (λ s. p < docOf s) post → Sorted docOf post → left-all B N (on ++ post) ≤ m
+      → Next m (scored B O t p ls on post .next)
+  unfolding Next unionCost
+  hit-next m p t ls on post lv np a here gt o e =
+      let nearer : 2 * left-all B N (on ++ post) < suc (2 * m) = omega arith in
+      by-test (Next m) (O .above (sum O (map scoreHere on)) t) (record { stage = called (length on); scorers = on ++ post })
+      (goOn (advanceAllScorersOnPivot B on post))
+      (λ _. (
+        record {
+          scs = a;
+          order = level-sorted docOf p on post here (all-imp (λ s. p < docOf s) (λ s. p ≤ docOf s) post (λ s h. omega arith) gt) o;
+          stands = record {
+            doc = p;
+            live = lv;
+            some = np;
+            few = omega (arith, length-append on post);
+            on = subst (All (λ s. docOf s ≡ p)) (sym (take-front on post)) here;
+            off = subst (All (λ s. p < docOf s)) (sym (drop-front on post)) gt;
+          };
+        },
+        nearer,
+      ))
+      (λ _. looking-next m (advanceAllScorersOnPivot B on post) (hit-safe m p on post lv np a here e))
+
+  align-next : (m p : ℕ) (t : O .S) (pre piv post : Ts) (al : Aligned (O .S)) → p < TERMINATED → 0 < length piv
       → All (SafeS B N) (pre ++ (piv ++ post)) → Sorted docOf (pre ++ (piv ++ post)) → All (λ s. docOf s ≤ p) pre
       → All (λ s. docOf s ≡ p) piv → All (λ s. p < docOf s) post → left-all B N (pre ++ (piv ++ post)) ≤ m → AlignIs B p pre al
-      → USafe B N m (afterAlign B O t al p piv post .next .scorers)
-  align-safe m p t pre piv post (aligned xs) lv np a o le on gt e k = hit-safe m p pre piv post xs lv np a on e k
-  align-safe m p t pre piv post (missed x) lv np a o le on gt e k = miss-safe m p pre piv post x lv a o le on gt e k
+      → Next m (afterAlign B O t pre al p piv post .next)
+  align-next m p t pre piv post (aligned xs) lv np a o le on gt e k =
+      let apre = all-front (SafeS B N) pre (piv ++ post) a in
+      let ab = all-back (SafeS B N) pre (piv ++ post) a in
+      let axs : All (SafeS B N) xs = subst (All (SafeS B N)) (sym (k .0))
+      (all-map (SafeS B N) (SafeS B N) (seek B p) pre (λ s c. safe-seek B N p s (omega arith) c .safe) apre) in
+      let asc = append-assoc xs piv post in
+      let mx : left-all B N xs ≤ left-all B N pre =
+      omega (
+        arith,
+        ap (left-all B N) (k .0),
+        left-map B N (seek B p) pre
+            (all-imp (SafeS B N) (λ s. left-of B N (seek B p s) ≤ left-of B N s) pre (λ s c. seek-left B N p s (omega arith) c) apre),
+      ) in
+      hit-next m p t (loadsBack pre xs) (xs ++ piv) post lv (omega (arith, length-append xs piv))
+      (subst (All (SafeS B N)) (sym asc) (all-append (SafeS B N) xs (piv ++ post) axs ab))
+      (all-append (λ s. docOf s ≡ p) xs piv (k .1) on) gt (sorted-back docOf piv post (sorted-back docOf pre (piv ++ post) o))
+      (omega (arith, ap (left-all B N) asc, left-app B N xs (piv ++ post), left-app B N pre (piv ++ post)))
+  align-next m p t pre piv post (missed x) lv np a o le on gt e k =
+      looking-next m (missedOn x (piv ++ post)) (miss-safe m p pre piv post x lv a o le on gt e k)
 
-  pivot-safe : (t : O .S) (ss : Ts) (c : Pivot (O .S)) → All (SafeS B N) ss → Sorted docOf ss → Shape O ss c → c .doc < TERMINATED
-      → USafe B N (left-all B N ss) (onPivot B O t c .next .scorers)
-  pivot-safe t ss c a o k lv =
+  pivot-next : (t : O .S) (ss : Ts) (c : Pivot (O .S)) → All (SafeS B N) ss → Sorted docOf ss → Shape O ss c → c .doc < TERMINATED
+      → Next (left-all B N ss) (onPivot B O t c .next)
+  pivot-next t ss c a o k lv =
       let p = c .doc in
       let sh = seekBlock B p in
       let pre : Ts = map sh (c .pre) in
@@ -226,14 +271,15 @@ module _ (B N : ℕ) (O : Ops) where
       let lp = ap length (k .piv-is) in
       let lpp = length-map (c .piv) sh in
       let lap = length-append pre piv in
-      by-test (λ (u : Turn (UnionPlace (O .S)) (O .S)). USafe B N (left-all B N ss) (u .next .scorers))
+      by-test (λ (u : Turn (UnionPlace (O .S)) (O .S)). Next (left-all B N ss) (u .next))
       (O .above (sum O (map (blockMaxScore B O) (pre ++ piv))) t)
-      (afterAlign B O t (alignScorers B p pre) p piv (c .post))
-      (quiet (goOn (blockMaxWasTooLow B O (pre ++ piv) (c .post))))
-      (λ _. align-safe (left-all B N ss) p t pre piv (c .post) (alignScorers B p pre) lv (omega arith) (subst (All (SafeS B N)) asc all)
+      (afterAlign B O t pre (alignScorers B p pre) p piv (c .post))
+      (quiet (goOn (blockMaxWasTooLow B O (pre ++ piv) (c .post))) (tooLowLoads B O (pre ++ piv) (c .post)))
+      (λ _. align-next (left-all B N ss) p t pre piv (c .post) (alignScorers B p pre) lv (omega arith) (subst (All (SafeS B N)) asc all)
       (subst (Sorted docOf) asc ord) le-pre on-piv (k .post-gt) (subst (λ z. left-all B N z ≤ left-all B N ss) asc m1) (align-is B p pre))
-      (λ _. low-safe (left-all B N ss) p (pre ++ piv) (c .post) (omega arith) lv all ord cov
-      (all-append (λ s. docOf s ≤ p) pre piv le-pre (all-imp (λ s. docOf s ≡ p) (λ s. docOf s ≤ p) piv (λ s e. omega arith) on-piv)) (k .post-gt) m1)
+      (λ _. looking-next (left-all B N ss) (blockMaxWasTooLow B O (pre ++ piv) (c .post))
+      (low-safe (left-all B N ss) p (pre ++ piv) (c .post) (omega arith) lv all ord cov
+      (all-append (λ s. docOf s ≤ p) pre piv le-pre (all-imp (λ s. docOf s ≡ p) (λ s. docOf s ≤ p) piv (λ s e. omega arith) on-piv)) (k .post-gt) m1))
 
   pub pivot-live : (ss : Ts) (c : Pivot (O .S)) → All (SafeS B N) ss → Shape O ss c → eqb (c .doc) TERMINATED ≡ false → c .doc < TERMINATED
   pivot-live ss c a k e =
@@ -241,34 +287,33 @@ module _ (B N : ℕ) (O : Ops) where
       lt-of-ne (omega (arith, docAt-cap B N (k .head .list) (head-all O (SafeS B N) ss c k a .ok) (k .head .cur .at)))
       (eqb-false (c .doc) TERMINATED e)
 
-  -- a turn for each place that is left, and one that finds no pivot
-  pub unionCost : UnionPlace (O .S) → ℕ
-  unionCost u = cond (u .more) (suc (left-all B N (u .scorers))) 0
-
-  Next : ℕ → Turn (UnionPlace (O .S)) (O .S) → Type 0
-  Next m u = UnionKept B N O (u .next) × (unionCost (u .next) < suc m)
-
   cut-next : (t : O .S) (ss : Ts) (o : Option (Pivot (O .S))) → All (SafeS B N) ss → Sorted docOf ss → ShapeOf O ss o
-      → Next (left-all B N ss) (afterPivot B O t (liveOnly o) ss)
-  unfolding Next unionCost
-  cut-next t ss none a o k = (record { scs = a; order = o }, omega arith)
+      → Next (left-all B N ss) (afterPivot B O t (liveOnly o) ss .next)
+  cut-next t ss none a o k = over-next (left-all B N ss) ss a o
   cut-next t ss (some c) a o k =
-      by-test (λ p. Next (left-all B N ss) (afterPivot B O t p ss)) (eqb (c .doc) TERMINATED) none (some c)
-      (λ _. (record { scs = a; order = o }, omega arith))
-      (λ e.
-      let s = pivot-safe t ss c a o k (pivot-live ss c a k e) in
-      (record { scs = s .scs; order = s .order }, by-more (onPivot B O t c .next .more) (s .less)))
-    where
-      by-more : {m n : ℕ} (b : Bool) → m < n → cond b (suc m) 0 < suc n
-      by-more true h = omega arith
-      by-more false h = omega arith
+      by-test (λ p. Next (left-all B N ss) (afterPivot B O t p ss .next)) (eqb (c .doc) TERMINATED) none (some c)
+      (λ _. over-next (left-all B N ss) ss a o) (λ e. pivot-next t ss c a o k (pivot-live ss c a k e))
 
-  turn-next : (t : O .S) (b : Bool) (ss : Ts) → not b ≡ false → UnionKept B N O (record { more = b; scorers = ss })
-      → UnionKept B N O (unionTurn B O t (record { more = b; scorers = ss }) .next)
-      × (unionCost (unionTurn B O t (record { more = b; scorers = ss }) .next) < unionCost (record { more = b; scorers = ss }))
-  unfolding Next unionCost
-  turn-next t true ss e k = cut-next t ss (pivotFrom O t (O .nil) ss) (k .scs) (k .order) (shape-is O t (O .nil) ss (k .order))
-  turn-next t false ss e k = absurd (true≢false e)
+  -- the scorers behind a report advance
+  called-next : (n : ℕ) (ss : Ts) → UnionKept B N O (record { stage = called n; scorers = ss })
+      → (let u = goOn (landedBy B (called n) ss) in UnionKept B N O u × (unionCost u < 2 * left-all B N ss))
+  unfolding unionCost
+  called-next n ss k =
+      let r = k .stands in
+      let whole = sym (take-append-drop n ss) in
+      let np = r .some in
+      let fw = r .few in
+      let s = hit-safe (left-all B N ss) (r .doc) (take n ss) (drop n ss) (r .live) (omega (arith, length-take n ss)) (subst (All (SafeS B N)) whole (k .scs)) (r .on)
+      (omega (arith, ap (left-all B N) whole)) in
+      let nearer : suc (2 * left-all B N (landedBy B (called n) ss)) < 2 * left-all B N ss = omega (arith, s .less) in
+      (record { scs = s .scs; order = s .order; stands = tt }, nearer)
+
+  turn-next : (t : O .S) (st : Stage) (ss : Ts) → isOver st ≡ false → UnionKept B N O (record { stage = st; scorers = ss })
+      → UnionKept B N O (unionBy B O st t ss .next) × (unionCost (unionBy B O st t ss .next) < costBy st (left-all B N ss))
+  unfolding Next
+  turn-next t looking ss e k = cut-next t ss (pivotFrom O t (O .nil) ss) (k .scs) (k .order) (shape-is O t (O .nil) ss (k .order))
+  turn-next t (called n) ss e k = called-next n ss k
+  turn-next t over ss e k = absurd (true≢false e)
 
   -- ---- the beginning
 
@@ -286,16 +331,23 @@ module _ (B N : ℕ) (O : Ops) where
 
     -- for both scorings: the route ends
     pub union-nears : Nears W (UnionKept B N O) unionCost
+    unfolding unionCost
     union-nears =
         let live : Ts = retain docOf (scorersFrom 0 q) in
         record {
           begins = record {
             scs = all-perm (SafeS B N) (sort-perm docOf live) (retain-all docOf (SafeS B N) (scorersFrom 0 q) (fresh-safe 0 q ok));
             order = sort-sorted docOf live;
+            stands = tt;
           };
-          nears = λ t u e k. turn-next t (u .more) (u .scorers) e k;
+          nears = λ t u e k. turn-next t (u .stage) (u .scorers) e k;
         }
 
 module _ (B : ℕ) (O : Ops) where
-  pub union-stays : (t : O .S) (u : UnionPlace (O .S)) → not (u .more) ≡ true → unionTurn B O t u ≡ quiet u
-  union-stays t u e = ap (λ b. cond b (afterPivot B O t (findPivotDoc O t (u .scorers)) (u .scorers)) (quiet u)) (not-true (u .more) e)
+  pub union-stays : (t : O .S) (u : UnionPlace (O .S)) → isOver (u .stage) ≡ true → unionTurn B O t u ≡ quiet u []
+  union-stays t u = go (u .stage)
+    where
+      go : (st : Stage) → isOver st ≡ true → unionBy B O st t (u .scorers) ≡ quiet (record { stage = st; scorers = u .scorers }) []
+      go looking e = absurd (false≢true e)
+      go (called n) e = absurd (false≢true e)
+      go over e = refl

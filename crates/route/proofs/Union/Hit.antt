@@ -7,12 +7,13 @@ use native.Mathlib.Omega.{arith}
 use lib.ListN.{length, length-append, length-map}
 use Rattle.route.specs.Lists.{All}
 use Rattle.route.specs.Score.{Ops, sum}
-use Rattle.route.specs.Report.{Callback}
+use Rattle.route.specs.Report.{Callback, offer}
 use Rattle.route.specs.Postings.{Postings, TERMINATED}
 use Rattle.route.specs.Plain.{hit, present, turnOf, union}
 use Rattle.route.specs.Cursor.{advanceIn, seekIn}
 use Rattle.route.specs.Ordering.{sortBy, sweep}
 use Rattle.route.specs.Scorer.{Scorer, advance, docOf, scoreHere, seek}
+use Rattle.route.specs.Route.{loadsBack}
 use Rattle.route.specs.Union.{afterAlign, aligned}
 use Rattle.route.specs.Inner.Orders.{From}
 use Rattle.route.proofs.Lists.{Perm, all-append, all-back, all-front, all-map, all-perm, p-trans, perm-eq, perm-length}
@@ -24,7 +25,8 @@ use Rattle.route.proofs.Ordering.{sort-perm, sort-sorted, sweep-all, sw
 use Rattle.route.proofs.Scorers.{QueryOk, Sc, absent-all, contrib, contrib-app, contrib-here, contrib-map, contrib-perm, present-length, present-ok, sc-advance, sc-seek, sc-up}
 use Rattle.route.proofs.Union.Pivot.{sweep-contrib}
 use Rattle.route.proofs.Union.Lag.{l-none, lag-none}
-use Rattle.route.proofs.Union.State.{Carries, Ready, Rest, hits-fin}
+use Rattle.route.proofs.Union.Landed.{scored-lands}
+use Rattle.route.proofs.Union.State.{Carries, Inv, Ready, Rest, hits-fin}
 
 module _ {B N : ℕ} {O : Ops} {L : Ordered O} {K : Callback (O .S)} (G : NeverFalls O L K) {M : ℕ} {Z : Sums O L M}
     {q : List (Postings (O .S))} (Q : QueryOk B N Z q) where
@@ -37,7 +39,7 @@ module _ {B N : ℕ} {O : Ops} {L : Ordered O} {K : Callback (O .S)} (G : NeverF
   pub hit-inv : (total : K .State) (p : ℕ) (pre piv post : List T) (r : K .State) (xs : List T) → Ready G Q total p p (pre ++ piv) post r
       → 0 < length piv
       → All (λ s. docOf s ≡ p) piv → (xs ≡ map (seek B p) pre) × All (λ s. docOf s ≡ p) xs
-      → Carries G Q total r (afterAlign B O (K .threshold r) (aligned xs) p piv post)
+      → Carries G Q total r (afterAlign B O (K .threshold r) pre (aligned xs) p piv post)
   hit-inv total p pre piv post r xs i np on k =
       let H : List T = xs ++ piv in
       let lv = i .live in
@@ -82,7 +84,8 @@ module _ {B N : ℕ} {O : Ops} {L : Ordered O} {K : Callback (O .S)} (G : NeverF
       let l3 = length-append (map (advance B) H) post in
       let l4 = length-map H (advance B) in
       let l5 = sweep-length docOf (length all′) all′ in
-      let l6 = perm-length (sort-perm docOf sw) in (
+      let l6 = perm-length (sort-perm docOf sw) in
+      subst (λ z. (f : ℕ) × Inv G Q total f z (offer O K p sum-here r)) (sym (scored-lands B O (K .threshold r) p (loadsBack pre xs) H post)) (
         suc p,
         record {
           cap = lv;

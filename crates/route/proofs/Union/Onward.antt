@@ -1,5 +1,5 @@
 -- For both scorings: the union never turns back. Nothing is asked of scores.
-use mathlib.Core.Bool.{Bool, false, not, true, true≢false}
+use mathlib.Core.Bool.{cond, false, true≢false}
 use mathlib.Core.List.{List, [], append-assoc, map, _++_, _∷_}
 use mathlib.Core.Option.{Option, none, some}
 use mathlib.Core.Path.{ap, subst, sym, _∙_, _≡_}
@@ -9,12 +9,11 @@ use lib.Dec.{eqb}
 use lib.ListN.{length}
 use Rattle.route.specs.Lists.{All}
 use Rattle.route.specs.Score.{Ops, sum}
-use Rattle.route.specs.Report.{dueAt}
 use Rattle.route.specs.Postings.{Postings, TERMINATED}
 use Rattle.route.specs.Ordering.{retain, sortBy}
 use Rattle.route.specs.Scorer.{Scorer, advance, blockMaxScore, docOf, scoreHere, scorersFrom, seek, seekBlock}
-use Rattle.route.specs.Route.{Turn, quiet}
-use Rattle.route.specs.Union.{Aligned, Pivot, UnionPlace, advanceAllScorersOnPivot, afterAlign, afterPivot, alignScorers, aligned, behind, blockMaxWasTooLow, goOn, leastDoc, leastLastDoc, liveOnly, missed, onPivot, pivotFrom, pivotRoute, scorerToSeek, unionTurn}
+use Rattle.route.specs.Route.{Load, Turn, loadsBack, quiet}
+use Rattle.route.specs.Union.{Aligned, Pivot, Stage, UnionPlace, advanceAllScorersOnPivot, afterAlign, afterPivot, alignScorers, aligned, behind, blockMaxWasTooLow, called, goOn, isOver, leastDoc, leastLastDoc, liveOnly, looking, missed, onPivot, over, pivotFrom, pivotRoute, scored, scorerToSeek, tooLowLoads, unionBy}
 use Rattle.route.specs.Inner.Unions.{SafeS, UnionKept}
 use Rattle.route.specs.Inner.Lists.{ListOk}
 use Rattle.route.proofs.Cases.{by-test}
@@ -24,6 +23,7 @@ use Rattle.route.proofs.Places.{docAt-in, docAt-le, docAt-lt, docAt-ris
 use Rattle.route.proofs.Ordering.{map-keys, putBack-each, replace-all, sort-perm, swept-all}
 use Rattle.route.proofs.Onward.{Goes, Onward, Summed, due-goes, sum-has}
 use Rattle.route.proofs.Union.Pivot.{AlignIs, Shape, ShapeOf, align-is, head-all, head-on, pick-is, shape-is}
+use Rattle.route.proofs.Union.Landed.{called-lands, landed, landedBy}
 use Rattle.route.proofs.Union.Safe.{safe-advance, safe-seek, safe-shallow}
 use Rattle.route.proofs.Union.Ends.{pivot-live, target-cap, union-nears}
 
@@ -37,8 +37,9 @@ module _ (B N : ℕ) (O : Ops) (P : O .S → Type 0) where
     pub from : f ≤ docOf s
     pub has : Scored P (s .list)
 
+  -- all scorers are from f on, once they have landed
   abbrev pub UnionAhead : ℕ → UnionPlace (O .S) → Type 0
-  UnionAhead f u = All (Fore f) (u .scorers)
+  UnionAhead f u = All (Fore f) (landed B u)
 
   -- ---- moves
 
@@ -85,8 +86,8 @@ module _ (B N : ℕ) (O : Ops) (P : O .S → Type 0) where
   module _ (Z : Summed O P) (t : O .S) (f p : ℕ) (lv : p < TERMINATED) (fp : f ≤ p) (pn : p < N) where
     -- the scorers on the pivot are scored, and go on behind it
     hit-goes : (hs post : Ts) → All (Fore f) hs → All (λ s. docOf s ≡ p) hs → All (Fore f) post → All (λ s. p < docOf s) post
-        → Goes P N UnionAhead f (goOn (advanceAllScorersOnPivot B hs post)) (dueAt O t p (sum O (map scoreHere hs)))
-    hit-goes hs post a on b gt =
+        → (ls : List Load) → (let u = scored B O t p ls hs post in Goes P N UnionAhead f (u .next) (u .due))
+    hit-goes hs post a on b gt ls =
         let here = all-zip (Fore f) (λ s. docOf s ≡ p) (λ s. Fore f s × (docOf s ≡ p)) (λ s k e. (k, e)) hs a on in
         let scores = all-map (λ s. Fore f s × (docOf s ≡ p)) P scoreHere hs
         (λ s k. let e = k .1 in k .0 .has (s .cur .at) (docAt-lt B N (s .list) (k .0 .safe .ok) (s .cur .at) (omega arith))) here in
@@ -95,15 +96,17 @@ module _ (B N : ℕ) (O : Ops) (P : O .S → Type 0) where
         let all : Ts = map (advance B) hs ++ post in
         let next = swept-all docOf (Fore (suc p)) (length all) all (all-append (Fore (suc p)) (map (advance B) hs) post gone rest) in
         let ss : Ts = advanceAllScorersOnPivot B hs post in
-        due-goes O P N UnionAhead t f p (sum O (map scoreHere hs)) (goOn ss) fp pn (sum-has O P Z (O .nil) (map scoreHere hs) (Z .nil-has) scores)
-        (all-imp (Fore (suc p)) (Fore f) ss (λ s k. let g = k .from in record { safe = k .safe; from = omega arith; has = k .has }) next) next
+        due-goes O P N UnionAhead t f p (sum O (map scoreHere hs))
+        (λ z. cond z (record { stage = called (length hs); scorers = hs ++ post }) (goOn ss)) fp pn
+        (sum-has O P Z (O .nil) (map scoreHere hs) (Z .nil-has) scores) (subst (All (Fore (suc p))) (sym (called-lands B hs post)) next)
+        (all-imp (Fore (suc p)) (Fore f) ss (λ s k. let g = k .from in record { safe = k .safe; from = omega arith; has = k .has }) next)
 
     align-goes : (pre piv post : Ts) (al : Aligned (O .S)) → All (Fore f) pre → All (Fore f) piv → All (λ s. docOf s ≡ p) piv → All (Fore f) post
         → All (λ s. p < docOf s) post → AlignIs B p pre al
-        → Goes P N UnionAhead f (afterAlign B O t al p piv post .next) (afterAlign B O t al p piv post .due)
+        → (let u = afterAlign B O t pre al p piv post in Goes P N UnionAhead f (u .next) (u .due))
     align-goes pre piv post (aligned xs) a b on c gt k =
         let ax = subst (All (Fore f)) (sym (k .0)) (all-map (Fore f) (Fore f) (seek B p) pre (λ s h. fore-seek f p s (omega arith) h) a) in
-        hit-goes (xs ++ piv) post (all-append (Fore f) xs piv ax b) (all-append (λ s. docOf s ≡ p) xs piv (k .1) on) c gt
+        hit-goes (xs ++ piv) post (all-append (Fore f) xs piv ax b) (all-append (λ s. docOf s ≡ p) xs piv (k .1) on) c gt (loadsBack pre xs)
     align-goes pre piv post (missed m) a b on c gt k =
         let ab = subst (All (Fore f)) (k .split) a in
         let back = all-back (Fore f) (m .left) (k .old ∷ k .rest) ab in
@@ -137,8 +140,8 @@ module _ (B N : ℕ) (O : Ops) (P : O .S → Type 0) where
         (all-imp (Fore f) (λ s. docOf (sh s) ≡ docOf s) (c .piv) (λ s g. safe-shallow B N p s (omega arith) (g .safe) .same) cpiv) (k .on) in
         by-test (λ (u : Turn (UnionPlace (O .S)) (O .S)). Goes P N UnionAhead f (u .next) (u .due))
         (O .above (sum O (map (blockMaxScore B O) (pre ++ piv))) t)
-        (afterAlign B O t (alignScorers B p pre) p piv (c .post))
-        (quiet (goOn (blockMaxWasTooLow B O (pre ++ piv) (c .post))))
+        (afterAlign B O t pre (alignScorers B p pre) p piv (c .post))
+        (quiet (goOn (blockMaxWasTooLow B O (pre ++ piv) (c .post))) (tooLowLoads B O (pre ++ piv) (c .post)))
         (λ _. align-goes Z t f p lv (omega arith) pn pre piv (c .post) (alignScorers B p pre) apre apiv on-piv apost (k .post-gt) (align-is B p pre))
         (λ _. low-ahead f (pre ++ piv) (c .post) (all-append (Fore f) (pre ++ piv) (c .post) (all-append (Fore f) pre piv apre apiv) apost))
 
@@ -149,10 +152,11 @@ module _ (B N : ℕ) (O : Ops) (P : O .S → Type 0) where
         by-test (λ p. Goes P N UnionAhead f (afterPivot B O t p ss .next) (afterPivot B O t p ss .due)) (eqb (c .doc) TERMINATED) none (some c)
         (λ _. a) (λ e. pivot-goes ss c a k (pivot-live B N O ss c b k e))
 
-    turn-goes : (b : Bool) (ss : Ts) → not b ≡ false → UnionKept B N O (record { more = b; scorers = ss }) → All (Fore f) ss
-        → (let u = unionTurn B O t (record { more = b; scorers = ss }) in Goes P N UnionAhead f (u .next) (u .due))
-    turn-goes true ss e k a = cut-goes ss (pivotFrom O t (O .nil) ss) (k .scs) a (shape-is O t (O .nil) ss (k .order))
-    turn-goes false ss e k a = absurd (true≢false e)
+    turn-goes : (st : Stage) (ss : Ts) → isOver st ≡ false → UnionKept B N O (record { stage = st; scorers = ss }) → All (Fore f) (landedBy B st ss)
+        → (let u = unionBy B O st t ss in Goes P N UnionAhead f (u .next) (u .due))
+    turn-goes looking ss e k a = cut-goes ss (pivotFrom O t (O .nil) ss) (k .scs) a (shape-is O t (O .nil) ss (k .order))
+    turn-goes (called n) ss e k a = a
+    turn-goes over ss e k a = absurd (true≢false e)
 
   pub union-onward : Summed O P → (q : List (Postings (O .S))) → All (ListOk B N) q → All (λ s. Scored P (s .list)) (retain docOf (scorersFrom 0 q))
       → Onward P N (pivotRoute B O (retain docOf (scorersFrom 0 q))) (UnionKept B N O) UnionAhead
@@ -162,5 +166,5 @@ module _ (B N : ℕ) (O : Ops) (P : O .S → Type 0) where
       record {
         starts = all-zip (SafeS B N) (λ s. Scored P (s .list)) (Fore 0) (λ s k h. record { safe = k; from = omega arith; has = h })
             (sortBy docOf live) (first .scs) (all-perm (λ s. Scored P (s .list)) (sort-perm docOf live) has);
-        goes = λ t f u e k a. turn-goes Z t f (u .more) (u .scorers) e k a;
+        goes = λ t f u e k a. turn-goes Z t f (u .stage) (u .scorers) e k a;
       }

@@ -7,12 +7,11 @@ use native.Mathlib.Omega.{arith}
 use lib.Dec.{eqb, leb, ltb}
 use borrow.Author.Tests.{eqb-false, eqb-true, leb-false, leb-true, ltb-false, ltb-true}
 use Rattle.route.specs.Lists.{All}
-use Rattle.route.specs.Postings.{Postings, TERMINATED, docAt, lastDoc, start}
-use Rattle.route.specs.Cursor.{Cursor, docHere, findIn, loadAt, nextIn, seekBlockIn, skipTo}
+use Rattle.route.specs.Postings.{TERMINATED, docAt, lastDoc, start}
+use Rattle.route.specs.Cursor.{docHere, findIn, loadAt, nextIn, seekBlockIn, skipTo}
 use Rattle.route.specs.Ordering.{restoreOrdering, swapRemove, sweep}
 use Rattle.route.specs.Scorer.{Scorer, advance, docOf, lastDocInBlock, onCur, seek, seekBlock}
-use Rattle.route.specs.Inner.Unions.{Safe, SafeS}
-use Rattle.route.specs.Inner.Lists.{ListOk}
+use Rattle.route.specs.Inner.Unions.{SafeS}
 use Rattle.route.specs.Inner.Orders.{Sorted}
 use Rattle.route.proofs.Cases.{by-test, lt-of-ne, on-test}
 use Rattle.route.proofs.Lists.{Perm, all-back, p-cons, p-nil, p-swap, p-trans}

@@ -22,6 +22,7 @@ use Rattle.route.proofs.Scorers.{QueryOk, Sc, absent-all, contrib, cont
 use Rattle.route.proofs.Union.Pivot.{CutIs, CutOk}
 use Rattle.route.proofs.Hits.{hit-fin}
 use Rattle.route.proofs.Union.Lag.{Lag}
+use Rattle.route.proofs.Union.Landed.{landed}
 
 module _ {B N : ℕ} {O : Ops} {L : Ordered O} {K : Callback (O .S)} (G : NeverFalls O L K) {M : ℕ} {Z : Sums O L M}
     {q : List (Postings (O .S))} (Q : QueryOk B N Z q) where
@@ -107,9 +108,9 @@ module _ {B N : ℕ} {O : Ops} {L : Ordered O} {K : Callback (O .S)} (G : NeverF
   stop-end total f ss r c i k e =
       sym (pass-all G (hit O union q) hits-fin N f r (i .good) (λ d a b. cut-low total f d ss r c i k a (omega arith))) ∙ i .left
 
-  -- what a turn from r leaves, at some frontier
+  -- what a turn from r leaves, at some frontier, once the scorers have landed
   abbrev pub Carries : K .State → K .State → Turn (UnionPlace (O .S)) (O .S) → Type 0
-  Carries total r u = (f : ℕ) × Inv total f (u .next .scorers) (reported K (u .due) r)
+  Carries total r u = (f : ℕ) × Inv total f (landed B (u .next)) (reported K (u .due) r)
 
   -- scorers before the pivot's documents, shallowly sought: what is known of them
   pub record Ready (total : K .State) (f p : ℕ) (ps post : List T) (r : K .State) : Type 0 where
