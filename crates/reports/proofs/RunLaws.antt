@@ -102,28 +102,25 @@ module _ (W : Route Float) (rule : Rule) (script : List Float) (documents₀ : L
         stopped = (sym (count-is (G .kept)) ∙ h, (x, ap (λ (z : Turn (W .Place) Float). z .due) turn-is ∙ e));
       }
 
-    abbrev Turns : W .Place → ℕ → ℕ → W .Place → Event → Type 0
-    Turns p turns taken q event = Went (W .turn) (W .ended) (t .now) p turns taken q event
-
     module _ {p : W .Place} (G : Goes t documents values p) where
       run-silent : (n : ℕ) → Silent (W .turn) (W .ended) (t .now) p n → Goes t documents values (afterTurns (W .turn) (W .ended) (t .now) p n)
       run-silent zero s = G
       run-silent (suc n) s = run-quiet (run-silent n (λ i h. s i (omega arith))) (s n (omega arith) .1)
 
-      module _ {turns taken : ℕ} {q : W .Place} where
-        behind : (n : ℕ) → taken ≡ suc n → q ≡ afterTurns (W .turn) (W .ended) (t .now) p taken
-            → W .turn (t .now) (afterTurns (W .turn) (W .ended) (t .now) p n) .next ≡ q
-        behind n e f = sym (f ∙ ap (afterTurns (W .turn) (W .ended) (t .now) p) e)
+      behind : {taken : ℕ} {q : W .Place} (n : ℕ) → taken ≡ suc n → q ≡ afterTurns (W .turn) (W .ended) (t .now) p taken
+          → W .turn (t .now) (afterTurns (W .turn) (W .ended) (t .now) p n) .next ≡ q
+      behind n e f = sym (f ∙ ap (afterTurns (W .turn) (W .ended) (t .now) p) e)
 
+      module _ {turns taken : ℕ} {q : W .Place} where
         -- turns up to a report that is written and told
-        pub went-reports : {doc : ℕ} {score : Float} {r : Threshold} {documents′ : List ℕ} {values′ : List Float} → Turns p turns taken q (Report doc score)
+        pub went-reports : {doc : ℕ} {score : Float} {r : Threshold} {documents′ : List ℕ} {values′ : List Float} → Went (W .turn) (W .ended) (t .now) p turns taken q (Report doc score)
             → t .reports < rowsOf documents₀ scores₀ → Reported rule script t doc score documents values r documents′ values′ → Goes r documents′ values′ q
         went-reports {r = r} {documents′} {values′} w h R =
             let s = w .stood in
             subst (Goes r documents′ values′) (behind (s .0) (s .1) (w .place-is)) (run-reports (run-silent (s .0) (s .2)) (s .4) h R)
 
         -- up to one for which no row is left
-        pub went-full : {doc : ℕ} {score : Float} → Turns p turns taken q (Report doc score) → t .reports ≡ rowsOf documents₀ scores₀
+        pub went-full : {doc : ℕ} {score : Float} → Went (W .turn) (W .ended) (t .now) p turns taken q (Report doc score) → t .reports ≡ rowsOf documents₀ scores₀
             → Ran W rule script documents₀ scores₀ true (t .reports) documents values q
         went-full w h =
             let s = w .stood in
@@ -131,13 +128,13 @@ module _ (W : Route Float) (rule : Rule) (script : List Float) (documents₀ : L
             (run-full (run-silent (s .0) (s .2)) (s .4) h)
 
         -- up to the end
-        pub went-over : Turns p turns taken q Over → Ran W rule script documents₀ scores₀ false (t .reports) documents values q
+        pub went-over : Went (W .turn) (W .ended) (t .now) p turns taken q Over → Ran W rule script documents₀ scores₀ false (t .reports) documents values q
         went-over w =
             subst (Ran W rule script documents₀ scores₀ false (t .reports) documents values) (sym (w .place-is))
             (run-ends (run-silent taken (w .stood .0)) (w .stood .1))
 
         -- or as many as were allowed
-        pub went-paused : Turns p turns taken q Paused → Goes t documents values q
+        pub went-paused : Went (W .turn) (W .ended) (t .now) p turns taken q Paused → Goes t documents values q
         went-paused w = subst (Goes t documents values) (sym (w .place-is)) (run-silent taken (w .stood .0))
 
   -- ---- what a route keeps on its way

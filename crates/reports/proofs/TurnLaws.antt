@@ -1,6 +1,7 @@
 -- How a run by turns is put together: no turn yet, one more without a report, and its three ends.
 use mathlib.Core.Path.{_≡_, refl, ap, sym, subst, _∙_}
 use mathlib.Core.Bool.{Bool, true, false}
+use mathlib.Core.Logic.{inl, inr}
 use mathlib.Core.Option.{none, some}
 use Prim.Native.Nat.{ℕ, zero, suc, _+_, _≤_, _<_}
 use native.Mathlib.Nat.{add-suc, add-zero}
@@ -37,7 +38,7 @@ module _ {P : Type 0} (turn : Float → P → Turn P Float) (ended : P → Bool)
         last : (k : ℕ) → k < suc n → (ended (at p k) ≡ false) × (turn t (at p k) .due ≡ none)
         last k h = elim (lt-or-ge k n) [
           | inl l ↦ S .silent k l
-          | inr g′ ↦ subst (λ (i : ℕ). (ended (at p i) ≡ false) × (turn t (at p i) .due ≡ none)) (omega arith) here
+          | inr b ↦ let e : n ≡ k = omega arith in subst (λ (i : ℕ). (ended (at p i) ≡ false) × (turn t (at p i) .due ≡ none)) e here
         ]
 
     -- its three ends
@@ -55,16 +56,12 @@ module _ {P : Type 0} (turn : Float → P → Turn P Float) (ended : P → Bool)
       stood = (n, refl, S .silent, ap ended (sym (S .place-is)) ∙ e, ap (λ (z : P). turn t z .due) (sym (S .place-is)) ∙ f);
     }
 
-    -- a stretch behind another
-    pub and-then : {m : ℕ} {r : P} → Quietly q m r → Quietly p (n + m) r
-    and-then {m} {r} T = chain m (T .place-is) (T .silent)
-      where
-        chain : (m : ℕ) {r : P} → r ≡ at q m → Silent turn ended t q m → Quietly p (n + m) r
-        chain zero e s = rw (add-zero n) (record { place-is = e ∙ S .place-is; silent = S .silent })
-        chain (suc m) e s =
-            let z = chain m refl (λ i h. s i (omega arith)) in
-            let l = s m (omega arith) in
-            rw (add-suc n m) (one-more′ z (l .0) (l .1) (sym e))
-
-        one-more′ : {k : ℕ} {x y : P} → Quietly p k x → ended x ≡ false → turn t x .due ≡ none → turn t x .next ≡ y → Quietly p (suc k) y
-        one-more′ Z e f g = {!!}
+  -- a stretch behind another
+  pub and-then : {p q : P} {n : ℕ} → Quietly p n q → {m : ℕ} {r : P} → Quietly q m r → Quietly p (n + m) r
+  and-then {p} {q} {n} S {m} T = chain m (T .place-is) (T .silent)
+    where
+      chain : (m : ℕ) {r : P} → r ≡ at q m → Silent turn ended t q m → Quietly p (n + m) r
+      chain zero {r} e s = subst (λ (i : ℕ). Quietly p i r) (sym (add-zero n)) (record { place-is = e ∙ S .place-is; silent = S .silent })
+      chain (suc m) {r} e s =
+          let l = s m (omega arith) in
+          subst (λ (i : ℕ). Quietly p i r) (sym (add-suc n m)) (one-more (chain m refl (λ i h. s i (omega arith))) (l .0) (l .1) (sym e))

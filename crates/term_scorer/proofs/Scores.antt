@@ -24,8 +24,9 @@ use Rattle.bm25.specs.Inner.Weight.{scoreIn}
 use Rattle.bm25.specs.Inner.Bound.{listBoundIn, blockBoundIn}
 use Rattle.bm25.specs.declared.Bm25Weight.{Bm25Weight}
 use Rattle.bm25.specs.declared.Scoring.{Scoring}
+use Rattle.bm25.proofs.WeightLaws.{max-score-is}
 use Rattle.notefile.specs.Header.{normCodeOf, normReader}
-use Rattle.notefile.specs.Lists.{blockScore, fullBlocks}
+use Rattle.notefile.specs.Lists.{blockScore, fullBlocks, listBound, scoreFor}
 use Rattle.notefile.specs.Inner.Given.{weightOf, WeighedIn}
 use Rattle.notefile.specs.declared.part.Part.{Part}
 use Rattle.notefile.proofs.Headers.{norm-code-small}
@@ -78,6 +79,11 @@ module _ (file : List ℕ) (x : Part) (weight : Float) (cache : List Float) (W :
         → {r : Float} → r ≡ scored scoring (scoreAt weight (getD cache id nan) freq) → r ≡ listOf scoring file x .score (cursorIn row .at)
     unfolding postingsIn cursorIn
     score-here ed hd ei ef er = score-in-block (getD row 6 0) (P .placed .inside) ed hd ei ef er
+
+  -- the list bound
+  pub max-by : {r : Float} → r ≡ scored scoring (scoreAt weight (getD cache 255 nan) 2013265944) → r ≡ listOf scoring file x .top
+  unfolding listOf listBound scoreFor listBoundIn scoreIn
+  max-by er = er ∙ ap (scored scoring) (max-score-is (ofBits binary32 (x .weight)) (ofBits binary32 (x .average)) (weightOf x weight cache) W)
 
 module _ (scoring : Scoring) (file : List ℕ) (lists : List (List ℕ)) (q : ℕ) (places : List (List ℕ)) (bounds : List Float) where
   abbrev kept : Bool

@@ -2,3 +2,13 @@
 // and the block that it decoded last.
 pub mod score;
 pub mod slot;
+
+// The floats of a run, in rows of 128: block bounds by slot; the intersection's sums of the bounds that follow, by place in its order;
+// the scores of a decoded block, by place in the block.
+pub type Floats = [[f32; 128]; 3];
+
+pub const BOUNDS: usize = 0;
+
+pub const RESTS: usize = 1;
+
+pub const SCORES: usize = 2;

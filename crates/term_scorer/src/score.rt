@@ -78,6 +78,23 @@ pub fn score(
     bm25::score_by(&caches[q], weight, scoring, id, freq)
 }
 
+// The list bound of slot q: no posting of its list scores more.
+pub fn max_score(
+    file: &[u8],
+    similarity: Similarity,
+    lists: &[[usize; 8]; 16],
+    caches: &[[f32; 256]; 16],
+    q: usize,
+) -> f32
+    requires { ⌜ (q < 16) × PartRow (getD (now lists) q []) × ListIn (now file) (partAt (now lists) q)
+        × Weighed (now lists) (now caches) q ⌝ }
+    ensures { λ r. ⌜ r ≡ listAt (similarity .scoring) (before file) (before lists) q .top ⌝ }
+{
+    let scoring = similarity.scoring;
+    let weight = weight_of(&lists[q]);
+    bm25::score_by(&caches[q], weight, scoring, MAX_FIELDNORM_ID, MAX_TERM_FREQ)
+}
+
 // The score of posting i of the block that slot q decoded last, which is document doc.
 pub fn score_in_block(
     file: &[u8],
