@@ -7,7 +7,7 @@ use native.Mathlib.Nat.{add-zero, zero-add}
 use native.Mathlib.Omega.{arith}
 use lib.ListN.{length, getD, set, take, drop, length-set, getD-replicate, replicate}
 use lib.Seq.{drop-cons, getD-set-same, getD-set-other}
-use lib.Ieee.{Float, nan, binary32, ofBits}
+use lib.Ieee.{Float, binary32, ofBits}
 use Rattle.arrays.proofs.Order.{lt-or-ge}
 use Rattle.route.specs.Cursor.{Cursor, fresh}
 use Rattle.route.specs.Scorer.{Scorer, scorersFrom}
@@ -33,8 +33,8 @@ use Rattle.postings.specs.Inner.Decoded.{docIn, ListIn}
 use Rattle.slot_rows.specs.Inner.Rows.{partIn, partRow, PartRow}
 use Rattle.slot_rows.proofs.Rows.{part-back}
 use Rattle.term_scorer.specs.Inner.Slots.{Held, Sixteen, Opened, partAt, listAt, cursorAt, listsFrom}
-use Rattle.term_scorer.specs.Inner.Weights.{Weighed}
-use Rattle.query.specs.Inner.Openings.{Arrays, Room, FreshSlot, OnlySlot, OneOpened, QueryOpened, Untouched}
+use Rattle.term_scorer.specs.Inner.Weights.{NormsIn, Weighed}
+use Rattle.query.specs.Inner.Openings.{Tables, Room, openedScorer, unopened, OpenSlot, OnlySlot, OneOpened, QueryOpened, Untouched}
 
 -- a list's number is below the header's
 pub listed : (file : List ℕ) (h : Header) → h ≡ headerOf file → (l : ℕ) → l < listCount file → l < h .lists
@@ -52,9 +52,9 @@ put : {A : Type 0} (xs : List A) (q : ℕ) (x d : A) → q < 16 → Sixteen xs �
 put xs q x d h l = ap (set xs q) (sym (there xs q x d h l))
 
 module _ (scoring : Scoring) (file : List ℕ) (l q : ℕ) (h : q < 16) {x : Part} (part-is : x ≡ partOf file l) (L : ListIn file x) {w : Bm25Weight} (W : WeightIn x w) {max-score : Float} (max-known : max-score ≡ scored scoring (listBoundIn w))
-    (a : Arrays) (R : Room a) {lists′ : List (List ℕ)} {held′ : Held} {doc : ℕ} (O : Opened file x q (a .lists) lists′ (a .held) held′ doc) where
-  abbrev b : Arrays
-  b = record { lists = lists′; held = held′; weights = set (a .weights) q (w .weight); caches = set (a .caches) q (w .cache); max-scores = set (a .max-scores) q max-score }
+    (a : Tables) (R : Room a) {lists′ : List (List ℕ)} {held′ : Held} {doc : ℕ} (O : Opened file x q (a .lists) lists′ (a .held) held′ doc) where
+  abbrev b : Tables
+  b = record { lists = lists′; caches = set (a .caches) q (w .cache); held = held′ }
 
   row-is : getD lists′ q [] ≡ partRow x
   row-is = ap (λ (z : List (List ℕ)). getD z q []) (O .lists-only) ∙ there (a .lists) q (partRow x) [] h (R .lists)
@@ -62,46 +62,42 @@ module _ (scoring : Scoring) (file : List ℕ) (l q : ℕ) (h : q < 16) {x : Par
   part-there : partAt lists′ q ≡ x
   part-there = ap partIn row-is ∙ part-back x
 
-  weight-there : Weighed lists′ (b .weights) (b .caches) q
-  weight-there =
-      rw (there (a .weights) q (w .weight) nan h (R .weights), there (a .caches) q (w .cache) [] h (R .caches))
-      (subst (λ (z : Part). WeighedIn z (w .weight) (w .cache)) (sym part-there) (apart x W))
+  norms-there : Weighed lists′ (b .caches) q
+  norms-there =
+      rw (there (a .caches) q (w .cache) [] h (R .caches))
+      (subst (λ (z : Part). NormsIn z (w .cache)) (sym part-there) (subst (λ (z : Float). WeighedIn x z (w .cache)) (W .weight-is) (apart x W)))
 
-  max-there : getD (b .max-scores) q nan ≡ listAt scoring file lists′ q .top
+  max-there : max-score ≡ listOf scoring file x .top
   unfolding listOf listBound scoreFor
-  max-there =
-      there (a .max-scores) q max-score nan h (R .max-scores) ∙ max-known ∙ ap (scored scoring) (max-score-is (ofBits binary32 (x .weight)) (ofBits binary32 (x .average)) w W)
-      ∙ ap (λ (z : Part). listOf scoring file z .top) (sym part-there)
+  max-there = max-known ∙ ap (scored scoring) (max-score-is (ofBits binary32 (x .weight)) (ofBits binary32 (x .average)) w W)
 
-  pub one-opened : OneOpened scoring file l q a b doc
+  doc-there : doc ≡ docIn file (partOf file l) 0
+  doc-there =
+      O .opened .moved .doc-is ∙ ap (λ (z : Part). docIn file z (cursorAt (held′ .places) q .at)) (part-there ∙ part-is)
+      ∙ ap (λ (c : Cursor). docIn file (partOf file l) (c .at)) (O .opened .moved .cursor-is Unstepped)
+
+  pub one-opened : OneOpened scoring file l q a b (record { doc = doc; «max_score» = max-score; slot = q })
   one-opened = record {
-    fresh-slot = record {
-      open-slot = record {
-        slot = record {
-          sixteen = (same-long (a .held .places) q _ (O .opened .places-only) (R .places), same-long (a .held .docs) q _ (O .opened .docs-only) (R .docs), same-long (a .held .freqs) q _ (O .opened .freqs-only) (R .freqs));
-          part-row = subst PartRow (sym row-is) (O .part-row);
-          list = subst (ListIn file) (sym part-there) L;
-          place = O .opened .moved .place;
-        };
-        part-is = part-there ∙ part-is;
-        cursor-is = O .opened .moved .cursor-is Unstepped;
-        weighed = weight-there;
+    open-slot = record {
+      slot = record {
+        sixteen = (same-long (a .held .places) q _ (O .opened .places-only) (R .places), same-long (a .held .docs) q _ (O .opened .docs-only) (R .docs), same-long (a .held .freqs) q _ (O .opened .freqs-only) (R .freqs));
+        part-row = subst PartRow (sym row-is) (O .part-row);
+        list = subst (ListIn file) (sym part-there) L;
+        place = O .opened .moved .place;
       };
+      part-is = part-there ∙ part-is;
+      cursor-is = O .opened .moved .cursor-is Unstepped;
+      weighed = norms-there;
       unknown = O .unknown;
-      max-is = max-there;
     };
     only = record {
       lists = O .lists-only ∙ ap (set (a .lists) q) (sym row-is);
+      caches = put (a .caches) q (w .cache) [] h (R .caches);
       places = O .opened .places-only;
       docs = O .opened .docs-only;
       freqs = O .opened .freqs-only;
-      weights = put (a .weights) q (w .weight) nan h (R .weights);
-      caches = put (a .caches) q (w .cache) [] h (R .caches);
-      max-scores = put (a .max-scores) q max-score nan h (R .max-scores);
     };
-    doc-is =
-        O .opened .moved .doc-is ∙ ap (λ (z : Part). docIn file z (cursorAt (held′ .places) q .at)) (part-there ∙ part-is)
-        ∙ ap (λ (c : Cursor). docIn file (partOf file l) (c .at)) (O .opened .moved .cursor-is Unstepped);
+    scorer-is = rw (doc-there, max-there, part-is);
   }
 
 -- ---- slot by slot
@@ -109,93 +105,82 @@ module _ (scoring : Scoring) (file : List ℕ) (l q : ℕ) (h : q < 16) {x : Par
 other : {A : Type 0} (xs : List A) (q n : ℕ) (x d : A) {ys : List A} → ys ≡ set xs n x → (q ≡ n → ⊥) → getD ys q d ≡ getD xs q d
 other xs q n x d e ne = ap (λ zs. getD zs q d) e ∙ getD-set-other xs n q x d ne
 
-module _ (scoring : Scoring) (file : List ℕ) (a b : Arrays) (n : ℕ) (O : OnlySlot n a b) where
-  -- the arrays are as long as before
+module _ (file : List ℕ) (a b : Tables) (n : ℕ) (O : OnlySlot n a b) where
+  -- the tables are as long as before
   room-stays : Room a → Room b
   room-stays R = record {
     lists = same-long (a .lists) n _ (O .lists) (R .lists);
+    caches = same-long (a .caches) n _ (O .caches) (R .caches);
     places = same-long (a .held .places) n _ (O .places) (R .places);
     docs = same-long (a .held .docs) n _ (O .docs) (R .docs);
     freqs = same-long (a .held .freqs) n _ (O .freqs) (R .freqs);
-    weights = same-long (a .weights) n _ (O .weights) (R .weights);
-    caches = same-long (a .caches) n _ (O .caches) (R .caches);
-    max-scores = same-long (a .max-scores) n _ (O .max-scores) (R .max-scores);
   }
 
   -- another slot is as it was
-  slot-stays : (l q : ℕ) → (q ≡ n → ⊥) → Room b → FreshSlot scoring file a l q → FreshSlot scoring file b l q
-  slot-stays l q ne R F =
+  slot-stays : (l q : ℕ) → (q ≡ n → ⊥) → Room b → OpenSlot file a l q → OpenSlot file b l q
+  slot-stays l q ne R S =
       let el = other (a .lists) q n _ [] (O .lists) ne in
+      let ec = other (a .caches) q n _ [] (O .caches) ne in
       let ep = other (a .held .places) q n _ [] (O .places) ne in
       let ed = other (a .held .docs) q n _ [] (O .docs) ne in
       let ef = other (a .held .freqs) q n _ [] (O .freqs) ne in
-      let ew = other (a .weights) q n _ nan (O .weights) ne in
-      let ec = other (a .caches) q n _ [] (O .caches) ne in
-      let em = other (a .max-scores) q n _ nan (O .max-scores) ne in
       record {
-        open-slot = let S = F .open-slot in record {
-          slot = record { sixteen = (R .places, R .docs, R .freqs); part-row = rw el (S .slot .part-row); list = rw el (S .slot .list); place = rw (el, ep, ed, ef) (S .slot .place) };
-          part-is = rw el (S .part-is);
-          cursor-is = rw ep (S .cursor-is);
-          weighed = rw (el, ew, ec) (S .weighed);
-        };
-        unknown = rw ep (F .unknown);
-        max-is = rw (el, em) (F .max-is);
+        slot = record { sixteen = (R .places, R .docs, R .freqs); part-row = rw el (S .slot .part-row); list = rw el (S .slot .list); place = rw (el, ep, ed, ef) (S .slot .place) };
+        part-is = rw el (S .part-is);
+        cursor-is = rw ep (S .cursor-is);
+        weighed = rw (el, ec) (S .weighed);
+        unknown = rw ep (S .unknown);
       }
 
 -- and so are the slots behind
-pub none-touched : (a : Arrays) → Untouched 0 a a
+pub none-touched : (a : Tables) → Untouched 0 a a
 none-touched a = record {
   lists = λ q h. refl;
+  caches = λ q h. refl;
   places = λ q h. refl;
   docs = λ q h. refl;
   freqs = λ q h. refl;
-  weights = λ q h. refl;
-  caches = λ q h. refl;
-  max-scores = λ q h. refl;
 }
 
-pub behind-as : {n m : ℕ} {a b : Arrays} → n ≡ m → Untouched n a b → Untouched m a b
+pub behind-as : {n m : ℕ} {a b : Tables} → n ≡ m → Untouched n a b → Untouched m a b
 behind-as {a = a} {b = b} e U = subst (λ (z : ℕ). Untouched z a b) e U
 
-pub behind-one : (n : ℕ) (a₀ a b : Arrays) → Untouched n a₀ a → OnlySlot n a b → Untouched (n + 1) a₀ b
+pub behind-one : (n : ℕ) (a₀ a b : Tables) → Untouched n a₀ a → OnlySlot n a b → Untouched (n + 1) a₀ b
 behind-one n a₀ a b U O = record {
   lists = λ q h. other (a .lists) q n _ [] (O .lists) (λ e. omega (arith, e)) ∙ U .lists q (omega arith);
+  caches = λ q h. other (a .caches) q n _ [] (O .caches) (λ e. omega (arith, e)) ∙ U .caches q (omega arith);
   places = λ q h. other (a .held .places) q n _ [] (O .places) (λ e. omega (arith, e)) ∙ U .places q (omega arith);
   docs = λ q h. other (a .held .docs) q n _ [] (O .docs) (λ e. omega (arith, e)) ∙ U .docs q (omega arith);
   freqs = λ q h. other (a .held .freqs) q n _ [] (O .freqs) (λ e. omega (arith, e)) ∙ U .freqs q (omega arith);
-  weights = λ q h. other (a .weights) q n _ nan (O .weights) (λ e. omega (arith, e)) ∙ U .weights q (omega arith);
-  caches = λ q h. other (a .caches) q n _ [] (O .caches) (λ e. omega (arith, e)) ∙ U .caches q (omega arith);
-  max-scores = λ q h. other (a .max-scores) q n _ nan (O .max-scores) (λ e. omega (arith, e)) ∙ U .max-scores q (omega arith);
 }
 
 module _ (scoring : Scoring) (file query : List ℕ) where
-  pub none-opened : (a : Arrays) → Room a → QueryOpened scoring file query 0 a (replicate 16 noScorer)
+  pub none-opened : (a : Tables) → Room a → QueryOpened scoring file query 0 a (replicate 16 unopened)
   none-opened a R = record {
     room = R;
-    fresh-slots = λ q h. absurd (omega (arith, h));
+    open-slots = λ q h. absurd (omega (arith, h));
     long = refl;
     scorers-are = λ q h. absurd (omega (arith, h));
-    behind = record { blank = λ q h k. getD-replicate 16 q noScorer noScorer k };
+    behind = record { blank = λ q h k. getD-replicate 16 q unopened unopened k };
   }
 
-  pub one-more : (n : ℕ) (a b : Arrays) (scorers : List TermScorer) {doc : ℕ} → n < 16 → QueryOpened scoring file query n a scorers → OneOpened scoring file (getD query n 0) n a b doc
-      → QueryOpened scoring file query (n + 1) b (set scorers n (record { doc = doc; slot = n }))
-  one-more n a b scorers {doc} h Q O =
-      let R = room-stays scoring file a b n (O .only) (Q .room) in
+  pub one-more : (n : ℕ) (a b : Tables) (scorers : List TermScorer) {r : TermScorer} → n < 16 → QueryOpened scoring file query n a scorers → OneOpened scoring file (getD query n 0) n a b r
+      → QueryOpened scoring file query (n + 1) b (set scorers n r)
+  one-more n a b scorers {r} h Q O =
+      let R = room-stays file a b n (O .only) (Q .room) in
       record {
         room = R;
-        fresh-slots = λ q k. elim (lt-or-ge q n) [
-          | inl l ↦ slot-stays scoring file a b n (O .only) (getD query q 0) q (λ e. omega (arith, e, l)) R (Q .fresh-slots q l)
-          | inr g ↦ subst (λ (z : ℕ). FreshSlot scoring file b (getD query z 0) z) (only-n q n g k) (O .fresh-slot)
+        open-slots = λ q k. elim (lt-or-ge q n) [
+          | inl l ↦ slot-stays file a b n (O .only) (getD query q 0) q (λ e. omega (arith, e, l)) R (Q .open-slots q l)
+          | inr g ↦ subst (λ (z : ℕ). OpenSlot file b (getD query z 0) z) (only-n q n g k) (O .open-slot)
         ];
         long = length-set scorers n _ ∙ Q .long;
         scorers-are = λ q k. elim (lt-or-ge q n) [
           | inl l ↦ getD-set-other scorers n q _ noScorer (λ e. omega (arith, e, l)) ∙ Q .scorers-are q l
-          | inr g ↦ subst (λ (z : ℕ). getD (set scorers n (record { doc = doc; slot = n })) z noScorer ≡ record { doc = docIn file (partOf file (getD query z 0)) 0; slot = z }) (only-n q n g k)
-              (getD-set-same scorers n _ noScorer (omega (arith, h, Q .long)) ∙ ap (λ (d : ℕ). record { doc = d; slot = n }) (O .doc-is))
+          | inr g ↦ subst (λ (z : ℕ). getD (set scorers n r) z noScorer ≡ openedScorer scoring file (getD query z 0) z) (only-n q n g k)
+              (getD-set-same scorers n _ noScorer (omega (arith, h, Q .long)) ∙ O .scorer-is)
         ];
-        behind = record { blank = λ q g k. getD-set-other scorers n q _ noScorer (λ e. omega (arith, e, g)) ∙ Q .behind .blank q (omega arith) k };
+        behind = record { blank = λ q g k. getD-set-other scorers n q _ unopened (λ e. omega (arith, e, g)) ∙ Q .behind .blank q (omega arith) k };
       }
     where
       only-n : (q m : ℕ) → m ≤ q → q < m + 1 → m ≡ q
@@ -220,14 +205,14 @@ module _ (scoring : Scoring) (file : List ℕ) (lists : List (List ℕ)) where
 
 -- ---- the route's scorers
 
-module _ (scoring : Scoring) (file query : List ℕ) (a : Arrays) (scorers : List TermScorer) (Q : QueryOpened scoring file query (length query) a scorers) where
+module _ (scoring : Scoring) (file query : List ℕ) (a : Tables) (scorers : List TermScorer) (Q : QueryOpened scoring file query (length query) a scorers) where
   -- the route's scorer of a slot
   abbrev pub scorerIn : TermScorer → Scorer Float
   scorerIn s = record { ord = s .slot; list = listAt scoring file (a .lists) (s .slot); cur = cursorAt (a .held .places) (s .slot) }
 
   one-scorer : (q l : ℕ) → q < length query → getD query q 0 ≡ l → scorerIn (getD scorers q noScorer) ≡ record { ord = q; list = postingsOf scoring file l; cur = fresh }
   one-scorer q l h e =
-      let F = Q .fresh-slots q h .open-slot in
+      let F = Q .open-slots q h in
       ap scorerIn (Q .scorers-are q h)
       ∙ ap (λ (x : Part). record { ord = q; list = listOf scoring file x; cur = cursorAt (a .held .places) q }) (F .part-is ∙ ap (partOf file) e)
       ∙ ap (λ (c : Cursor). record { ord = q; list = postingsOf scoring file l; cur = c }) (F .cursor-is)

@@ -12,9 +12,9 @@ ghost use Rattle.arrays.specs.Lent.{before, after};
 ghost use Rattle.notefile.specs.Header.{listCount};
 ghost use Rattle.notefile.specs.Refusal.{fileRefusal};
 ghost use Rattle.notefile.specs.Inner.Structs.{headerOf};
-ghost use Rattle.query.specs.Inner.Openings.{arrays, Named, OneOpened, QueryOpened, Room, Untouched};
+ghost use Rattle.query.specs.Inner.Openings.{tables, Named, OneOpened, QueryOpened, Room, Untouched};
 
-// List l in slot q, on its first posting, with its weight, its norms and its bound.
+// A list's scorer in slot q, on its first posting, with its norms.
 fn open_list(
     file: &[u8],
     h: Header,
@@ -22,30 +22,29 @@ fn open_list(
     l: usize,
     q: usize,
     lists: &mut [[usize; 8]; 16],
+    caches: &mut [[f32; 256]; 16],
     places: &mut [[usize; 8]; 16],
     docs: &mut [[u32; 128]; 16],
     freqs: &mut [[u32; 128]; 16],
-    weights: &mut [f32; 16],
-    caches: &mut [[f32; 256]; 16],
-    max_scores: &mut [f32; 16],
-) -> u32
-    requires { let slots = arrays (now lists) (now places) (now docs) (now freqs)
-        (now weights) (now caches) (now «max_scores») in
+) -> TermScorer
+    requires { let slots = tables (now lists) (now caches) (now places) (now docs) (now freqs) in
         ⌜ (fileRefusal (now file) ≡ 0) × (h ≡ headerOf (now file)) × (l < listCount (now file)) × (q < 16) × Room slots ⌝ }
     ensures { λ r.
-        let old = arrays (before lists) (before places) (before docs) (before freqs)
-        (before weights) (before caches) (before «max_scores») in
-        let new = arrays (after lists) (after places) (after docs) (after freqs)
-        (after weights) (after caches) (after «max_scores») in
+        let old = tables (before lists) (before caches) (before places) (before docs) (before freqs) in
+        let new = tables (after lists) (after caches) (after places) (after docs) (after freqs) in
         ⌜ OneOpened scoring (before file) l q old new r ⌝ }
 {
     let x = read_part(file, h, l);
     let w = Bm25Weight::new(f32::from_bits(x.weight), f32::from_bits(x.average));
-    weights[q] = w.weight;
+    let max_score = w.max_score(scoring);
     let cache = w.cache;
     caches[q] = cache;
-    max_scores[q] = w.max_score(scoring);
-    slot::open(file, x, q, lists, places, docs, freqs)
+    let doc = slot::open(file, x, q, lists, places, docs, freqs);
+    TermScorer {
+        doc,
+        max_score,
+        slot: q,
+    }
 }
 
 // The query's lists in slots of their own, in its order. A list that is named twice has two slots.
@@ -55,47 +54,31 @@ pub fn open_lists(
     scoring: Scoring,
     query: &[u32],
     lists: &mut [[usize; 8]; 16],
+    caches: &mut [[f32; 256]; 16],
     places: &mut [[usize; 8]; 16],
     docs: &mut [[u32; 128]; 16],
     freqs: &mut [[u32; 128]; 16],
-    weights: &mut [f32; 16],
-    caches: &mut [[f32; 256]; 16],
-    max_scores: &mut [f32; 16],
 ) -> [TermScorer; 16]
-    requires { let slots = arrays (now lists) (now places) (now docs) (now freqs)
-        (now weights) (now caches) (now «max_scores») in
+    requires { let slots = tables (now lists) (now caches) (now places) (now docs) (now freqs) in
         ⌜ (fileRefusal (now file) ≡ 0) × (h ≡ headerOf (now file)) × (length (now query) ≤ 16) × Named (now file) (now query)
         × Room slots ⌝ }
     ensures { λ r.
-        let old = arrays (before lists) (before places) (before docs) (before freqs)
-        (before weights) (before caches) (before «max_scores») in
-        let new = arrays (after lists) (after places) (after docs) (after freqs)
-        (after weights) (after caches) (after «max_scores») in
+        let old = tables (before lists) (before caches) (before places) (before docs) (before freqs) in
+        let new = tables (after lists) (after caches) (after places) (after docs) (after freqs) in
         ⌜ QueryOpened scoring (before file) (before query) (length (before query)) new r
         × Untouched (length (before query)) old new ⌝ }
 {
-    let mut scorers = [TermScorer { doc: 0, slot: 0 }; 16];
+    let none = TermScorer {
+        doc: 0,
+        max_score: 0.0,
+        slot: 0,
+    };
+    let mut scorers = [none; 16];
     let mut q = 0usize;
     while q < query.len() {
         let l = query[q] as usize;
-        let doc = open_list(
-            file,
-            h,
-            scoring,
-            l,
-            q,
-            lists,
-            places,
-            docs,
-            freqs,
-            weights,
-            caches,
-            max_scores,
-        );
-        scorers[q] = TermScorer {
-            doc,
-            slot: q as u32,
-        };
+        let scorer = open_list(file, h, scoring, l, q, lists, caches, places, docs, freqs);
+        scorers[q] = scorer;
         q += 1;
     }
     scorers

@@ -30,11 +30,8 @@ float-from-bits-new-2 c = let r = c .before .before in average-number (r .read-p
 new-requires : tie.Need-new-requires
 new-requires c κs = search needs
 
-mul-weights : tie.Need-mul-weights
-mul-weights c = search needs
-
-element-write-weights : tie.Need-element-write-weights
-element-write-weights c = search needs
+max-score-requires : tie.Need-max-score-requires
+max-score-requires c κs = search needs
 
 mul-cache : tie.Need-mul-cache
 mul-cache c = search needs
@@ -42,26 +39,18 @@ mul-cache c = search needs
 element-set-from-cache : tie.Need-element-set-from-cache
 element-set-from-cache c = search needs
 
-max-score-requires : tie.Need-max-score-requires
-max-score-requires c κs = search needs
-
-mul-max-scores : tie.Need-mul-max-scores
-mul-max-scores c = search needs
-
-element-write-max-scores : tie.Need-element-write-max-scores
-element-write-max-scores c = search needs
-
 open-requires : tie.Need-open-requires
 open-requires c κs =
-    let r = c .before .before .before .before .before .before .before .before .before in
+    let m = c .before .before .before .before .before in
+    let r = m .before .before .before .before in
     let a = r .before .before in
     let R = a .pre .4 in
     (a .pre .3, list-of r, R .lists, R .places, R .docs, R .freqs)
 
 returns : tie.Need-returns
 returns c =
-    let m = c .before .before .before .before .before in
-    let n = m .before .before in
+    let m = c .before .before .before .before .before .before in
+    let n = m .before in
     let r = n .before .before .before in
     let a = r .before .before in
     one-opened (a .args .scoring) (a .args .file .now) (a .args .l) (a .args .q) (a .pre .3) (r .read-part .ensures) (list-of r) (n .new .ensures) (m .max-score .ensures) _ (a .pre .4) (c .«open» .ensures)
@@ -74,12 +63,8 @@ open-list-spec =
     float-from-bits-new
     float-from-bits-new-2
     new-requires
-    mul-weights
-    element-write-weights
+    max-score-requires
     mul-cache
     element-set-from-cache
-    max-score-requires
-    mul-max-scores
-    element-write-max-scores
     open-requires
     returns)

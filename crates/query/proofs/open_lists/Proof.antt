@@ -3,22 +3,24 @@ use mathlib.Core.Path.{_≡_, subst}
 use Prim.Native.Nat.{ℕ, _-_, _≤_, _<_}
 use native.Mathlib.Omega.{arith}
 use lib.ListN.{length}
+use lib.Ieee.{ofBits}
 use borrow.Author.Needs.{needs}
-use Rattle.query.specs.Inner.Openings.{arrays, QueryOpened, Untouched}
+use Rattle.query.specs.Inner.Openings.{tables, QueryOpened, Untouched}
 use Rattle.query.proofs.Opening.{behind-as, behind-one, none-opened, none-touched, one-more}
 use Rattle.query.proofs.open_lists.Statement.{statement}
 use Rattle.query.proofs.open_lists.Tie as tie
 
 abbrev Inv-loop : tie.InvT-loop
-Inv-loop file h scoring query lists₀ places₀ docs₀ freqs₀ weights₀ caches₀ max-scores₀ scorers₀ q₀ lists places docs freqs weights caches max-scores scorers q =
-    let a = arrays lists places docs freqs weights caches max-scores in
-    QueryOpened scoring file query q a scorers × (q ≤ length query) × Untouched q (arrays lists₀ places₀ docs₀ freqs₀ weights₀ caches₀ max-scores₀) a
+Inv-loop file h scoring query lists₀ caches₀ places₀ docs₀ freqs₀ scorers₀ q₀ lists caches places docs freqs scorers q =
+    let a = tables lists caches places docs freqs in
+    QueryOpened scoring file query q a scorers × (q ≤ length query) × Untouched q (tables lists₀ caches₀ places₀ docs₀ freqs₀) a
 
 abbrev μ-loop : tie.MeasureT-loop
-μ-loop file h scoring query lists₀ places₀ docs₀ freqs₀ weights₀ caches₀ max-scores₀ scorers₀ q₀ lists places docs freqs weights caches max-scores scorers q =
+μ-loop file h scoring query lists₀ caches₀ places₀ docs₀ freqs₀ scorers₀ q₀ lists caches places docs freqs scorers q =
     length query - q
 
 loop-holds : tie.Need-loop-holds Inv-loop μ-loop
+unfolding ofBits
 loop-holds c = let a = c .before .before in (none-opened (a .args .scoring) (a .args .file .now) (a .args .query .now) _ (a .pre .4), omega arith, none-touched _)
 
 mul-l : tie.Need-mul-l Inv-loop μ-loop
@@ -32,19 +34,16 @@ cast-l c = omega (arith, c .shared-slice-known3 .given (c .before .before .loop 
 
 open-list-requires : tie.Need-open-list-requires Inv-loop μ-loop
 open-list-requires c κs =
-    let i = c .before .before .before .before .before .before .before .before in
+    let i = c .before .before .before .before .before .before in
     let l = i .before in
     let a = l .before .before .before in
     (a .pre .0, a .pre .1, a .pre .3 (l .loop .q) (i .loop-test .taken), omega (arith, i .loop-test .taken, a .pre .2), l .loop .inv .0 .room)
 
-small : (c : tie.After-open-list Inv-loop μ-loop) → c .before .before .before .before .before .before .before .before .before .before .loop .q < 16
+small : (c : tie.After-open-list Inv-loop μ-loop) → c .before .before .before .before .before .before .before .before .loop .q < 16
 small c =
-    let i = c .before .before .before .before .before .before .before .before .before in
+    let i = c .before .before .before .before .before .before .before in
     let a = i .before .before .before .before in
     omega (arith, i .loop-test .taken, a .pre .2)
-
-cast-t20 : tie.Need-cast-t20 Inv-loop μ-loop
-cast-t20 c = omega (arith, small c)
 
 mul-scorers : tie.Need-mul-scorers Inv-loop μ-loop
 mul-scorers c = omega (arith, small c)
@@ -56,11 +55,11 @@ add-q : tie.Need-add-q Inv-loop μ-loop
 add-q c = omega (arith, small c)
 
 loop-less : tie.Need-loop-less Inv-loop μ-loop
-loop-less c = let i = c .before .before .before .before .before .before .before .before .before in omega (arith, i .loop-test .taken)
+loop-less c = let i = c .before .before .before .before .before .before .before in omega (arith, i .loop-test .taken)
 
 loop-again : tie.Need-loop-again Inv-loop μ-loop
 loop-again c =
-    let i = c .before .before .before .before .before .before .before .before .before in
+    let i = c .before .before .before .before .before .before .before in
     let l = i .before in
     let a = l .before .before .before in
     (one-more (a .args .scoring) (a .args .file .now) (a .args .query .now) (l .loop .q) _ _ (l .loop .scorers) (small c) (l .loop .inv .0) (c .open-list .ensures), omega (arith, i .loop-test .taken), behind-one _ _ _ _ (l .loop .inv .2) (c .open-list .ensures .only))
@@ -70,7 +69,7 @@ returns c =
     let l = c .before in
     let a = l .before .before .before in
     let e : l .loop .q ≡ length (a .args .query .now) = omega (arith, l .loop .inv .1, c .loop-test .left) in
-    let b = arrays (l .loop .lists) (l .loop .places) (l .loop .docs) (l .loop .freqs) (l .loop .weights) (l .loop .caches) (l .loop .max-scores) in
+    let b = tables (l .loop .lists) (l .loop .caches) (l .loop .places) (l .loop .docs) (l .loop .freqs) in
     (subst (λ (n : ℕ). QueryOpened (a .args .scoring) (a .args .file .now) (a .args .query .now) n b (l .loop .scorers)) e (l .loop .inv .0), behind-as e (l .loop .inv .2))
 
 pub open-lists-spec : {M : Type 1} → statement M
@@ -84,7 +83,6 @@ open-lists-spec =
     shared-slice-read-l
     cast-l
     open-list-requires
-    cast-t20
     mul-scorers
     array-set-from-scorers
     add-q
