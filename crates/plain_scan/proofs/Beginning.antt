@@ -1,90 +1,78 @@
--- A query's lists in their slots: how a scan begins over them, and that its reports are those of 01's plain scan over the lists.
+-- A scan at rest: where its scorers stand, and how it begins over a query's lists.
 use mathlib.Core.Path.{_≡_, refl, sym, ap, _∙_, subst}
 use mathlib.Core.Bool.{Bool}
 use mathlib.Core.List.{List, [], _∷_}
-use Prim.Native.Nat.{ℕ, suc, _<_}
+use Prim.Native.Nat.{ℕ, suc, _≤_, _<_}
 use native.Mathlib.Omega.{arith}
-use lib.ListN.{length}
+use lib.ListN.{length, getD}
 use lib.Ieee.{Float}
 use Rattle.route.specs.Cursor.{Cursor}
 use Rattle.route.specs.F32.{f32}
-use Rattle.route.specs.Plain.{Mode, hit, present, plain}
+use Rattle.route.specs.Plain.{Mode, hit, present}
 use Rattle.route.specs.Postings.{Postings}
-use Rattle.route.specs.Report.{Report}
 use Rattle.route.specs.Inner.Cursors.{Wf, Past}
 use Rattle.route.proofs.Cursor.{fresh-is}
-use Rattle.route.proofs.Scan.{scan-ext}
 use Rattle.bm25.specs.declared.Scoring.{Scoring}
 use Rattle.ordering.specs.declared.TermScorer.{TermScorer}
-use Rattle.rule.specs.Rules.{ruleOf, startOf}
-use Rattle.rule.specs.declared.Rule.{Rule}
 use Rattle.notefile.specs.Header.{documents}
-use Rattle.notefile.specs.declared.part.Part.{Part}
-use Rattle.reports.specs.Inner.Runs.{callbackOf}
 use Rattle.decoded.specs.Lists.{queried}
-use Rattle.postings.specs.Inner.Decoded.{docIn}
-use Rattle.term_scorer.specs.Inner.Slots.{Held, partAt, listAt, listsFrom}
-use Rattle.query.specs.Inner.Openings.{Arrays, QueryOpened}
+use Rattle.slot_rows.proofs.Rows.{cur-inside, doc-in-array}
+use Rattle.term_scorer.specs.Inner.Slots.{Held, listAt, listsFrom}
+use Rattle.query.specs.Inner.Openings.{Tables, QueryOpened}
 use Rattle.query.proofs.Opening as opening
 use Rattle.plain_scan.specs.Inner.Found.{foundOf, hitIn}
-use Rattle.plain_scan.specs.Inner.Heads.{AllWeighed, HeadsOf, ReadyLists, Standing, StandsFrom}
-use Rattle.plain_scan.specs.Inner.Runs.{hits, needsAll, scanned, PlainRan}
-use Rattle.plain_scan.specs.declared.PlainRun.{PlainRun}
+use Rattle.plain_scan.specs.Inner.Heads.{HeadsOf, PlaceRead, RestsFrom, Standing}
+use Rattle.plain_scan.specs.Inner.Turns.{hitsOf, needsAll, PlainStands}
+use Rattle.plain_scan.specs.declared.Plain.{Plain}
 use Rattle.plain_scan.proofs.Slots.{ok}
 use Rattle.plain_scan.proofs.Sums.{hit-is}
 
--- lists as `open_lists` leaves them are ready
-pub opened-ready : (scoring : Scoring) (file query : List ℕ) (a : Arrays) (scorers : List TermScorer) → QueryOpened scoring file query (length query) a scorers
-    → ReadyLists file query (a .lists) (a .weights) (a .caches) (a .held) scorers
-opened-ready scoring file query a scorers Q = record {
-  slots = λ q l. Q .fresh-slots q l .open-slot;
-  docs-are = λ q l. ap (λ (s : TermScorer). s .doc) (Q .scorers-are q l);
-}
+module _ (scoring : Scoring) (file : List ℕ) (lists : List (List ℕ)) where
+  module _ (caches : List (List Float)) (h : Held) (p : Plain) (S : PlainStands scoring file lists caches h p) where
+    pub places-read : PlaceRead (h .places) (p .len)
+    places-read q l = let A = S .each q l .slot in cur-inside file (getD lists q []) (getD (h .places) q []) (A .list) (A .place)
 
-module _ (scoring : Scoring) (file query : List ℕ) (lists : List (List ℕ)) (weights : List Float) (caches : List (List Float)) (h : Held) (scorers : List TermScorer)
-    (R : ReadyLists file query lists weights caches h scorers) where
-  pub all-weighed : AllWeighed lists weights caches (length query)
-  all-weighed q l = R .slots q l .weighed
+    -- the heads that are read name where the scorers stand
+    pub with-heads : {heads : List ℕ} → HeadsOf (h .places) (h .docs) (p .len) heads → Standing scoring file lists (p .len) (p .doc) h heads
+    with-heads {heads} E = record {
+      long = E .long;
+      each = λ q l.
+          let R = S .each q l in
+          let e = E .are q l ∙ sym (doc-in-array file (getD lists q []) (getD (h .places) q []) (R .slot .list) (R .slot .place)) in
+          record { slot = R .slot; wf = R .wf; past = R .past; head-is = e; low = omega (arith, e, R .low) };
+    }
 
+  pub at-rest : {n d : ℕ} {h : Held} {heads : List ℕ} → Standing scoring file lists n d h heads → (q : ℕ) → q < n → RestsFrom scoring file lists d h q
+  at-rest S q l = let A = S .each q l in record { slot = A .slot; wf = A .wf; past = A .past; low = omega (arith, A .head-is, A .low) }
+
+module _ (scoring : Scoring) (file query : List ℕ) (a : Tables) (scorers : List TermScorer) (Q : QueryOpened scoring file query (length query) a scorers) where
   -- on its first posting a scorer has passed nothing
-  stands : {heads : List ℕ} → HeadsOf scorers (length query) heads → (q : ℕ) → q < length query → StandsFrom scoring file lists 0 h heads q
-  stands {heads} E q l =
-      let S = R .slots q l in
-      let F = fresh-is 128 (documents file) (listAt scoring file lists q) (ok scoring file lists q (S .slot)) in
+  rests : (q : ℕ) → q < length query → RestsFrom scoring file (a .lists) 0 (a .held) q
+  rests q l =
+      let S = Q .open-slots q l in
+      let F = fresh-is 128 (documents file) (listAt scoring file (a .lists) q) (ok scoring file (a .lists) q (S .slot)) in
       record {
         slot = S .slot;
-        wf = subst (Wf 128 (listAt scoring file lists q)) (sym (S .cursor-is)) (F .0);
-        past = subst (λ (c : Cursor). Past 128 (listAt scoring file lists q) c 0) (sym (S .cursor-is)) (F .1 0);
-        head-is =
-            E .are q l ∙ R .docs-are q l ∙ ap (λ (x : Part). docIn file x 0) (sym (S .part-is))
-            ∙ ap (λ (c : Cursor). docIn file (partAt lists q) (c .at)) (sym (S .cursor-is));
+        wf = subst (Wf 128 (listAt scoring file (a .lists) q)) (sym (S .cursor-is)) (F .0);
+        past = subst (λ (c : Cursor). Past 128 (listAt scoring file (a .lists) q) c 0) (sym (S .cursor-is)) (F .1 0);
         low = omega arith;
       }
 
-  pub standing-begun : {heads : List ℕ} → HeadsOf scorers (length query) heads → Standing scoring file lists (length query) 0 h heads
-  standing-begun E = record { long = E .long; each = stands E }
+  -- lists as `open_lists` leaves them stand at document 0
+  pub scan-begins : length query ≤ 16 → (all : Bool) → PlainStands scoring file (a .lists) (a .caches) (a .held) (record { len = length query; all = all; doc = 0 })
+  scan-begins few all = record { few = few; cap = omega arith; weighed = λ q l. Q .open-slots q l .weighed; each = rests }
 
   as-many : (numbers : List ℕ) → length (queried scoring file numbers) ≡ length numbers
   unfolding queried
   as-many [] = refl
   as-many (l ∷ ls) = ap suc (as-many ls)
 
-  lists-are : listsFrom scoring file lists 0 (length query) ≡ queried scoring file query
-  lists-are = opening.lists-are scoring file lists query (λ q l. R .slots q l .part-is)
+  lists-are : listsFrom scoring file (a .lists) 0 (length query) ≡ queried scoring file query
+  lists-are = opening.lists-are scoring file (a .lists) query (λ q l. Q .open-slots q l .part-is)
 
   -- a match is the mode's
-  same-hits : (m : Mode) (d : ℕ) → hits scoring file lists (length query) (needsAll m) d ≡ hit f32 m (queried scoring file query) d
+  pub same-hits : (m : Mode) (d : ℕ) → hitsOf scoring file (a .lists) (length query) (needsAll m) d ≡ hit f32 m (queried scoring file query) d
   same-hits m d =
       ap (λ (q : List (Postings Float)). hitIn (needsAll m) (length query) (foundOf (present d q))) lists-are
       ∙ ap (λ (n : ℕ). hitIn (needsAll m) n (foundOf (present d (queried scoring file query)))) (sym (as-many query))
       ∙ sym (hit-is m (queried scoring file query) d)
-
-  -- AND SO ARE THE REPORTS
-  pub plain-ran : (rule : Rule) (script : List Float) {all : Bool} {documents₀ documents′ : List ℕ} {scores₀ values : List Float} {r : PlainRun}
-      → PlainRan (scanned scoring file lists (length query) all rule script) documents₀ scores₀ r documents′ values
-      → (m : Mode) → needsAll m ≡ all → PlainRan (plain f32 m (queried scoring file query) (ruleOf rule script) (startOf rule) (documents file)) documents₀ scores₀ r documents′ values
-  plain-ran rule script {documents₀ = documents₀} {documents′ = documents′} {scores₀ = scores₀} {values = values} {r = r} P m e =
-      subst (λ (whole : List (Report Float)). PlainRan whole documents₀ scores₀ r documents′ values)
-      (ap (λ (b : Bool). scanned scoring file lists (length query) b rule script) (sym e)
-      ∙ scan-ext f32 (callbackOf rule script) (hits scoring file lists (length query) (needsAll m)) (hit f32 m (queried scoring file query)) (same-hits m) (documents file) 0 [])
-      P

@@ -1,6 +1,6 @@
 -- The documents on which scorers stand: filled in one by one, and the least of them.
 use mathlib.Core.Path.{_≡_, sym, ap, _∙_}
-use mathlib.Core.List.{List}
+use mathlib.Core.List.{List, []}
 use mathlib.Core.Logic.{inl, inr}
 use Prim.Native.Nat.{ℕ, zero, suc, _+_, _≤_, _<_}
 use native.Mathlib.Numerals.{add-one}
@@ -8,22 +8,21 @@ use native.Mathlib.Omega.{arith}
 use lib.ListN.{getD, set, length-set}
 use lib.Seq.{getD-set-same, getD-set-other}
 use Rattle.arrays.proofs.Order.{lt-or-ge}
-use Rattle.ordering.specs.Inner.Scorers.{noScorer}
-use Rattle.ordering.specs.declared.TermScorer.{TermScorer}
 use Rattle.term_scorer.specs.Inner.Slots.{Sixteen, Blank}
 use Rattle.plain_scan.specs.Inner.Heads.{leastIn, HeadsOf}
 
-pub no-heads : (scorers : List TermScorer) (heads : List ℕ) → Sixteen heads → Blank 2147483647 0 heads → HeadsOf scorers 0 heads
-no-heads scorers heads l b = record { long = l; are = λ q h. absurd (omega (arith, h)); behind = b }
+pub no-heads : (places docs : List (List ℕ)) (heads : List ℕ) → Sixteen heads → Blank 2147483647 0 heads → HeadsOf places docs 0 heads
+no-heads places docs heads l b = record { long = l; are = λ q h. absurd (omega (arith, h)); behind = b }
 
-pub one-more-head : (scorers : List TermScorer) (heads : List ℕ) (n : ℕ) → n < 16 → HeadsOf scorers n heads → HeadsOf scorers (n + 1) (set heads n (getD scorers n noScorer .doc))
-one-more-head scorers heads n h H = record {
-  long = length-set heads n _ ∙ H .long;
+pub one-more-head : (places docs : List (List ℕ)) (heads : List ℕ) (n : ℕ) → n < 16 → HeadsOf places docs n heads
+    → {doc : ℕ} → doc ≡ getD (getD docs n []) (getD (getD places n []) 6 0) 0 → HeadsOf places docs (n + 1) (set heads n doc)
+one-more-head places docs heads n h H {doc} is = record {
+  long = length-set heads n doc ∙ H .long;
   are = λ q k. elim (lt-or-ge q n) [
     | inl l ↦ getD-set-other heads n q _ 0 (λ e. omega (arith, e, l)) ∙ H .are q l
     | inr g ↦
         let e : q ≡ n = omega (arith, g, k) in
-        rw e (getD-set-same heads n _ 0 (omega (arith, h, H .long)))
+        rw e (getD-set-same heads n _ 0 (omega (arith, h, H .long)) ∙ is)
   ];
   behind = record { blank = λ q g k. getD-set-other heads n q _ 2147483647 (λ e. omega (arith, e, g)) ∙ H .behind .blank q (omega arith) k };
 }

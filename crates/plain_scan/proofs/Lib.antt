@@ -3,5 +3,6 @@ pub mod Heading
 pub mod Sums
 pub mod Slots
 pub mod Taking
-pub mod Scanning
 pub mod Beginning
+pub mod Scanning
+pub mod Ending

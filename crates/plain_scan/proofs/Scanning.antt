@@ -1,81 +1,38 @@
--- Documents upward: what the plain scan makes of the documents from the least on, with the reports so far, stays the whole list.
+-- Documents upward: those before the least are in no list, and the least one is taken as the route's turn says.
 use mathlib.Core.Path.{_≡_, refl, sym, ap, _∙_, subst}
-use mathlib.Core.Bool.{Bool, true, false, false≢true}
+use mathlib.Core.Bool.{Bool, true, false, false≢true, cond}
 use mathlib.Core.List.{List, [], _++_}
-use mathlib.Core.Logic.{inl, inr}
-use mathlib.Core.Option.{Option, none}
+use mathlib.Core.Option.{Option, none, some}
 use Prim.Native.Nat.{ℕ, zero, suc, _+_, _-_, _≤_, _<_}
-use native.Mathlib.Nat.{add-zero}
+use native.Mathlib.Nat.{add-suc, add-zero}
+use native.Mathlib.Numerals.{add-one}
 use native.Mathlib.Omega.{arith}
-use lib.ListN.{length}
+use lib.Dec.{leb}
 use lib.Ieee.{Float, lt}
-use borrow.Author.Tests.{le-leb}
-use Rattle.arrays.proofs.Order.{lt-or-ge}
-use Rattle.route.specs.F32.{f32}
-use Rattle.route.specs.Report.{Report}
-use Rattle.route.specs.Rule.{Outcome, limited}
-use Rattle.route.specs.Postings.{scoreOf}
-use Rattle.route.specs.Plain.{optList, present, scan, turnOf}
-use Rattle.route.proofs.Cases.{lt-of-ne, on-test}
-use Rattle.route.proofs.Rows.{plain-full}
+use borrow.Author.Tests.{le-leb, lt-leb}
+use Rattle.route.specs.Postings.{TERMINATED, scoreOf}
+use Rattle.route.specs.Plain.{optList, present}
+use Rattle.route.specs.Route.{Turn}
+use Rattle.route.proofs.Cases.{on-test}
 use Rattle.bm25.specs.declared.Scoring.{Scoring}
-use Rattle.rule.specs.Rules.{ruleOf, startOf}
-use Rattle.rule.specs.Inner.Follows.{Follows}
-use Rattle.rule.specs.declared.Rule.{Rule}
-use Rattle.rule.specs.declared.Threshold.{Threshold}
-use Rattle.notefile.specs.Header.{documents}
-use Rattle.reports.specs.Rows.{rowsOf, Written}
-use Rattle.reports.specs.Inner.Rows.{Kept, Reported}
-use Rattle.reports.specs.Inner.Runs.{callbackOf, outcomeOf}
-use Rattle.reports.proofs.RowLaws.{begun, count-is, documents-long, one-more, scores-long, threshold-is}
+use Rattle.reports.specs.Inner.Turns.{Went}
+use Rattle.reports.specs.declared.Event.{Event}
+use Rattle.reports.specs.declared.Event.the-variants.{Over, Paused, Report}
+use Rattle.reports.proofs.TurnLaws.{Quietly, and-then, at-end, at-pause, at-report, none-yet, one-more}
 use Rattle.term_scorer.specs.Inner.Slots.{Held, listAt, listsFrom}
 use Rattle.plain_scan.specs.Inner.Found.{dueIn, foundOf, hitIn, matchesIn}
 use Rattle.plain_scan.specs.Inner.Heads.{leastIn, Standing, Taken}
-use Rattle.plain_scan.specs.Inner.Runs.{hits, scanned, PlainRan}
+use Rattle.plain_scan.specs.Inner.Turns.{dueFor, goneTo, hitsOf, scanTurn, GoneOn, PlainStands}
+use Rattle.plain_scan.specs.declared.Gone.{Gone}
+use Rattle.plain_scan.specs.declared.Plain.{Plain}
 use Rattle.plain_scan.specs.declared.Found.{Found}
-use Rattle.plain_scan.proofs.Heading.{least-above, least-cap, least-found, least-low}
-use Rattle.plain_scan.proofs.Slots.{absent, below, few-documents, raised}
+use Rattle.plain_scan.proofs.Heading.{least-above, least-cap, least-low}
+use Rattle.plain_scan.proofs.Slots.{absent, raised}
+use Rattle.plain_scan.proofs.Beginning.{at-rest}
 
--- a run whose outcome is known
-ran : {whole rs : List (Report Float)} {documents₀ documents : List ℕ} {scores₀ values : List Float} {full : Bool} {count : ℕ}
-    → limited (rowsOf documents₀ scores₀) whole ≡ outcomeOf full rs → Written rs documents₀ scores₀ documents values → count ≡ length rs
-    → PlainRan whole documents₀ scores₀ (record { full = full; count = count }) documents values
-ran {documents₀ = documents₀} {documents = documents} {scores₀ = scores₀} {values = values} {full = full} e W c = record {
-  outcome = ap (λ (o : Outcome Float). outcomeOf full (o .rows)) e ∙ sym e;
-  count-is = c ∙ ap (λ (o : Outcome Float). length (o .rows)) (sym e);
-  written = subst (λ (o : Outcome Float). Written (o .rows) documents₀ scores₀ documents values) (sym e) W;
-}
-
-module _ (scoring : Scoring) (file : List ℕ) (lists : List (List ℕ)) (n : ℕ) (all : Bool) (rule : Rule) (script : List Float) where
+module _ (scoring : Scoring) (file : List ℕ) (lists : List (List ℕ)) (n : ℕ) (all : Bool) where
   abbrev H : ℕ → Option Float
-  H = hits scoring file lists n all
-
-  abbrev N : ℕ
-  N = documents file
-
-  -- ---- the scan cut in two
-
-  -- what the scan makes of the documents from a on
-  abbrev rest : ℕ → List (Report Float) → List (Report Float)
-  rest a rs = scan f32 (callbackOf rule script) H (N - a) a rs
-
-  rest-turn : (a : ℕ) (rs : List (Report Float)) → a < N → rest a rs ≡ rest (suc a) (turnOf f32 (callbackOf rule script) (H a) a rs)
-  rest-turn a rs h = let e : N - a ≡ suc (N - suc a) = omega arith in ap (λ (k : ℕ). scan f32 (callbackOf rule script) H k a rs) e
-
-  rest-over : (a : ℕ) (rs : List (Report Float)) → N ≤ a → rest a rs ≡ rs
-  rest-over a rs h = let e : N - a ≡ 0 = omega arith in ap (λ (k : ℕ). scan f32 (callbackOf rule script) H k a rs) e
-
-  -- m documents without a match
-  rest-skips : (m a : ℕ) (rs : List (Report Float)) → ((x : ℕ) → a ≤ x → x < a + m → H x ≡ none) → rest a rs ≡ rest (a + m) rs
-  rest-skips zero a rs f = ap (λ (k : ℕ). rest k rs) (sym (add-zero a))
-  rest-skips (suc m) a rs f =
-      one ∙ rest-skips m (suc a) rs (λ x g h. f x (omega (arith, g)) (omega (arith, h))) ∙ ap (λ (k : ℕ). rest k rs) (let e : suc a + m ≡ a + suc m = omega arith in e)
-    where
-      one : rest a rs ≡ rest (suc a) rs
-      one = elim (lt-or-ge a N) [
-        | inl l ↦ rest-turn a rs l ∙ ap (λ (o : Option Float). rest (suc a) (turnOf f32 (callbackOf rule script) o a rs)) (f a (omega arith) (omega arith))
-        | inr g ↦ rest-over a rs g ∙ sym (rest-over (suc a) rs (omega (arith, g)))
-      ]
+  H = hitsOf scoring file lists n all
 
   -- ---- documents without a match
 
@@ -88,125 +45,111 @@ module _ (scoring : Scoring) (file : List ℕ) (lists : List (List ℕ)) (n : �
   no-hit : (x : ℕ) → ((p : ℕ) → p < n → scoreOf (listAt scoring file lists p) x ≡ none) → H x ≡ none
   no-hit x f = ap (λ (xs : List Float). hitIn all n (foundOf xs)) (none-present x n 0 (λ p g h. f p (omega (arith, h))))
 
-  -- at the lists' end no document is left
-  rest-ends : {h : Held} {heads : List ℕ} (a : ℕ) (rs : List (Report Float)) → Standing scoring file lists n a h heads → 2147483647 ≤ a → rest a rs ≡ rs
-  rest-ends a rs S g = elim (lt-or-ge 0 n) [
-    | inl l ↦ rest-over a rs (omega (arith, few-documents scoring file lists (S .each 0 l), g))
-    | inr z ↦ rest-skips N a rs (λ x _ _. no-hit x (λ p h. absurd (omega (arith, h, z)))) ∙ rest-over (a + N) rs (omega arith)
-  ]
+  -- ---- turns
 
-  -- ---- one document
+  module _ (t : Float) where
+    -- a document that is no TERMINATED is looked at
+    pub on-document : (d : ℕ) → d < TERMINATED → (leb TERMINATED d ≡ false) × (scanTurn H t d ≡ record { next = suc d; due = dueFor t d (H d); loads = [] })
+    on-document d h = let e = lt-leb TERMINATED d h in (e, rw e)
 
-  module _ (t : Float) (rs : List (Report Float)) (now-is : t ≡ callbackOf rule script .threshold rs) (d : ℕ) (f : Found) where
-    -- one that is not due leaves the reports as they are
-    quiet-turn : dueIn all n f t ≡ false → turnOf f32 (callbackOf rule script) (hitIn all n f) d rs ≡ rs
-    quiet-turn e = on-test (matchesIn all n (f .matched))
-        (λ m. let z : lt (callbackOf rule script .threshold rs) (f .total) ≡ false = rw now-is at (rw m at e) in rw (m, z))
-        (λ m. rw m)
+    -- those that no list has
+    pub gap : {h : Held} {heads : List ℕ} {a : ℕ} → Standing scoring file lists n a h heads → (m : ℕ) → a + m ≤ leastIn heads n → a + m ≤ TERMINATED
+        → Quietly (scanTurn H) (leb TERMINATED) t a m (a + m)
+    gap {a = a} S zero g c = subst (Quietly (scanTurn H) (leb TERMINATED) t a 0) (sym (add-zero a)) (none-yet (scanTurn H) (leb TERMINATED) t a)
+    gap {heads = heads} {a = a} S (suc m) g c =
+        let o = on-document (a + m) (omega arith) in
+        let none-here : H (a + m) ≡ none =
+        no-hit (a + m) (λ q k. absent scoring file lists (S .each q k) (a + m) (omega arith) (omega (arith, least-low heads n q k))) in
+        one-more (scanTurn H) (leb TERMINATED) t (gap S m (omega arith) (omega arith)) (o .0)
+        (ap (λ (u : Turn ℕ Float). u .due) (o .1) ∙ ap (dueFor t (a + m)) none-here)
+        (ap (λ (u : Turn ℕ Float). u .next) (o .1) ∙ sym (add-suc a m))
 
-    -- and one that is due is reported
-    due-turn : dueIn all n f t ≡ true → turnOf f32 (callbackOf rule script) (hitIn all n f) d rs ≡ callbackOf rule script .call d (f .total) rs
-    due-turn e = on-test (matchesIn all n (f .matched))
-        (λ m. let z : lt (callbackOf rule script .threshold rs) (f .total) ≡ true = rw now-is at (rw m at e) in rw (m, z))
-        (λ m. absurd (false≢true (rw m at e)))
+    -- one that was taken, due or not
+    module _ (d : ℕ) (l : d < TERMINATED) {found : Found} {h : Held} {heads : List ℕ} (T : Taken scoring file lists n d found h heads) where
+      hit-here : H d ≡ hitIn all n found
+      hit-here = ap (hitIn all n) (sym (T .found-is))
+
+      pub goes-next : scanTurn H t d .next ≡ suc d
+      goes-next = ap (λ (u : Turn ℕ Float). u .next) (on-document d l .1)
+
+      due-here : scanTurn H t d .due ≡ dueFor t d (hitIn all n found)
+      due-here = ap (λ (u : Turn ℕ Float). u .due) (on-document d l .1) ∙ ap (dueFor t d) hit-here
+
+      pub not-due : dueIn all n found t ≡ false → scanTurn H t d .due ≡ none
+      not-due e = due-here ∙ on-test (matchesIn all n (found .matched))
+          (λ m. let z : lt t (found .total) ≡ false = rw m at e in rw (m, z))
+          (λ m. rw m)
+
+      pub is-due : dueIn all n found t ≡ true → scanTurn H t d .due ≡ some (record { doc = d; score = found .total })
+      is-due e = due-here ∙ on-test (matchesIn all n (found .matched))
+          (λ m. let z : lt t (found .total) ≡ true = rw m at e in rw (m, z))
+          (λ m. absurd (false≢true (rw m at e)))
+
+  -- the scorers may count as standing from any document up to the least
+  pub up-to : {h : Held} {heads : List ℕ} {a : ℕ} → Standing scoring file lists n a h heads → (b : ℕ) → a ≤ b → b ≤ leastIn heads n → Standing scoring file lists n b h heads
+  up-to {heads = heads} S b g c = record { long = S .long; each = λ q l. raised scoring file lists (S .each q l) b g (omega (arith, least-low heads n q l)) }
 
   -- ---- the loop
 
-  module _ (documents₀ : List ℕ) (scores₀ : List Float) where
-    -- every document below the least has been offered, and rows and threshold are what that leaves
-    pub record Scanning (t : Threshold) (documents′ : List ℕ) (values : List Float) (h : Held) (heads : List ℕ) : Type 0 where
-      pub standing : Standing scoring file lists n (leastIn heads n) h heads
-      pub reports : List (Report Float)
-      pub kept : Kept rule script reports documents₀ scores₀ t documents′ values
-      pub rest-is : rest (leastIn heads n) reports ≡ scanned scoring file lists n all rule script
+  -- from document d₀ on `taken` turns without a report have led to document `at`
+  pub record Upward (t : Float) (turns d₀ taken at : ℕ) (h : Held) (heads : List ℕ) : Type 0 where
+    pub standing : Standing scoring file lists n at h heads
+    pub quietly : Quietly (scanTurn H) (leb TERMINATED) t d₀ taken at
+    pub cap : at ≤ TERMINATED
+    pub within : taken ≤ turns
 
-    -- no list has a document before the least
-    settled : {a : ℕ} {t : Threshold} {documents′ : List ℕ} {values : List Float} {h : Held} {heads : List ℕ} → a ≤ 2147483647 → Standing scoring file lists n a h heads
-        → (rs : List (Report Float)) → Kept rule script rs documents₀ scores₀ t documents′ values → rest a rs ≡ scanned scoring file lists n all rule script
-        → Scanning t documents′ values h heads
-    settled {a} {heads = heads} cap S rs K e =
-        let up : a ≤ leastIn heads n = least-above heads n a cap (λ q l. S .each q l .low) in
-        let m : a + (leastIn heads n - a) ≡ leastIn heads n = omega arith in
-        record {
-          standing = record { long = S .long; each = λ q l. raised scoring file lists (S .each q l) (leastIn heads n) up (least-low heads n q l) };
-          reports = rs;
-          kept = K;
-          rest-is =
-              ap (λ (k : ℕ). rest k rs) (sym m)
-              ∙ sym (rest-skips (leastIn heads n - a) a rs (λ x g l. no-hit x (λ q k. absent scoring file lists (S .each q k) x g (omega (arith, l, m, least-low heads n q k)))))
-              ∙ e;
-        }
+  module _ {t : Float} {turns d₀ taken at : ℕ} {h : Held} {heads : List ℕ} (U : Upward t turns d₀ taken at h heads) {doc : ℕ} (doc-is : doc ≡ leastIn heads n) where
+    pub ahead : (at ≤ doc) × (doc ≤ TERMINATED)
+    ahead = (omega (arith, doc-is, least-above heads n at (U .cap) (λ q l. U .standing .each q l .low)), omega (arith, doc-is, least-cap heads n))
 
-    pub scanning-begun : {t : Threshold} {h : Held} {heads : List ℕ} → Standing scoring file lists n 0 h heads → Follows rule script [] t → Scanning t documents₀ scores₀ h heads
-    scanning-begun S F =
-        let e : N - 0 ≡ N = omega arith in
-        settled (omega arith) S [] (begun documents₀ scores₀ F) (ap (λ (k : ℕ). scan f32 (callbackOf rule script) H k 0 []) e)
+    -- any document up to the least
+    pub to-document : (m : ℕ) → at + m ≤ doc → taken + m ≤ turns → Upward t turns d₀ (taken + m) (at + m) h heads
+    to-document m g w = record {
+      standing = up-to (U .standing) (at + m) (omega arith) (omega (arith, doc-is, g));
+      quietly = and-then (scanTurn H) (leb TERMINATED) t (U .quietly) (gap t (U .standing) m (omega (arith, doc-is, g)) (omega (arith, ahead .1, g)));
+      cap = omega (arith, ahead .1, g);
+      within = w;
+    }
 
-    module _ {t : Threshold} {documents′ : List ℕ} {values : List Float} {h : Held} {heads : List ℕ} (G : Scanning t documents′ values h heads) {d : ℕ} (d-is : d ≡ leastIn heads n) where
-      -- the scorers stand from the document on
-      pub from-here : Standing scoring file lists n d h heads
-      from-here = subst (λ (z : ℕ). Standing scoring file lists n z h heads) (sym d-is) (G .standing)
+  module _ {t : Float} {turns d₀ taken d : ℕ} {h : Held} {heads : List ℕ} (U : Upward t turns d₀ taken d h heads) where
+    pub stops-over : d ≡ TERMINATED → Went (scanTurn H) (leb TERMINATED) t d₀ turns taken d Over
+    stops-over e = at-end (scanTurn H) (leb TERMINATED) t (U .quietly) (U .within) (le-leb TERMINATED d (omega (arith, e)))
 
-      -- no document is left
-      pub scanning-ends : d ≡ 2147483647 → PlainRan (scanned scoring file lists n all rule script) documents₀ scores₀ (record { full = false; count = t .reports }) documents′ values
-      scanning-ends e =
-          let rs = G .reports in
-          let w : scanned scoring file lists n all rule script ≡ rs = sym (G .rest-is) ∙ rest-ends (leastIn heads n) rs (G .standing) (omega (arith, e, d-is)) in
-          ran (ap (limited (rowsOf documents₀ scores₀)) w ∙ rw (le-leb (length rs) (rowsOf documents₀ scores₀) (G .kept .written .fit))) (G .kept .written) (count-is (G .kept))
+    module _ (l : d < TERMINATED) where
+      pub stops-paused : taken ≡ turns → Went (scanTurn H) (leb TERMINATED) t d₀ turns taken d Paused
+      stops-paused e =
+          subst (λ (i : ℕ). Went (scanTurn H) (leb TERMINATED) t d₀ i taken d Paused) e (at-pause (scanTurn H) (leb TERMINATED) t (U .quietly) (on-document t d l .0))
 
-      -- a row is left
-      pub has-row : (t .reports ≡ rowsOf documents₀ scores₀ → ⊥) → (t .reports < length documents′) × (t .reports < length values)
-      has-row ne =
-          let W = G .kept .written in
-          let l : t .reports < rowsOf documents₀ scores₀ = lt-of-ne (omega (arith, W .fit, count-is (G .kept))) ne in
-          (omega (arith, l, documents-long W), omega (arith, l, scores-long W))
+      module _ (more : taken < turns) {found : Found} {h′ : Held} {heads′ : List ℕ} (T : Taken scoring file lists n d found h′ heads′) where
+        pub passes : dueIn all n found t ≡ false → Upward t turns d₀ (taken + 1) (d + 1) h′ heads′
+        passes e = rw (add-one taken, add-one d) (record {
+          standing = T .standing;
+          quietly = one-more (scanTurn H) (leb TERMINATED) t (U .quietly) (on-document t d l .0) (not-due t d l T e) (goes-next t d l T);
+          cap = l;
+          within = more;
+        })
 
-      module _ (ne : d ≡ 2147483647 → ⊥) where
-        pub document : d < 2147483647
-        document = lt-of-ne (omega (arith, d-is, least-cap heads n)) ne
+        pub stands-next : Standing scoring file lists n (d + 1) h′ heads′
+        stands-next = rw (add-one d) (T .standing)
 
-        on-file : d < N
-        on-file =
-            let q = least-found heads n (omega (arith, d-is, document)) in
-            below scoring file lists (from-here .each (q .0) (q .1)) (q .2 ∙ sym d-is) document
+        pub stops-due : dueIn all n found t ≡ true → Went (scanTurn H) (leb TERMINATED) t d₀ turns (taken + 1) (d + 1) (Report d (found .total))
+        stops-due e = rw (add-one taken, add-one d) (at-report (scanTurn H) (leb TERMINATED) t (U .quietly) more (on-document t d l .0) (is-due t d l T e) (goes-next t d l T))
 
-        module _ {found : Found} {h′ : Held} {heads′ : List ℕ} (T : Taken scoring file lists n d found h′ heads′) where
-          hit-here : H d ≡ hitIn all n found
-          hit-here = ap (hitIn all n) (sym (T .found-is))
+  -- turns that end before the least document
+  pub stops-early : {t : Float} {turns d₀ taken at : ℕ} {h : Held} {heads : List ℕ} → Upward t turns d₀ taken at h heads → {doc : ℕ} → doc ≡ leastIn heads n → turns - taken < doc - at
+      → Upward t turns d₀ turns (at + (turns - taken)) h heads × Went (scanTurn H) (leb TERMINATED) t d₀ turns turns (at + (turns - taken)) Paused
+  stops-early {t} {turns} {d₀} {taken} {at} {h} {heads} U {doc} e g =
+      let w = U .within in
+      let o = ahead U e in
+      let m : taken + (turns - taken) ≡ turns = omega arith in
+      let N = subst (λ (i : ℕ). Upward t turns d₀ i (at + (turns - taken)) h heads) m (to-document U e (turns - taken) (omega arith) (omega arith)) in
+      (N, stops-paused N (omega arith) refl)
 
-          -- the next document is a later one
-          pub nearer : 2147483647 - leastIn heads′ n < 2147483647 - leastIn heads n
-          nearer = omega (arith, least-above heads′ n (suc d) document (λ q l. T .standing .each q l .low), d-is, document)
-
-          after : (rs : List (Report Float)) → turnOf f32 (callbackOf rule script) (hitIn all n found) d (G .reports) ≡ rs → rest (suc d) rs ≡ scanned scoring file lists n all rule script
-          after rs e =
-              ap (rest (suc d)) (sym (ap (λ (o : Option Float). turnOf f32 (callbackOf rule script) o d (G .reports)) hit-here ∙ e))
-              ∙ sym (rest-turn d (G .reports) on-file) ∙ ap (λ (z : ℕ). rest z (G .reports)) d-is ∙ G .rest-is
-
-          -- the document is not due
-          pub scanning-passes : dueIn all n found (t .now) ≡ false → Scanning t documents′ values h′ heads′
-          scanning-passes e = settled document (T .standing) (G .reports) (G .kept) (after (G .reports) (quiet-turn (t .now) (G .reports) (threshold-is (G .kept)) d found e))
-
-          module _ (due : dueIn all n found (t .now) ≡ true) where
-            reported : turnOf f32 (callbackOf rule script) (hitIn all n found) d (G .reports) ≡ callbackOf rule script .call d (found .total) (G .reports)
-            reported = due-turn (t .now) (G .reports) (threshold-is (G .kept)) d found due
-
-            -- it is due, and reported
-            pub scanning-reports : (t .reports ≡ rowsOf documents₀ scores₀ → ⊥) → {r : Threshold} {documents″ : List ℕ} {values″ : List Float}
-                → Reported rule script t d (found .total) documents′ values r documents″ values″ → Scanning r documents″ values″ h′ heads′
-            scanning-reports ne′ R =
-                let K = G .kept in
-                settled document (T .standing) (callbackOf rule script .call d (found .total) (G .reports))
-                (one-more K (lt-of-ne (omega (arith, K .written .fit, count-is K)) ne′) R) (after _ reported)
-
-            -- it is due, and every row is full
-            pub scanning-full : t .reports ≡ rowsOf documents₀ scores₀ → PlainRan (scanned scoring file lists n all rule script) documents₀ scores₀ (record { full = true; count = t .reports }) documents′ values
-            scanning-full e =
-                let rs = G .reports in
-                let K = G .kept in
-                let m : N - d ≡ suc (N - suc d) = let l = on-file in omega arith in
-                let w : scan f32 (callbackOf rule script) H (suc (N - suc d)) d rs ≡ scanned scoring file lists n all rule script =
-                ap (λ (k : ℕ). scan f32 (callbackOf rule script) H k d rs) (sym m) ∙ ap (λ (z : ℕ). rest z rs) d-is ∙ G .rest-is in
-                let o = plain-full f32 (ruleOf rule script) (startOf rule) H (N - suc d) d rs (scanned scoring file lists n all rule script) (record { doc = d; score = found .total }) w
-                (ap (λ (o : Option Float). turnOf f32 (callbackOf rule script) o d rs) hit-here ∙ reported) in
-                ran (ap (λ (k : ℕ). limited k (scanned scoring file lists n all rule script)) (sym e ∙ count-is K) ∙ o) (K .written) (count-is K)
+-- a scan that stands still
+pub gone-on : (scoring : Scoring) (file : List ℕ) (lists : List (List ℕ)) (caches : List (List Float)) {h : Held} (p : Plain) → PlainStands scoring file lists caches h p
+    → {t : Float} {turns d taken : ℕ} {h′ : Held} {heads′ : List ℕ} {event : Event} → Standing scoring file lists (p .len) d h′ heads′ → d ≤ TERMINATED
+    → Went (scanTurn (hitsOf scoring file lists (p .len) (p .all))) (leb TERMINATED) t (p .doc) turns taken d event
+    → {r : Gone} → r ≡ goneTo (p .len) (p .all) d taken event → GoneOn scoring file lists caches t turns p h′ r
+gone-on scoring file lists caches p P {t} {turns} {h′ = h′} S c w e =
+    subst (GoneOn scoring file lists caches t turns p h′) (sym e)
+    (record { stands = record { few = P .few; cap = c; weighed = P .weighed; each = at-rest scoring file lists S }; len-is = refl; all-is = refl; went = w })

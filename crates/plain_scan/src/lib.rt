@@ -1,40 +1,36 @@
 // The plain scan: every document that some list has, upward, with the scores of all lists that have it.
-use bm25::Scoring;
-use fieldnorm::FieldNormReader;
-use ordering::TERMINATED;
-use ordering::TermScorer;
-use reports::report;
-use reports::rows;
-use rule::Rule;
-use rule::Threshold;
+use notefile::block::TERMINATED;
+use reports::Event;
+use term_scorer::score::Similarity;
 use term_scorer::score::score;
 use term_scorer::slot;
 ghost use mathlib.Core.Path.{_≡_};
 ghost use Prim.Native.Nat.{_≤_, _<_};
-ghost use lib.ListN.{length};
 ghost use Rattle.arrays.specs.Lent.{before, after};
-ghost use Rattle.route.specs.Plain.{Mode, plain};
-ghost use Rattle.route.specs.F32.{f32};
-ghost use Rattle.rule.specs.Rules.{ruleOf, startOf};
-ghost use Rattle.rule.specs.Inner.Follows.{Keeps};
-ghost use Rattle.notefile.specs.Header as header;
 ghost use Rattle.notefile.specs.Header.{normReader};
-ghost use Rattle.decoded.specs.Lists.{queried};
 ghost use Rattle.term_scorer.specs.Inner.Slots.{held};
 ghost use Rattle.plain_scan.specs.Inner.Found.{dueIn, withScore};
-ghost use Rattle.plain_scan.specs.Inner.Heads.{leastIn, AllWeighed, HeadsOf, ReadyLists, Standing, Taken};
-ghost use Rattle.plain_scan.specs.Inner.Runs.{needsAll, PlainRan, scanned};
+ghost use Rattle.plain_scan.specs.Inner.Heads.{leastIn, AllWeighed, HeadsOf, PlaceRead, Standing, Taken};
+ghost use Rattle.plain_scan.specs.Inner.Turns.{goneTo, GoneOn, PlainStands};
+
+// A plain scan on its way: over the lists of the first slots, from document doc on; whether a document must be in every list.
+pub struct Plain {
+    pub len: usize,
+    pub all: bool,
+    pub doc: u32,
+}
+
+// Where it came to, how many turns it took, each of one document, and why it stands still.
+pub struct Gone {
+    pub plain: Plain,
+    pub taken: usize,
+    pub event: Event,
+}
 
 // What the lists have of a document: how many have it, and the sum of its scores there.
 struct Found {
     matched: usize,
     total: f32,
-}
-
-// What a run leaves beside its rows: whether they were full when a report was due, and how many are written.
-pub struct PlainRun {
-    pub full: bool,
-    pub count: usize,
 }
 
 impl Found {
@@ -74,15 +70,14 @@ impl Found {
 }
 
 // The documents on which the first n scorers stand.
-fn heads_of(scorers: [TermScorer; 16], n: usize) -> [u32; 16]
-    requires { ⌜ n ≤ 16 ⌝ }
-    ensures { λ r. ⌜ HeadsOf scorers n r ⌝ }
+fn heads_of(n: usize, places: &[[usize; 8]; 16], docs: &[[u32; 128]; 16]) -> [u32; 16]
+    requires { ⌜ (n ≤ 16) × PlaceRead (now places) n ⌝ }
+    ensures { λ r. ⌜ HeadsOf (before places) (before docs) n r ⌝ }
 {
     let mut heads = [TERMINATED; 16];
     let mut q = 0usize;
     while q < n {
-        let scorer = scorers[q];
-        heads[q] = scorer.doc;
+        heads[q] = slot::doc(q, places, docs);
         q += 1;
     }
     heads
@@ -108,11 +103,9 @@ fn least(heads: &[u32; 16], n: usize) -> u32
 // What the lists have of document doc, in slot order. Each scorer that stands on it goes on.
 fn take_document(
     file: &[u8],
-    norms: FieldNormReader,
-    weights: &[f32; 16],
-    caches: &[[f32; 256]; 16],
-    scoring: Scoring,
+    similarity: Similarity,
     lists: &[[usize; 8]; 16],
+    caches: &[[f32; 256]; 16],
     n: usize,
     doc: u32,
     heads: &mut [u32; 16],
@@ -121,11 +114,11 @@ fn take_document(
     freqs: &mut [[u32; 128]; 16],
 ) -> Found
     requires { let slots = held (now places) (now docs) (now freqs) in
-        ⌜ (n ≤ 16) × (norms ≡ normReader (now file)) × AllWeighed (now lists) (now weights) (now caches) n
-        × Standing scoring (now file) (now lists) n doc slots (now heads) × (doc < 2147483647) ⌝ }
+        ⌜ (n ≤ 16) × (similarity .norms ≡ normReader (now file)) × AllWeighed (now lists) (now caches) n
+        × Standing (similarity .scoring) (now file) (now lists) n doc slots (now heads) × (doc < 2147483647) ⌝ }
     ensures { λ r.
         let new = held (after places) (after docs) (after freqs) in
-        ⌜ Taken scoring (before file) (before lists) n doc r new (after heads) ⌝ }
+        ⌜ Taken (similarity .scoring) (before file) (before lists) n doc r new (after heads) ⌝ }
 {
     let mut found = Found {
         matched: 0,
@@ -138,11 +131,9 @@ fn take_document(
         if heads[at] == doc {
             let value = score(
                 file,
-                norms,
-                weights,
-                caches,
-                scoring,
+                similarity,
                 lists,
+                caches,
                 at,
                 doc,
                 places,
@@ -156,114 +147,74 @@ fn take_document(
     found
 }
 
-// Documents upward from the least, each reported if it is due, to the lists' end or to a report that has no row.
-fn scan(
+// The scan as it stands still.
+fn stand(len: usize, all: bool, doc: u32, taken: usize, event: Event) -> Gone
+    ensures { λ r. ⌜ r ≡ goneTo len all doc taken event ⌝ }
+{
+    Gone {
+        plain: Plain { len, all, doc },
+        taken,
+        event,
+    }
+}
+
+// Documents upward to the next that is due, to the lists' end, or through so many turns.
+// A turn looks at one document; those before the least on which a scorer stands are in no list.
+pub fn go(
     file: &[u8],
-    norms: FieldNormReader,
-    weights: &[f32; 16],
-    caches: &[[f32; 256]; 16],
-    scoring: Scoring,
+    similarity: Similarity,
+    plain: Plain,
     lists: &[[usize; 8]; 16],
-    n: usize,
-    all: bool,
-    heads: &mut [u32; 16],
+    caches: &[[f32; 256]; 16],
+    threshold: f32,
+    turns: usize,
     places: &mut [[usize; 8]; 16],
     docs: &mut [[u32; 128]; 16],
     freqs: &mut [[u32; 128]; 16],
-    rule: Rule,
-    script: &[f32],
-    documents: &mut [u32],
-    scores: &mut [f32],
-) -> PlainRun
+) -> Gone
     requires { let slots = held (now places) (now docs) (now freqs) in
-        ⌜ (n ≤ 16) × (norms ≡ normReader (now file)) × AllWeighed (now lists) (now weights) (now caches) n
-        × Standing scoring (now file) (now lists) n 0 slots (now heads) × Keeps rule ⌝ }
+        ⌜ (similarity .norms ≡ normReader (now file))
+        × PlainStands (similarity .scoring) (now file) (now lists) (now caches) slots plain ⌝ }
     ensures { λ r.
-        ⌜ PlainRan (scanned scoring (before file) (before lists) n all rule (before script)) (before documents) (before scores)
-        r (after documents) (after scores) ⌝ }
+        let new = held (after places) (after docs) (after freqs) in
+        ⌜ GoneOn (similarity .scoring) (before file) (before lists) (before caches) threshold turns plain new r ⌝ }
 {
-    let room = rows(documents, scores);
-    let mut threshold = Threshold::new(rule);
+    let n = plain.len;
+    let all = plain.all;
+    let mut heads = heads_of(n, places, docs);
+    let mut at = plain.doc;
+    let mut taken = 0usize;
     loop {
-        let doc = least(heads, n);
+        let doc = least(&heads, n);
+        let gap = (doc - at) as usize;
+        if turns - taken < gap {
+            let far = at + ((turns - taken) as u32);
+            return stand(n, all, far, turns, Event::Paused);
+        }
+        taken += gap;
+        at = doc;
         if doc == TERMINATED {
-            return PlainRun {
-                full: false,
-                count: threshold.reports,
-            };
+            return stand(n, all, doc, taken, Event::Over);
+        }
+        if taken == turns {
+            return stand(n, all, doc, taken, Event::Paused);
         }
         let found = take_document(
             file,
-            norms,
-            weights,
-            caches,
-            scoring,
+            similarity,
             lists,
+            caches,
             n,
             doc,
-            heads,
+            &mut heads,
             places,
             docs,
             freqs,
         );
-        if found.due(all, n, threshold.now) {
-            if threshold.reports == room {
-                return PlainRun {
-                    full: true,
-                    count: threshold.reports,
-                };
-            }
-            threshold = report(rule, script, threshold, doc, found.total, documents, scores);
+        taken += 1;
+        at = doc + 1;
+        if found.due(all, n, threshold) {
+            return stand(n, all, at, taken, Event::Report(doc, found.total));
         }
     }
-}
-
-// The plain scan over the lists of a query, which stand in their slots as `open_lists` leaves them.
-pub fn plain_scan(
-    file: &[u8],
-    norms: FieldNormReader,
-    weights: &[f32; 16],
-    caches: &[[f32; 256]; 16],
-    scoring: Scoring,
-    query: &[u32],
-    scorers: [TermScorer; 16],
-    lists: &[[usize; 8]; 16],
-    all: bool,
-    places: &mut [[usize; 8]; 16],
-    docs: &mut [[u32; 128]; 16],
-    freqs: &mut [[u32; 128]; 16],
-    rule: Rule,
-    script: &[f32],
-    documents: &mut [u32],
-    scores: &mut [f32],
-) -> PlainRun
-    requires { let slots = held (now places) (now docs) (now freqs) in
-        ⌜ (length (now query) ≤ 16) × (norms ≡ normReader (now file))
-        × ReadyLists (now file) (now query) (now lists) (now weights) (now caches) slots scorers × Keeps rule ⌝ }
-    ensures { λ r.
-        let named = queried scoring (before file) (before query) in
-        ⌜ ((m : Mode) → needsAll m ≡ all
-        → PlainRan (plain f32 m named (ruleOf rule (before script)) (startOf rule) (header.documents (before file)))
-        (before documents) (before scores) r (after documents) (after scores)) ⌝ }
-{
-    let n = query.len();
-    let mut heads = heads_of(scorers, n);
-    scan(
-        file,
-        norms,
-        weights,
-        caches,
-        scoring,
-        lists,
-        n,
-        all,
-        &mut heads,
-        places,
-        docs,
-        freqs,
-        rule,
-        script,
-        documents,
-        scores,
-    )
 }

@@ -10,19 +10,19 @@ use Rattle.plain_scan.proofs.heads_of.Statement.{statement}
 use Rattle.plain_scan.proofs.heads_of.Tie as tie
 
 abbrev Inv-loop : tie.InvT-loop
-Inv-loop n scorers heads₀ q₀ heads q = HeadsOf scorers q heads × (q ≤ n)
+Inv-loop n places docs heads₀ q₀ heads q = HeadsOf places docs q heads × (q ≤ n)
 
 abbrev μ-loop : tie.MeasureT-loop
-μ-loop n scorers heads₀ q₀ heads q = n - q
+μ-loop n places docs heads₀ q₀ heads q = n - q
 
 loop-holds : tie.Need-loop-holds Inv-loop μ-loop
-loop-holds c = (no-heads _ _ (search needs) (record { blank = λ q h k. getD-replicate 16 q 2147483647 2147483647 k }), omega arith)
+loop-holds c = (no-heads _ _ _ (search needs) (record { blank = λ q h k. getD-replicate 16 q 2147483647 2147483647 k }), omega arith)
 
-mul-scorer : tie.Need-mul-scorer Inv-loop μ-loop
-mul-scorer c = search needs
-
-array-copy-out-scorer : tie.Need-array-copy-out-scorer Inv-loop μ-loop
-array-copy-out-scorer c = search needs
+doc-requires : tie.Need-doc-requires Inv-loop μ-loop
+doc-requires c κs =
+    let l = c .before in
+    let a = l .before in
+    (omega (arith, c .loop-test .taken, a .pre .0), a .pre .1 (l .loop .q) (c .loop-test .taken))
 
 mul-heads : tie.Need-mul-heads Inv-loop μ-loop
 mul-heads c = search needs
@@ -37,26 +37,20 @@ loop-less : tie.Need-loop-less Inv-loop μ-loop
 loop-less c = search needs
 
 loop-again : tie.Need-loop-again Inv-loop μ-loop
-loop-again c = let l = c .before .before in (one-more-head (l .before .args .t1) (l .loop .heads) (l .loop .q) (omega arith) (l .loop .inv .0), omega arith)
+loop-again c =
+    let i = c .before in
+    let l = i .before in
+    let a = l .before in
+    (one-more-head (a .args .places .now) (a .args .docs .now) (l .loop .heads) (l .loop .q) (omega (arith, i .loop-test .taken, a .pre .0)) (l .loop .inv .0) (c .doc .ensures), omega (arith, i .loop-test .taken))
 
 returns : tie.Need-returns Inv-loop μ-loop
 returns c =
     let l = c .before in
-    let e : l .loop .q ≡ l .before .args .n = omega (arith, l .loop .inv .1, c .loop-test .left) in
-    subst (λ (k : ℕ). HeadsOf (l .before .args .t1) k (l .loop .heads)) e (l .loop .inv .0)
+    let a = l .before in
+    let e : l .loop .q ≡ a .args .n = omega (arith, l .loop .inv .1, c .loop-test .left) in
+    subst (λ (k : ℕ). HeadsOf (a .args .places .now) (a .args .docs .now) k (l .loop .heads)) e (l .loop .inv .0)
 
 pub heads-of-spec : {M : Type 1} → statement M
 heads-of-spec =
     tie.close
-    (tie.spec
-    Inv-loop
-    μ-loop
-    loop-holds
-    mul-scorer
-    array-copy-out-scorer
-    mul-heads
-    array-write-heads
-    add-q
-    loop-less
-    loop-again
-    returns)
+    (tie.spec Inv-loop μ-loop loop-holds doc-requires mul-heads array-write-heads add-q loop-less loop-again returns)

@@ -10,10 +10,10 @@ use Rattle.plain_scan.proofs.take_document.Statement.{statement}
 use Rattle.plain_scan.proofs.take_document.Tie as tie
 
 abbrev Inv-loop : tie.InvT-loop
-Inv-loop file norms weights caches scoring lists n doc heads₀ places₀ docs₀ freqs₀ found₀ q₀ heads places docs freqs found q = Taking scoring file lists n doc found (held places docs freqs) heads q
+Inv-loop file similarity lists caches n doc heads₀ places₀ docs₀ freqs₀ found₀ q₀ heads places docs freqs found q = Taking (similarity .scoring) file lists n doc found (held places docs freqs) heads q
 
 abbrev μ-loop : tie.MeasureT-loop
-μ-loop file norms weights caches scoring lists n doc heads₀ places₀ docs₀ freqs₀ found₀ q₀ heads places docs freqs found q = n - q
+μ-loop file similarity lists caches n doc heads₀ places₀ docs₀ freqs₀ found₀ q₀ heads places docs freqs found q = n - q
 
 loop-holds : tie.Need-loop-holds Inv-loop μ-loop
 unfolding ofBits

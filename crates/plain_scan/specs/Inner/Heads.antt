@@ -1,19 +1,15 @@
 -- Where the scorers of a plain scan stand: none has passed a document that is still to be taken.
 use mathlib.Core.Path.{_≡_}
-use mathlib.Core.List.{List}
+use mathlib.Core.List.{List, []}
 use Prim.Native.Nat.{ℕ, zero, suc, min, _≤_, _<_}
-use lib.ListN.{length, getD}
+use lib.ListN.{getD}
 use lib.Ieee.{Float}
 use Rattle.route.specs.Plain.{present}
 use Rattle.route.specs.Inner.Cursors.{Wf, Past}
 use Rattle.bm25.specs.declared.Scoring.{Scoring}
-use Rattle.ordering.specs.Inner.Scorers.{noScorer}
-use Rattle.ordering.specs.declared.TermScorer.{TermScorer}
-use Rattle.notefile.specs.Parts.{partOf}
 use Rattle.postings.specs.Inner.Decoded.{docIn}
 use Rattle.term_scorer.specs.Inner.Slots.{Held, Sixteen, SlotIn, partAt, listAt, cursorAt, listsFrom, Blank}
 use Rattle.term_scorer.specs.Inner.Weights.{Weighed}
-use Rattle.query.specs.Inner.Openings.{OpenSlot}
 use Rattle.plain_scan.specs.Inner.Found.{foundOf}
 use Rattle.plain_scan.specs.declared.Found.{Found}
 
@@ -22,18 +18,29 @@ abbrev pub leastIn : List ℕ → ℕ → ℕ
 leastIn heads zero = 2147483647
 leastIn heads (suc n) = min (leastIn heads n) (getD heads n 0)
 
--- the documents of the first n scorers, and behind them TERMINATED
-pub record HeadsOf (scorers : List TermScorer) (n : ℕ) (heads : List ℕ) : Type 0 where
+-- the first n slots' places in their blocks can be read
+abbrev pub PlaceRead : List (List ℕ) → ℕ → Type 0
+PlaceRead places n = (q : ℕ) → q < n → getD (getD places q []) 6 0 < 128
+
+-- the documents on which the first n scorers stand, and behind them TERMINATED
+pub record HeadsOf (places docs : List (List ℕ)) (n : ℕ) (heads : List ℕ) : Type 0 where
   pub long : Sixteen heads
-  pub are : (q : ℕ) → q < n → getD heads q 0 ≡ getD scorers q noScorer .doc
+  pub are : (q : ℕ) → q < n → getD heads q 0 ≡ getD (getD docs q []) (getD (getD places q []) 6 0) 0
   pub behind : Blank 2147483647 n heads
 
--- each of the first n slots has its list's weight and norms
-abbrev pub AllWeighed : List (List ℕ) → List Float → List (List Float) → ℕ → Type 0
-AllWeighed lists weights caches n = (q : ℕ) → q < n → Weighed lists weights caches q
+-- each of the first n slots has its list's norms
+abbrev pub AllWeighed : List (List ℕ) → List (List Float) → ℕ → Type 0
+AllWeighed lists caches n = (q : ℕ) → q < n → Weighed lists caches q
 
 module _ (scoring : Scoring) (file : List ℕ) (lists : List (List ℕ)) where
-  -- slot q's scorer has passed no document from d on, and stands on one from there on, which its head names
+  -- slot q's scorer has passed no document from d on, and stands on one from there on
+  pub record RestsFrom (d : ℕ) (h : Held) (q : ℕ) : Type 0 where
+    pub slot : SlotIn file lists h q
+    pub wf : Wf 128 (listAt scoring file lists q) (cursorAt (h .places) q)
+    pub past : Past 128 (listAt scoring file lists q) (cursorAt (h .places) q) d
+    pub low : d ≤ docIn file (partAt lists q) (cursorAt (h .places) q .at)
+
+  -- which its head names
   pub record StandsFrom (d : ℕ) (h : Held) (heads : List ℕ) (q : ℕ) : Type 0 where
     pub slot : SlotIn file lists h q
     pub wf : Wf 128 (listAt scoring file lists q) (cursorAt (h .places) q)
@@ -50,9 +57,3 @@ module _ (scoring : Scoring) (file : List ℕ) (lists : List (List ℕ)) where
   pub record Taken (n d : ℕ) (found : Found) (h : Held) (heads : List ℕ) : Type 0 where
     pub found-is : found ≡ foundOf (present d (listsFrom scoring file lists 0 n))
     pub standing : Standing n (suc d) h heads
-
--- the query's lists stand ready in their slots, with their scorers
-pub record ReadyLists (file query : List ℕ) (lists : List (List ℕ)) (weights : List Float) (caches : List (List Float)) (h : Held)
-    (scorers : List TermScorer) : Type 0 where
-  pub slots : (q : ℕ) → q < length query → OpenSlot file lists weights caches h (getD query q 0) q
-  pub docs-are : (q : ℕ) → q < length query → getD scorers q noScorer .doc ≡ docIn file (partOf file (getD query q 0)) 0
