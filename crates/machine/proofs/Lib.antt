@@ -1,0 +1,2 @@
+-- Laws of the machine that belong to no one function.
+pub mod Embeds

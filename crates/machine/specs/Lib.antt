@@ -1,0 +1,2 @@
+-- What the contracts of `machine` cite.
+pub mod Inner

@@ -1,0 +1,4 @@
+// One machine.
+pub struct Thing {
+    pub x: u32,
+}
