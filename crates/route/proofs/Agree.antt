@@ -22,6 +22,7 @@ use Rattle.route.specs.Inner.Rules.{Takes}
 use Rattle.route.specs.Inner.Lists.{ListOk}
 use Rattle.route.specs.Inner.Singles.{SingleKept, singleCost}
 use Rattle.route.specs.Inner.Unions.{UnionKept}
+use Rattle.route.specs.Inner.Intersections.{InterKept}
 use Rattle.route.proofs.Lists.{perm-length}
 use Rattle.route.proofs.Order.{NeverFalls, Ordered}
 use Rattle.route.proofs.Scan.{rest, scan-ext}
@@ -36,7 +37,7 @@ use Rattle.route.proofs.Single.Ends.{single-nears, single-stays}
 use Rattle.route.proofs.Union.Agrees.{one-left, union-agrees}
 use Rattle.route.proofs.Union.Ends.{union-nears, union-stays, unionCost}
 use Rattle.route.proofs.Intersection.Agrees.{intersection-agrees}
-use Rattle.route.proofs.Intersection.Ends.{InterKept, interCost, intersection-nears, intersection-stays}
+use Rattle.route.proofs.Intersection.Ends.{interCost, intersection-nears, intersection-stays}
 
 -- What stepped scoring gives, for sums of at most M values: an order, sums that ignore order, differences that are exact.
 pub record SteppedLaws (O : Ops) (M : ℕ) : Type 1 where

@@ -27,6 +27,7 @@ use Rattle.route.specs.Inner.Lists.{ListOk}
 use Rattle.route.specs.Inner.Loads.{loadsAfter}
 use Rattle.route.specs.Inner.Singles.{SingleKept, singleCost}
 use Rattle.route.specs.Inner.Unions.{UnionKept}
+use Rattle.route.specs.Inner.Intersections.{InterKept}
 use Rattle.route.proofs.Cases.{by-test, on-test}
 use Rattle.route.proofs.Lists.{Perm, all-imp, all-perm, all-zip, p-cons, p-nil, p-swap, p-trans, perm-eq, perm-left, perm-middle, perm-sym}
 use Rattle.route.proofs.Ordering.{bubble-perm, putBack-all, retain-all, rotate-perm, sort-perm, sweep-all}
@@ -34,7 +35,7 @@ use Rattle.route.proofs.Ending.{Nears, Stays}
 use Rattle.route.proofs.Single.Ends.{single-nears, single-stays}
 use Rattle.route.proofs.Union.Pivot.{Shape, ShapeOf, pick-is, shape-is}
 use Rattle.route.proofs.Union.Ends.{union-nears, union-stays, unionCost}
-use Rattle.route.proofs.Intersection.Ends.{InterKept, interCost, intersection-nears, intersection-stays, try-by, window-by}
+use Rattle.route.proofs.Intersection.Ends.{interCost, intersection-nears, intersection-stays, try-by, window-by}
 use Rattle.route.proofs.Agree.{Fresh, by-live, by-one, by-two, live-all}
 
 -- the block that list i has decoded behind these loads, where it had decoded b

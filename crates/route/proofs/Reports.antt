@@ -22,6 +22,7 @@ use Rattle.route.specs.Skipping.{Skips, noRoute, route}
 use Rattle.route.specs.Inner.Lists.{ListOk}
 use Rattle.route.specs.Inner.Singles.{SingleKept, singleCost}
 use Rattle.route.specs.Inner.Unions.{UnionKept}
+use Rattle.route.specs.Inner.Intersections.{InterKept}
 use Rattle.route.proofs.Lists.{all-imp, all-perm, all-zip}
 use Rattle.route.proofs.Scan.{offer-all}
 use Rattle.route.proofs.ListLaws.{Scored}
@@ -34,7 +35,7 @@ use Rattle.route.proofs.Single.Ends.{single-nears, single-stays}
 use Rattle.route.proofs.Single.Onward.{SingleAhead, single-onward}
 use Rattle.route.proofs.Union.Ends.{union-nears, union-stays, unionCost}
 use Rattle.route.proofs.Union.Onward.{UnionAhead, union-onward}
-use Rattle.route.proofs.Intersection.Ends.{InterKept, interCost, intersection-nears, intersection-stays}
+use Rattle.route.proofs.Intersection.Ends.{interCost, intersection-nears, intersection-stays}
 use Rattle.route.proofs.Intersection.Onward.{InterAhead, intersection-onward}
 use Rattle.route.proofs.Agree.{Fresh, by-live, by-one, by-two, fresh-all, live-all}
 

@@ -5,4 +5,5 @@ pub mod Cursors
 pub mod Orders
 pub mod Singles
 pub mod Unions
+pub mod Intersections
 pub mod Loads

@@ -20,7 +20,7 @@ use Rattle.route.specs.Route.{Load, loadsOf, quiet}
 use Rattle.route.specs.Union.{leastLastDoc}
 use Rattle.route.specs.Intersection.{InterPlace, Stage, Tried, allRemain, called, candidatesFrom, candidatesIn, dropped, early, foundTurn, hasRemainingDocs, interBy, isOver, leaderRoute, loadLeader, maxScoreSum, over, pushSec, seekBlockAll, tailOf, tryCandidate, window, windowTurn, within}
 use Rattle.route.specs.Inner.Lists.{ListOk}
-use Rattle.route.specs.Inner.Cursors.{Wf}
+use Rattle.route.specs.Inner.Intersections.{InWindow, InterKept, WfS}
 use Rattle.route.proofs.Cases.{by-test, on-test}
 use Rattle.route.proofs.Lists.{all-perm}
 use Rattle.route.proofs.Places.{docAt-cap, last-cap}
@@ -30,20 +30,16 @@ use Rattle.route.proofs.Union.Pivot.{leastLast-ge, leastLast-le}
 use Rattle.route.proofs.Ending.{Nears}
 
 module _ (B N : ℕ) (O : Ops) where
-  pub record WfS (s : Scorer (O .S)) : Type 0 where
-    pub ok : ListOk B N (s .list)
-    pub wf : Wf B (s .list) (s .cur)
-
   abbrev Ts : Type 0
   Ts = List (Scorer (O .S))
 
-  pub wf-shallow : (d : ℕ) (s : Scorer (O .S)) → d ≤ TERMINATED → WfS s → WfS (seekBlock B d s) × (d ≤ lastDocInBlock B (seekBlock B d s))
+  pub wf-shallow : (d : ℕ) (s : Scorer (O .S)) → d ≤ TERMINATED → (WfS B N O) s → (WfS B N O) (seekBlock B d s) × (d ≤ lastDocInBlock B (seekBlock B d s))
   wf-shallow d s h k = let m = seekBlock-is B N (s .list) (k .ok) d (s .cur) h (k .wf) in (record { ok = k .ok; wf = m .moved .wf }, m .covers)
 
-  wf-seek : (d : ℕ) (s : Scorer (O .S)) → d ≤ TERMINATED → WfS s → WfS (seek B d s)
+  wf-seek : (d : ℕ) (s : Scorer (O .S)) → d ≤ TERMINATED → (WfS B N O) s → (WfS B N O) (seek B d s)
   wf-seek d s h k = record { ok = k .ok; wf = seek-is B N (s .list) (k .ok) d (s .cur) h (k .wf) .moved .wf }
 
-  wf-front : (s : Scorer (O .S)) → WfS s → WfS (loadLeader B s)
+  wf-front : (s : Scorer (O .S)) → (WfS B N O) s → (WfS B N O) (loadLeader B s)
   wf-front s k = record { ok = k .ok; wf = first-wf B N (s .list) (k .ok) (s .cur) (k .wf) }
 
   pub shallow-each : (Q : Scorer (O .S) → Type 0) (d : ℕ) (ss : Ts) → ((s : Scorer (O .S)) → Q s → Q (seekBlock B d s)) → All Q ss
@@ -54,7 +50,7 @@ module _ (B N : ℕ) (O : Ops) where
       by-test (All Q) (hasRemainingDocs B (seekBlock B d s)) (seekBlock B d s ∷ seekBlockAll B d ss) (seekBlock B d s ∷ ss)
       (λ _. (f s (a .0), ih)) (λ _. (f s (a .0), a .1))
 
-  covers-all : (d : ℕ) (ss : Ts) → d ≤ TERMINATED → All WfS ss → allRemain B d ss ≡ true → All (λ s. d ≤ lastDocInBlock B s) (seekBlockAll B d ss)
+  covers-all : (d : ℕ) (ss : Ts) → d ≤ TERMINATED → All (WfS B N O) ss → allRemain B d ss ≡ true → All (λ s. d ≤ lastDocInBlock B s) (seekBlockAll B d ss)
   covers-all d [] h a e = tt
   covers-all d (s ∷ ss) h a e = go (hasRemainingDocs B (seekBlock B d s)) e (covers-all d ss h (a .1))
     where
@@ -65,7 +61,7 @@ module _ (B N : ℕ) (O : Ops) where
       go false e f = absurd (false≢true e)
 
   -- a window ends at its first document or behind it
-  pub window-wide : (d : ℕ) (ld : Scorer (O .S)) (ss : Ts) → d ≤ TERMINATED → All WfS (ld ∷ ss) → allRemain B d ss ≡ true
+  pub window-wide : (d : ℕ) (ld : Scorer (O .S)) (ss : Ts) → d ≤ TERMINATED → All (WfS B N O) (ld ∷ ss) → allRemain B d ss ≡ true
       → d ≤ leastLastDoc B (seekBlock B d ld) (seekBlockAll B d ss)
   window-wide d ld ss h a e = leastLast-ge B d (seekBlock B d ld) (seekBlockAll B d ss) (wf-shallow d ld h (a .0) .1, covers-all d ss h (a .1) e)
 
@@ -158,19 +154,9 @@ module _ (B N : ℕ) (O : Ops) where
   interCost (called cs e bs) d = (2147483648 - d) * row + suc (suc (length cs + length cs))
   interCost over d = 0
 
-  -- in a window d is at most its end e, and the candidates are of one block
-  unfoldable pub InWindow : List (Report (O .S)) → ℕ → ℕ → Scorer (O .S) → Ts → Type 0
-  InWindow cs e d ld ss = All WfS (ld ∷ ss) × (d ≤ e) × (e ≤ TERMINATED) × (length cs ≤ B) × All (λ r. r .doc ≤ TERMINATED) cs
-
-  unfoldable pub InterKept : Stage (O .S) → ℕ → Scorer (O .S) → Ts → Type 0
-  InterKept early d ld ss = All WfS (ld ∷ ss) × (d ≤ 2147483648)
-  InterKept window d ld ss = All WfS (ld ∷ ss) × (d ≤ 2147483648)
-  InterKept (within cs e bs) d ld ss = InWindow cs e d ld ss
-  InterKept (called cs e bs) d ld ss = InWindow cs e d ld ss
-  InterKept over d ld ss = Unit {0}
-
-  Less : ℕ → InterPlace (O .S) → Type 0
-  Less m u = InterKept (u .stage) (u .doc) (u .leader) (u .secs) × (interCost (u .stage) (u .doc) < m)
+  -- a place that is kept, with fewer turns ahead than m
+  unfoldable pub Less : ℕ → InterPlace (O .S) → Type 0
+  Less m u = InterKept B N O (u .stage) (u .doc) (u .leader) (u .secs) × (interCost (u .stage) (u .doc) < m)
 
   rows-le : (a b : ℕ) → a ≤ b → a * row ≤ b * row
   rows-le a b h = mul-le-mul-right row h
@@ -206,7 +192,7 @@ module _ (B N : ℕ) (O : Ops) where
       by-test T (allRemain B d ss) (cond b u-in u-next) u-out (λ h. by-test T b u-in u-next (λ _. cands lv h) (λ _. next lv h)) (λ _. out))
       (λ _. end)
 
-  window-less : (t : O .S) (d : ℕ) (ld : Scorer (O .S)) (ss : Ts) → InterKept window d ld ss → Less (interCost window d) (windowTurn B O t d ld ss)
+  window-less : (t : O .S) (d : ℕ) (ld : Scorer (O .S)) (ss : Ts) → InterKept B N O window d ld ss → Less (interCost window d) (windowTurn B O t d ld ss)
   unfolding Less InterKept InWindow interCost
   window-less t d ld ss (a, cap) =
       let ld′ = seekBlock B d ld in
@@ -228,34 +214,34 @@ module _ (B N : ℕ) (O : Ops) where
       ((moved lv, omega arith), omega (arith, rows-le (2147483649 - suc e) (2147483648 - d) (omega arith))))
       (tt, omega arith) (tt, omega arith)
     where
-      moved : d < TERMINATED → WfS (seekBlock B d ld) × All WfS (seekBlockAll B d ss)
-      moved lv = (wf-shallow d ld (omega arith) (a .0) .0, shallow-each WfS d ss (λ s k. wf-shallow d s (omega arith) k .0) (a .1))
+      moved : d < TERMINATED → (WfS B N O) (seekBlock B d ld) × All (WfS B N O) (seekBlockAll B d ss)
+      moved lv = (wf-shallow d ld (omega arith) (a .0) .0, shallow-each (WfS B N O) d ss (λ s k. wf-shallow d s (omega arith) k .0) (a .1))
 
   found-less : (ls : List Load) (t : O .S) (o : Option (O .S)) (c : ℕ) (cs : List (Report (O .S))) (e : ℕ) (bs : List (O .S)) (d : ℕ) (ld : Scorer (O .S)) (ss : Ts) (m : ℕ)
-      → InWindow cs e d ld ss → interCost (called cs e bs) d < m → Less m (foundTurn B O t o c cs e bs d ld ss ls .next)
+      → InWindow B N O cs e d ld ss → interCost (called cs e bs) d < m → Less m (foundTurn B O t o c cs e bs d ld ss ls .next)
   unfolding Less InterKept interCost
   found-less ls t none c cs e bs d ld ss m k h = (k, omega arith)
   found-less ls t (some x) c cs e bs d ld ss m k h =
-      by-test (λ st. InterKept st d ld ss × (interCost st d < m)) (O .above x t) (called cs e bs) (within cs e bs) (λ _. (k, h))
+      by-test (λ st. InterKept B N O st d ld ss × (interCost st d < m)) (O .above x t) (called cs e bs) (within cs e bs) (λ _. (k, h))
       (λ _. (k, omega arith))
 
-  within-less : (t : O .S) (cs : List (Report (O .S))) (e : ℕ) (bs : List (O .S)) (d : ℕ) (ld : Scorer (O .S)) (ss : Ts) → InWindow cs e d ld ss
+  within-less : (t : O .S) (cs : List (Report (O .S))) (e : ℕ) (bs : List (O .S)) (d : ℕ) (ld : Scorer (O .S)) (ss : Ts) → InWindow B N O cs e d ld ss
       → Less (interCost (within cs e bs) d) (interBy B O (within cs e bs) t d ld ss .next)
   unfolding Less InterKept InWindow interCost
   within-less t [] e bs d ld ss (a, de, ec, ln, docs) = ((a, omega arith), omega (arith, rows-le (2147483649 - suc e) (2147483648 - d) (omega arith)))
   within-less t (c ∷ cs) e bs d ld ss (a, de, ec, ln, docs) =
       let x = tryCandidate B O (c .doc) t (c .score) ss bs in
       found-less (loadsOf ss (x .secs)) t (x .found) (c .doc) cs e bs d ld (x .secs) ((2147483648 - d) * row + suc (suc (length cs) + suc (length cs)))
-      ((a .0, try-each WfS (c .doc) t (c .score) ss bs (λ s k. wf-seek (c .doc) s (docs .0) k) (a .1)), de, ec, omega arith, docs .1) (omega arith)
+      ((a .0, try-each (WfS B N O) (c .doc) t (c .score) ss bs (λ s k. wf-seek (c .doc) s (docs .0) k) (a .1)), de, ec, omega arith, docs .1) (omega arith)
 
   -- a stage that may end
-  or-over : (b : Bool) (st : Stage (O .S)) (d m : ℕ) (ld : Scorer (O .S)) (ss : Ts) → InterKept st d ld ss → interCost st d < m
-      → InterKept (cond b st over) d ld ss × (interCost (cond b st over) d < m)
+  or-over : (b : Bool) (st : Stage (O .S)) (d m : ℕ) (ld : Scorer (O .S)) (ss : Ts) → InterKept B N O st d ld ss → interCost st d < m
+      → InterKept B N O (cond b st over) d ld ss × (interCost (cond b st over) d < m)
   unfolding InterKept interCost
   or-over true st d m ld ss k h = (k, h)
   or-over false st d m ld ss k h = (tt, omega arith)
 
-  turn-less : (t : O .S) (st : Stage (O .S)) (d : ℕ) (ld : Scorer (O .S)) (ss : Ts) → isOver st ≡ false → InterKept st d ld ss
+  pub turn-less : (t : O .S) (st : Stage (O .S)) (d : ℕ) (ld : Scorer (O .S)) (ss : Ts) → isOver st ≡ false → InterKept B N O st d ld ss
       → Less (interCost st d) (interBy B O st t d ld ss .next)
   unfolding Less InterKept interCost
   turn-less t early d ld ss e k = or-over (O .above (maxScoreSum O ld ss) t) window d (suc ((2147483649 - d) * row)) ld ss k (omega arith)
@@ -266,17 +252,17 @@ module _ (B N : ℕ) (O : Ops) where
       (omega arith)
   turn-less t over d ld ss e k = absurd (true≢false e)
 
-  fresh-wf : (n : ℕ) (ls : List (Postings (O .S))) → All (ListOk B N) ls → All WfS (scorersFrom n ls)
+  fresh-wf : (n : ℕ) (ls : List (Postings (O .S))) → All (ListOk B N) ls → All (WfS B N O) (scorersFrom n ls)
   fresh-wf n [] a = tt
   fresh-wf n (l ∷ ls) a = (record { ok = a .0; wf = fresh-is B N l (a .0) .0 }, fresh-wf (suc n) ls (a .1))
 
   -- for both scorings: the route ends
   pub intersection-nears : (q : List (Postings (O .S))) → All (ListOk B N) q → (ld : Scorer (O .S)) (ss : Ts)
       → sortBy sizeHint (scorersFrom 0 q) ≡ ld ∷ ss
-      → Nears (leaderRoute B O ld ss) (λ u. InterKept (u .stage) (u .doc) (u .leader) (u .secs)) (λ u. interCost (u .stage) (u .doc))
+      → Nears (leaderRoute B O ld ss) (λ u. InterKept B N O (u .stage) (u .doc) (u .leader) (u .secs)) (λ u. interCost (u .stage) (u .doc))
   unfolding Less InterKept
   intersection-nears q ok ld ss e =
-      let a : All WfS (ld ∷ ss) = subst (All WfS) e (all-perm WfS (sort-perm sizeHint (scorersFrom 0 q)) (fresh-wf 0 q ok)) in
+      let a : All (WfS B N O) (ld ∷ ss) = subst (All (WfS B N O)) e (all-perm (WfS B N O) (sort-perm sizeHint (scorersFrom 0 q)) (fresh-wf 0 q ok)) in
       record {
         begins = (a, omega (arith, docAt-cap B N (ld .list) (a .0 .ok) (ld .cur .at)));
         nears = λ t u n k. turn-less t (u .stage) (u .doc) (u .leader) (u .secs) n k;

@@ -15,13 +15,14 @@ use Rattle.route.specs.Union.{leastLastDoc}
 use Rattle.route.specs.Route.{Load, loadsOf}
 use Rattle.route.specs.Intersection.{InterPlace, Stage, Tried, called, candidatesFrom, candidatesIn, early, foundTurn, interBy, isOver, leaderRoute, maxScoreSum, over, seekBlockAll, tailOf, tryCandidate, window, windowTurn, within}
 use Rattle.route.specs.Inner.Lists.{ListOk}
+use Rattle.route.specs.Inner.Intersections.{InWindow, InterKept, WfS}
 use Rattle.route.proofs.Cases.{by-test}
 use Rattle.route.proofs.ListLaws.{Scored}
 use Rattle.route.proofs.Places.{docAt-in, docAt-lt}
 use Rattle.route.proofs.Cursor.{block-hits, find-below}
 use Rattle.route.proofs.Onward.{Goes, HasOf, Onward, Summed, Upward, due-goes, upward-from}
 use Rattle.route.proofs.Union.Pivot.{leastLast-le}
-use Rattle.route.proofs.Intersection.Ends.{InWindow, InterKept, WfS, cands-by, cands-each, shallow-each, try-by, try-each, wf-shallow, window-by, window-wide}
+use Rattle.route.proofs.Intersection.Ends.{cands-by, cands-each, shallow-each, try-by, try-each, wf-shallow, window-by, window-wide}
 
 module _ (B N : ℕ) (O : Ops) (P : O .S → Type 0) where
   abbrev Ts : Type 0
