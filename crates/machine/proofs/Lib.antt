@@ -1,2 +1,3 @@
 -- Laws of the machine that belong to no one function.
 pub mod Embeds
+pub mod Nearing
