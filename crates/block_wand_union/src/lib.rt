@@ -244,13 +244,14 @@ pub fn go(
     );
     let left = walked.scorers;
     keep_order(left, order);
-    let next = Union {
-        len: left.len,
-        stage: walked.stage,
-    };
+    let stage = walked.stage;
+    let event = walked.event;
     Gone {
-        union: next,
+        union: Union {
+            len: left.len,
+            stage,
+        },
         taken: walked.taken,
-        event: walked.event,
+        event,
     }
 }

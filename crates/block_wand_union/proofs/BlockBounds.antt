@@ -1,0 +1,107 @@
+-- `seek_blocks`' loop: one skip reader after the other seeks the pivot, and its block's bound is added.
+use mathlib.Core.List.{List, map, [], _++_, _∷_}
+use mathlib.Core.Path.{ap, refl, subst, sym, _∙_, _≡_}
+use Prim.Native.Nat.{ℕ, _+_, _<_, _≤_}
+use native.Mathlib.Numerals.{add-one}
+use native.Mathlib.Omega.{arith}
+use lib.ListN.{getD, length, length-set, length-take, take}
+use lib.Seq.{drop-cons, getD-take, set-getD, take-suc}
+use lib.Ieee.{Float}
+use Rattle.route.specs.Lists.{All}
+use Rattle.route.specs.Score.{sumFrom}
+use Rattle.route.specs.Cursor.{Cursor, seekBlockIn}
+use Rattle.route.specs.F32.{f32}
+use Rattle.route.specs.Scorer.{Scorer, blockMaxScore, seekBlock}
+use Rattle.bm25.specs.declared.Scoring.{Scoring}
+use Rattle.ordering.specs.Inner.Scorers.{Apart, noScorer, Moving}
+use Rattle.ordering.specs.declared.TermScorer.{TermScorer}
+use Rattle.ordering.proofs.Places.{all-at, map-append}
+use Rattle.ordering.proofs.Turns.{replaced-all}
+use Rattle.ordering.proofs.Moving.{moves-on-doc, moving}
+use Rattle.term_scorer.specs.Inner.Slots.{cursorAt, held, listAt, Shallowed}
+use Rattle.term_scorer.specs.Inner.Weights.{Bounded, FloatRow}
+use Rattle.block_wand_union.specs.Inner.Seats.{Seat, Terms, scorerAt, terms}
+use Rattle.block_wand_union.specs.Inner.Moves.{BlocksSought}
+use Rattle.block_wand_union.proofs.Seats.{bound-here, bounded-seat, other-scorers, other-seat, shallow-scorer}
+
+-- one value more
+pub sum-snoc : (xs : List Float) (acc x : Float) → sumFrom f32 acc (xs ++ (x ∷ [])) ≡ f32 .add (sumFrom f32 acc xs) x
+sum-snoc [] acc x = refl
+sum-snoc (y ∷ ys) acc x = sum-snoc ys (f32 .add acc y) x
+
+module _ (file : List ℕ) (lists : List (List ℕ)) (T : Terms) (places docs freqs : List (List ℕ)) (doc : ℕ) (l : List TermScorer) where
+  abbrev f : TermScorer → Scorer Float
+  f = scorerAt file lists (T .scoring) places
+
+  abbrev with : List Float → Terms
+  with bounds = terms (T .scoring) (T .caches) bounds
+
+  -- the first i have sought, and the bounds of their blocks are added up
+  pub record Bounding (i : ℕ) (places′ : List (List ℕ)) (bounds′ : List Float) (sum : Float) : Type 0 where
+    pub seats : All (Seat file lists (with bounds′) (held places′ docs freqs)) l
+    pub moved : Moving (seekBlock 128 doc) f l i (scorerAt file lists (T .scoring) places′) l
+    pub sum-is : sum ≡ sumFrom f32 (f32 .nil) (map (blockMaxScore 128 f32) (map (seekBlock 128 doc) (map f (take i l))))
+    pub row : FloatRow bounds′
+
+  pub bounding : All (Seat file lists T (held places docs freqs)) l → FloatRow (T .bounds) → Bounding 0 places (T .bounds) (f32 .nil)
+  bounding a n = record { seats = a; moved = moving (seekBlock 128 doc) f l; sum-is = refl; row = n }
+
+  module _ {i : ℕ} {places′ : List (List ℕ)} {bounds′ : List Float} {sum : Float} (S : Bounding i places′ bounds′ sum) where
+    seat-at : (inside : i < length l) → Seat file lists (with bounds′) (held places′ docs freqs) (getD l i noScorer)
+    seat-at inside = all-at (Seat file lists (with bounds′) (held places′ docs freqs)) l i noScorer inside (S .seats)
+
+    pub bounds-next : i < length l → Apart l → (s : TermScorer) → getD l i noScorer ≡ s → {places₁ places₂ : List (List ℕ)} {bounds₂ : List Float} {r : Float}
+        → Shallowed file lists (s .slot) (λ k. seekBlockIn (listAt k file lists (s .slot)) 128 doc (cursorAt places′ (s .slot))) places′ places₁
+        → Bounded (T .scoring) file lists (s .slot) places₁ bounds′ places₂ bounds₂ r → Bounding (i + 1) places₂ bounds₂ (f32 .add sum r)
+    bounds-next inside apart s e {places₁} {places₂} {bounds₂} {r} M₀ B₀ =
+        let x = getD l i noScorer in
+        let q = x .slot in
+        let to : Scoring → Cursor = λ k. seekBlockIn (listAt k file lists q) 128 doc (cursorAt places′ q) in
+        let M : Shallowed file lists q to places′ places₁ =
+        subst (λ (z : TermScorer). Shallowed file lists (z .slot) (λ k. seekBlockIn (listAt k file lists (z .slot)) 128 doc (cursorAt places′ (z .slot))) places′ places₁) (sym e) M₀ in
+        let B : Bounded (T .scoring) file lists q places₁ bounds′ places₂ bounds₂ r = subst (λ (z : TermScorer). Bounded (T .scoring) file lists (z .slot) places₁ bounds′ places₂ bounds₂ r) (sym e) B₀ in
+        let X = seat-at inside in
+        let g = scorerAt file lists (T .scoring) places′ in
+        let here : g x ≡ f x = rw (drop-cons l i noScorer inside) at (S .moved .same) .0 in
+        let sought : Scorer Float = seekBlock 128 doc (f x) in
+        record {
+          seats = rw (set-getD l i noScorer) at
+              (replaced-all l i x inside apart (Seat file lists (with bounds′) (held places′ docs freqs)) (Seat file lists (with bounds₂) (held places₂ docs freqs))
+              (other-seat file lists x docs freqs M (with bounds′) B X (S .row)) (bounded-seat file lists x docs freqs M (with bounds′) B X (S .row)) (S .seats));
+          moved = moves-on-doc (seekBlock 128 doc) f l (S .moved) (scorerAt file lists (T .scoring) places₂) inside apart
+              (other-scorers file lists x docs freqs M (with bounds′) B X (S .row)) (shallow-scorer file lists x docs freqs M (with bounds′) B X (S .row));
+          sum-is =
+              ap (λ (z : Float). f32 .add z r) (S .sum-is) ∙ ap (f32 .add (sumFrom f32 (f32 .nil) (map (blockMaxScore 128 f32) (map (seekBlock 128 doc) (map f (take i l))))))
+              (bound-here file lists x docs freqs M (with bounds′) B X (S .row) ∙ ap (λ (z : Scorer Float). blockMaxScore 128 f32 (seekBlock 128 doc z)) here)
+              ∙ sym (sum-snoc (map (blockMaxScore 128 f32) (map (seekBlock 128 doc) (map f (take i l)))) (f32 .nil) (blockMaxScore 128 f32 sought))
+              ∙ sym (rw (
+                add-one,
+                take-suc l i noScorer inside,
+                map-append f (take i l) (x ∷ []),
+                map-append (seekBlock 128 doc) (map f (take i l)) (f x ∷ []),
+                map-append (blockMaxScore 128 f32) (map (seekBlock 128 doc) (map f (take i l))) (sought ∷ []),
+              ));
+          row = ap length (B .bounds-are) ∙ length-set bounds′ q r ∙ S .row;
+        }
+
+    pub bounded : (len : ℕ) → i ≡ len → BlocksSought file lists T (held places docs freqs) doc len (held places′ docs freqs) bounds′ sum l
+    bounded len e = record {
+      seats = S .seats;
+      moving = rw e at (S .moved);
+      sum-is = S .sum-is ∙ ap (λ z. sumFrom f32 (f32 .nil) (map (blockMaxScore 128 f32) z)) (sym (S .moved .front)) ∙ rw e;
+      row = S .row;
+    }
+
+-- the scorer at place i, by the array
+pub seat-of : (file : List ℕ) (lists : List (List ℕ)) (T : Terms) (places docs freqs : List (List ℕ)) (doc len : ℕ) (ss : List TermScorer) {i : ℕ} {places′ : List (List ℕ)} {bounds′ : List Float} {sum : Float}
+    → Bounding file lists T places docs freqs doc (take len ss) i places′ bounds′ sum → i < len → len ≤ length ss
+    → Seat file lists (terms (T .scoring) (T .caches) bounds′) (held places′ docs freqs) (getD ss i noScorer)
+seat-of file lists T places docs freqs doc len ss {i} S h k =
+    rw (getD-take len ss i noScorer h) at (seat-at file lists T places docs freqs doc (take len ss) S (omega (arith, length-take len ss)))
+
+-- a list that begins with the first scorers has the same one at place i
+pub first-same : (len : ℕ) (l ss : List TermScorer) (i : ℕ) → take len l ≡ take len ss → i < len → len ≤ length ss → (i < length l) × (getD l i noScorer ≡ getD ss i noScorer)
+first-same len l ss i e h k = (
+  omega (arith, ap length e, length-take len l, length-take len ss),
+  sym (getD-take len l i noScorer h) ∙ ap (λ z. getD z i noScorer) e ∙ getD-take len ss i noScorer h,
+)

@@ -1,0 +1,299 @@
+-- A move of one slot's scorer, seen from all the scorers of a union: the others stand as before, and the route's scorers with them.
+use mathlib.Core.List.{List, [], _∷_}
+use mathlib.Core.Path.{ap, refl, sym, _∙_, _≡_}
+use Prim.Native.Nat.{ℕ, _≤_, _<_}
+use native.Mathlib.Omega.{arith}
+use lib.ListN.{drop, getD, length, length-set, set, take, take-append-drop}
+use lib.Seq.{getD-set-other, getD-set-same, set-getD, take-take}
+use lib.Ieee.{Float, nan}
+use Rattle.route.specs.Lists.{All}
+use Rattle.route.specs.Postings.{Postings}
+use Rattle.route.specs.Cursor.{Cursor, blockMax}
+use Rattle.route.specs.F32.{f32}
+use Rattle.route.specs.Scorer.{onCur}
+use Rattle.route.proofs.Lists.{perm-eq}
+use Rattle.bm25.specs.declared.Scoring.{Scoring}
+use Rattle.ordering.specs.Inner.Scorers.{Apart, noScorer}
+use Rattle.ordering.specs.declared.TermScorer.{TermScorer}
+use Rattle.ordering.proofs.Kept.{Kept, Off, kept-all, kept-apart, slots-all, slots-apart}
+use Rattle.ordering.proofs.OnRoute.{Fair, SameDoc}
+use Rattle.ordering.proofs.Places.{all-at, all-take}
+use Rattle.ordering.proofs.Turns.{SameOff, replaced-all, replaced-slots}
+use Rattle.notefile.specs.declared.part.Part.{Part}
+use Rattle.postings.specs.Inner.Decoded.{docIn, doc-is}
+use Rattle.postings.specs.Inner.Reader.{readerAt}
+use Rattle.slot_rows.specs.Inner.Rows.{cursorIn, placeRow, PlaceIn, postingsIn}
+use Rattle.term_scorer.specs.Inner.Slots.{cursorAt, held, Held, listAt, partAt, MovedSlot, Shallowed, Sixteen, StandingIn}
+use Rattle.term_scorer.specs.Inner.Weights.{Bounded, FloatRow, Weighed}
+use Rattle.block_wand_union.specs.Inner.Seats.{Carried, MaxScoreAt, Seat, Stand, Terms, WeighedAt, scorerAt, terms}
+
+-- ---- rows
+
+-- a slot's rows are as they were
+pub record SameRows (h h′ : Held) (q : ℕ) : Type 0 where
+  pub places : getD (h′ .places) q [] ≡ getD (h .places) q []
+  pub docs : getD (h′ .docs) q [] ≡ getD (h .docs) q []
+  pub freqs : getD (h′ .freqs) q [] ≡ getD (h .freqs) q []
+
+row-off : {A : Type 0} (xs ys : List (List A)) (q r : ℕ) → ys ≡ set xs q (getD ys q []) → (r ≡ q → ⊥) → getD ys r [] ≡ getD xs r []
+row-off xs ys q r e n = ap (λ z. getD z r []) e ∙ getD-set-other xs q r (getD ys q []) [] n
+
+still-sixteen : {A : Type 0} (xs ys : List A) (q : ℕ) (y : A) → ys ≡ set xs q y → Sixteen xs → Sixteen ys
+still-sixteen xs ys q y e h = ap length e ∙ length-set xs q y ∙ h
+
+abbrev AllSixteen : Held → Type 0
+AllSixteen h = Sixteen (h .places) × Sixteen (h .docs) × Sixteen (h .freqs)
+
+-- a bound is that of the skip reader's block, loaded or not
+same-bound : (l : Postings Float) (c c′ : Cursor) → c′ .blk ≡ c .blk → c′ .loaded ≡ c .loaded → blockMax 128 f32 l c ≡ blockMax 128 f32 l c′
+same-bound l c c′ b k = rw (b, k)
+
+-- whether the bound is known changes nothing of a place
+known-cursor : (file : List ℕ) (x : Part) (row docs freqs : List ℕ) (flag : ℕ) → PlaceIn file x row docs freqs → cursorIn (set row 7 flag) ≡ cursorIn row
+unfolding cursorIn
+known-cursor file x row docs freqs flag P =
+    let p = postingsIn file x row in
+    let e = P .standing .row-is in
+    ap (λ (z : List ℕ). cursorIn (set z 7 flag)) e ∙ sym (ap cursorIn e)
+
+known-row : (file : List ℕ) (x : Part) (row docs freqs : List ℕ) (flag : ℕ) → PlaceIn file x row docs freqs → PlaceIn file x (set row 7 flag) docs freqs
+unfolding postingsIn readerAt
+known-row file x row docs freqs flag P =
+    let p = postingsIn file x row in
+    let e = P .standing .row-is in
+    let s : set row 7 flag ≡ placeRow p flag = ap (λ (z : List ℕ). set z 7 flag) e in
+    let back : postingsIn file x (placeRow p flag) ≡ p = sym (ap (postingsIn file x) e) in
+    rw s (record {
+      standing = record { row-is = ap (λ q. placeRow q flag) (sym back); narrow = rw back (P .standing .narrow); low = P .standing .low };
+      placed = rw back (P .placed);
+    })
+
+-- of the first n, the first len
+pub first-of : (P : TermScorer → Type 0) (n len : ℕ) (l : List TermScorer) → len ≤ n → All P (take n l) → All P (take len l)
+first-of P n len l h a = rw (take-take len n l h) at (all-take P len (take n l) a)
+
+pub first-apart : (n len : ℕ) (l : List TermScorer) → len ≤ n → Apart (take n l) → Apart (take len l)
+first-apart n len l h a =
+    rw (take-take len n l h) at
+    (kept-apart {xs = take n l} {ys = take len (take n l)} (record { left-out = drop len (take n l); perm = perm-eq (sym (take-append-drop len (take n l))) }) a)
+
+module _ (file : List ℕ) (lists : List (List ℕ)) where
+  -- ---- scorers whose rows stay
+
+  stand-same : (h h′ : Held) (s : TermScorer) → AllSixteen h′ → SameRows h h′ (s .slot) → Stand file lists h s → Stand file lists h′ s
+  stand-same h h′ s n R S = record {
+    slot-in = S .slot-in;
+    slot = record { sixteen = n; part-row = S .slot .part-row; list = S .slot .list; place = rw (R .places, R .docs, R .freqs) (S .slot .place) };
+    doc-is = S .doc-is ∙ ap (λ (row : List ℕ). docIn file (partAt lists (s .slot)) (cursorIn row .at)) (sym (R .places));
+  }
+
+  seat-same : (T : Terms) (bounds′ : List Float) (h h′ : Held) (s : TermScorer) → AllSixteen h′ → SameRows h h′ (s .slot)
+      → getD bounds′ (s .slot) nan ≡ getD (T .bounds) (s .slot) nan → Seat file lists T h s
+      → Seat file lists (terms (T .scoring) (T .caches) bounds′) h′ s
+  seat-same T bounds′ h h′ s n R e S = record {
+    stand = stand-same h h′ s n R (S .stand);
+    weighed = S .weighed;
+    bound = λ k.
+        e ∙ S .bound (sym (ap (λ (row : List ℕ). getD row 7 0) (R .places)) ∙ k)
+        ∙ ap (λ (row : List ℕ). blockMax 128 f32 (listAt (T .scoring) file lists (s .slot)) (cursorIn row)) (sym (R .places));
+    max-is = S .max-is;
+  }
+
+  -- ---- the scorer that moves
+
+  module _ {q : ℕ} {to : Scoring → Cursor} {h h′ : Held} {doc : ℕ} (M : MovedSlot file lists q to h h′ doc) where
+    others-rows : (r : ℕ) → (r ≡ q → ⊥) → SameRows h h′ r
+    others-rows r n = record {
+      places = row-off (h .places) (h′ .places) q r (M .places-only) n;
+      docs = row-off (h .docs) (h′ .docs) q r (M .docs-only) n;
+      freqs = row-off (h .freqs) (h′ .freqs) q r (M .freqs-only) n;
+    }
+
+    moved-sixteen : AllSixteen h → AllSixteen h′
+    moved-sixteen (p, d, f) = (
+      still-sixteen (h .places) (h′ .places) q (getD (h′ .places) q []) (M .places-only) p,
+      still-sixteen (h .docs) (h′ .docs) q (getD (h′ .docs) q []) (M .docs-only) d,
+      still-sixteen (h .freqs) (h′ .freqs) q (getD (h′ .freqs) q []) (M .freqs-only) f,
+    )
+
+    pub same-off : (scoring : Scoring) → SameOff q (scorerAt file lists scoring (h .places)) (scorerAt file lists scoring (h′ .places))
+    same-off scoring s o =
+        ap (λ (row : List ℕ). record { ord = s .slot; list = listAt scoring file lists (s .slot); cur = cursorIn row }) (others-rows (s .slot) o .places)
+
+  module _ (s : TermScorer) {to : Scoring → Cursor} {h h′ : Held} {doc : ℕ} (M : MovedSlot file lists (s .slot) to h h′ doc) where
+    abbrev s′ : TermScorer
+    s′ = record { doc = doc; «max_score» = s .«max_score»; slot = s .slot }
+
+    pub moved-stand : Stand file lists h s → Stand file lists h′ s′
+    moved-stand S = record {
+      slot-in = S .slot-in;
+      slot = record { sixteen = moved-sixteen M (S .slot .sixteen); part-row = S .slot .part-row; list = S .slot .list; place = M .moved .place };
+      doc-is = M .moved .doc-is;
+    }
+
+    moved-seat : (T : Terms) → Seat file lists T h s → Seat file lists T h′ s′
+    moved-seat T S = record {
+      stand = moved-stand (S .stand);
+      weighed = S .weighed;
+      bound = λ k.
+          let w = M .moved .bound-is k in
+          S .bound (w .0) ∙ same-bound (listAt (T .scoring) file lists (s .slot)) (cursorAt (h .places) (s .slot)) (cursorAt (h′ .places) (s .slot)) (w .1) (w .2);
+      max-is = S .max-is;
+    }
+
+    -- the route's scorer has moved
+    pub scorer-is : (scoring : Scoring) → scorerAt file lists scoring (h′ .places) s′ ≡ onCur (scorerAt file lists scoring (h .places) s) (to scoring)
+    scorer-is scoring = ap (λ (c : Cursor). record { ord = s .slot; list = listAt scoring file lists (s .slot); cur = c }) (M .moved .cursor-is scoring)
+
+  -- a scorer stands on its document, as the route's does
+  pub same-doc : (scoring : Scoring) (h : Held) (s : TermScorer) → Stand file lists h s → SameDoc (scorerAt file lists scoring (h .places)) s
+  same-doc scoring h s S = doc-is file (partAt lists (s .slot)) scoring (cursorAt (h .places) (s .slot) .at) ∙ sym (S .doc-is)
+
+  -- where its skip reader stands
+  pub standing-in : (h : Held) (s : TermScorer) → Stand file lists h s → StandingIn file lists (h .places) (s .slot)
+  standing-in h s S = record { sixteen = S .slot .sixteen .0; part-row = S .slot .part-row; list = S .slot .list; standing = S .slot .place .standing }
+
+  -- ---- the scorer whose skip reader moves, and whose bound is then known
+
+  module _ (s : TermScorer) (docs freqs : List (List ℕ)) {to : Scoring → Cursor} {places places₁ : List (List ℕ)}
+      (M : Shallowed file lists (s .slot) to places places₁) where
+    -- the decoded block stays
+    shallow-moved : Stand file lists (held places docs freqs) s
+        → MovedSlot file lists (s .slot) to (held places docs freqs) (held places₁ docs freqs) (docIn file (partAt lists (s .slot)) (cursorAt places (s .slot) .at))
+    shallow-moved S = record {
+      places-only = M .only;
+      docs-only = sym (set-getD docs (s .slot) []);
+      freqs-only = sym (set-getD freqs (s .slot) []);
+      moved = M .moved (getD docs (s .slot) []) (getD freqs (s .slot) []) (S .slot .place);
+    }
+
+    pub shallow-seat : (T : Terms) → Seat file lists T (held places docs freqs) s → Seat file lists T (held places₁ docs freqs) s
+    shallow-seat T S =
+        let N = shallow-moved (S .stand) in
+        let Z = moved-seat s N T S in
+        record {
+          stand = record { slot-in = S .stand .slot-in; slot = Z .stand .slot; doc-is = S .stand .doc-is ∙ N .moved .doc-is };
+          weighed = S .weighed;
+          bound = Z .bound;
+          max-is = S .max-is;
+        }
+
+    module _ (T : Terms) {places₂ : List (List ℕ)} {bounds₂ : List Float} {r : Float} (B : Bounded (T .scoring) file lists (s .slot) places₁ (T .bounds) places₂ bounds₂ r)
+        (S : Seat file lists T (held places docs freqs) s) (n : FloatRow (T .bounds)) where
+      abbrev row₁ : List ℕ
+      row₁ = getD places₁ (s .slot) []
+
+      place₁ : PlaceIn file (partAt lists (s .slot)) row₁ (getD docs (s .slot) []) (getD freqs (s .slot) [])
+      place₁ = shallow-seat T S .stand .slot .place
+
+      row₂ : getD places₂ (s .slot) [] ≡ set row₁ 7 (B .flag)
+      row₂ =
+          let l = shallow-seat T S .stand .slot .sixteen .0 in
+          let h = S .stand .slot-in in
+          ap (λ (z : List (List ℕ)). getD z (s .slot) []) (B .places-are) ∙ getD-set-same places₁ (s .slot) (set row₁ 7 (B .flag)) [] (omega arith)
+
+      cursor₂ : cursorAt places₂ (s .slot) ≡ cursorAt places₁ (s .slot)
+      cursor₂ = ap cursorIn row₂ ∙ known-cursor file (partAt lists (s .slot)) row₁ (getD docs (s .slot) []) (getD freqs (s .slot) []) (B .flag) place₁
+
+      sixteen₂ : AllSixteen (held places₂ docs freqs)
+      sixteen₂ =
+          let l = shallow-seat T S .stand .slot .sixteen in
+          (still-sixteen places₁ places₂ (s .slot) (set row₁ 7 (B .flag)) (B .places-are) (l .0), l .1, l .2)
+
+      pub bounded-seat : Seat file lists (terms (T .scoring) (T .caches) bounds₂) (held places₂ docs freqs) s
+      bounded-seat =
+          let Z = shallow-seat T S in
+          let h = Z .stand .slot-in in
+          record {
+            stand = record {
+              slot-in = Z .stand .slot-in;
+              slot = record {
+                sixteen = sixteen₂;
+                part-row = Z .stand .slot .part-row;
+                list = Z .stand .slot .list;
+                place = rw row₂ (known-row file (partAt lists (s .slot)) row₁ (getD docs (s .slot) []) (getD freqs (s .slot) []) (B .flag) place₁);
+              };
+              doc-is = Z .stand .doc-is ∙ ap (λ (c : Cursor). docIn file (partAt lists (s .slot)) (c .at)) (sym cursor₂);
+            };
+            weighed = Z .weighed;
+            bound = λ _.
+                ap (λ (z : List Float). getD z (s .slot) nan) (B .bounds-are) ∙ getD-set-same (T .bounds) (s .slot) r nan (omega arith) ∙ B .bound-is
+                ∙ ap (blockMax 128 f32 (listAt (T .scoring) file lists (s .slot))) (sym cursor₂);
+            max-is = Z .max-is;
+          }
+
+      -- the other slots
+      other-rows : (z : ℕ) → (z ≡ (s .slot) → ⊥) → SameRows (held places docs freqs) (held places₂ docs freqs) z
+      other-rows z o = record {
+        places = ap (λ (y : List (List ℕ)). getD y z []) (B .places-are) ∙ getD-set-other places₁ (s .slot) z (set row₁ 7 (B .flag)) [] o ∙ row-off places places₁ (s .slot) z (M .only) o;
+        docs = refl;
+        freqs = refl;
+      }
+
+      pub other-seat : (z : TermScorer) → Off (s .slot) z → Seat file lists T (held places docs freqs) z → Seat file lists (terms (T .scoring) (T .caches) bounds₂) (held places₂ docs freqs) z
+      other-seat z o R =
+          seat-same T bounds₂ (held places docs freqs) (held places₂ docs freqs) z sixteen₂ (other-rows (z .slot) o)
+          (ap (λ (y : List Float). getD y (z .slot) nan) (B .bounds-are) ∙ getD-set-other (T .bounds) (s .slot) (z .slot) r nan o) R
+
+      pub other-scorers : SameOff (s .slot) (scorerAt file lists (T .scoring) places) (scorerAt file lists (T .scoring) places₂)
+      other-scorers z o =
+          ap (λ (row : List ℕ). record { ord = z .slot; list = listAt (T .scoring) file lists (z .slot); cur = cursorIn row }) (other-rows (z .slot) o .places)
+
+      -- the route's scorer has sought, and the bound is its block's
+      pub shallow-scorer : scorerAt file lists (T .scoring) places₂ s ≡ onCur (scorerAt file lists (T .scoring) places s) (to (T .scoring))
+      shallow-scorer =
+          ap (λ (c : Cursor). record { ord = (s .slot); list = listAt (T .scoring) file lists (s .slot); cur = c })
+          (cursor₂ ∙ shallow-moved (S .stand) .moved .cursor-is (T .scoring))
+
+      pub bound-here : r ≡ blockMax 128 f32 (listAt (T .scoring) file lists (s .slot)) (to (T .scoring))
+      bound-here = B .bound-is ∙ ap (blockMax 128 f32 (listAt (T .scoring) file lists (s .slot))) (shallow-moved (S .stand) .moved .cursor-is (T .scoring))
+
+  -- ---- all scorers
+
+  -- on their documents, with their list bounds
+  pub fair : (scoring : Scoring) (h : Held) (l : List TermScorer) → All (Stand file lists h) l → All (MaxScoreAt file lists scoring) l
+      → All (Fair (scorerAt file lists scoring (h .places))) l
+  fair scoring h [] a b = tt
+  fair scoring h (y ∷ ys) a b = (record { doc-is = same-doc scoring h y (a .0); max-is = b .0 }, fair scoring h ys (a .1) (b .1))
+
+  pub carried-refl : (h : Held) (l : List TermScorer) → Apart l → All (Stand file lists h) l → Carried file lists h l h l
+  carried-refl h l apart a = record { stands = a; apart = apart; seats = λ T s. s; weighed = λ _ w. w }
+
+  pub carried-trans : {h h′ h″ : Held} {l l′ l″ : List TermScorer} → Carried file lists h l h′ l′ → Carried file lists h′ l′ h″ l″ → Carried file lists h l h″ l″
+  carried-trans C D = record {
+    stands = D .stands;
+    apart = D .apart;
+    seats = λ T s. D .seats T (C .seats T s);
+    weighed = λ caches w. D .weighed caches (C .weighed caches w);
+  }
+
+  -- some of them, in another order
+  pub carried-kept : (h : Held) {l l′ : List TermScorer} → Kept l′ l → Apart l → All (Stand file lists h) l → Carried file lists h l h l′
+  carried-kept h k apart a = record {
+    stands = kept-all (Stand file lists h) k a;
+    apart = kept-apart k apart;
+    seats = λ T s. kept-all (Seat file lists T h) k s;
+    weighed = λ caches w. kept-all (WeighedAt file lists caches) k w;
+  }
+
+  -- the one at place i has moved in its slot
+  module _ (l : List TermScorer) (i : ℕ) (inside : i < length l) (apart : Apart l) {to : Scoring → Cursor} {h h′ : Held} {doc : ℕ}
+      (M : MovedSlot file lists (getD l i noScorer .slot) to h h′ doc) (a : All (Stand file lists h) l) where
+    abbrev x : TermScorer
+    x = getD l i noScorer
+
+    abbrev x′ : TermScorer
+    x′ = record { doc = doc; «max_score» = x .«max_score»; slot = x .slot }
+
+    pub carried-move : Carried file lists h l h′ (set l i x′)
+    carried-move =
+        let S = all-at (Stand file lists h) l i noScorer inside a in
+        let slots = replaced-slots l i x′ refl in
+        let n = moved-sixteen M (S .slot .sixteen) in
+        record {
+          stands = replaced-all l i x′ inside apart (Stand file lists h) (Stand file lists h′) (λ s o R. stand-same h h′ s n (others-rows M (s .slot) o) R) (moved-stand x M S) a;
+          apart = slots-apart l (set l i x′) slots apart;
+          seats = λ T s. replaced-all l i x′ inside apart (Seat file lists T h) (Seat file lists T h′)
+              (λ z o R. seat-same T (T .bounds) h h′ z n (others-rows M (z .slot) o) refl R) (moved-seat x M T (all-at (Seat file lists T h) l i noScorer inside s)) s;
+          weighed = λ caches w. slots-all (Weighed lists caches) l (set l i x′) slots w;
+        }
