@@ -1,0 +1,68 @@
+-- `low::least_last_doc` meets its contract: the least of what was found and of the last documents from place i on stays the same.
+use mathlib.Core.Path.{refl}
+use Prim.Native.Nat.{_-_}
+use native.Mathlib.Omega.{arith}
+use lib.ListN.{getD, take}
+use borrow.Author.Needs.{needs}
+use Rattle.ordering.specs.Inner.Scorers.{noScorer}
+use Rattle.ordering.proofs.Places.{all-first}
+use Rattle.block_wand_union.specs.Inner.Moves.{LastRead, leastLastOf}
+use Rattle.block_wand_union.proofs.Lowest.{Lowering, lowers, lowest}
+use Rattle.block_wand_union.proofs.low.least_last_doc.Statement.{statement}
+use Rattle.block_wand_union.proofs.low.least_last_doc.Tie as tie
+
+abbrev Inv-loop : tie.InvT-loop
+Inv-loop pivot-len places scorers least₀ i₀ least i = Lowering places scorers pivot-len (leastLastOf places 2147483647 (take pivot-len scorers)) least i
+
+abbrev μ-loop : tie.MeasureT-loop
+μ-loop pivot-len places scorers least₀ i₀ least i = pivot-len - i
+
+read : (c : tie.In-loop Inv-loop μ-loop) → LastRead (c .before .before .args .places .now) (getD (c .before .before .args .t1) (c .before .loop .i) noScorer)
+read c = let a = c .before .before in all-first (LastRead (a .args .places .now)) (a .args .t1) (a .args .pivot-len) (c .before .loop .i) noScorer (omega arith) (search needs) (a .pre .1)
+
+loop-holds : tie.Need-loop-holds Inv-loop μ-loop
+loop-holds c = record { inside = omega arith; whole = refl }
+
+mul-scorer : tie.Need-mul-scorer Inv-loop μ-loop
+mul-scorer c = search needs
+
+array-copy-out-scorer : tie.Need-array-copy-out-scorer Inv-loop μ-loop
+array-copy-out-scorer c = search needs
+
+last-doc-in-block-requires : tie.Need-last-doc-in-block-requires Inv-loop μ-loop
+last-doc-in-block-requires c κs = read (c .before)
+
+add-i : tie.Need-add-i Inv-loop μ-loop
+add-i c = search needs
+
+loop-less : tie.Need-loop-less Inv-loop μ-loop
+loop-less c = search needs
+
+loop-again : tie.Need-loop-again Inv-loop μ-loop
+loop-again c = lowers _ _ _ _ (search needs) (c .before .before .before .before .loop .inv) (omega arith) (omega (arith, c .before .last-doc-in-block .ensures))
+
+loop-less-2 : tie.Need-loop-less-2 Inv-loop μ-loop
+loop-less-2 c = search needs
+
+loop-again-2 : tie.Need-loop-again-2 Inv-loop μ-loop
+loop-again-2 c = lowers _ _ _ _ (search needs) (c .before .before .before .before .loop .inv) (omega arith) (omega (arith, c .before .last-doc-in-block .ensures))
+
+returns : tie.Need-returns Inv-loop μ-loop
+returns c = lowest _ _ _ _ (search needs) (c .before .loop .inv) (omega arith)
+
+pub least-last-doc-spec : {M : Type 1} → statement M
+least-last-doc-spec =
+    tie.close
+    (tie.spec
+    Inv-loop
+    μ-loop
+    loop-holds
+    mul-scorer
+    array-copy-out-scorer
+    last-doc-in-block-requires
+    add-i
+    loop-less
+    loop-again
+    loop-less-2
+    loop-again-2
+    returns)
