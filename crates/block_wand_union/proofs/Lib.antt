@@ -6,3 +6,4 @@ pub mod Alignments
 pub mod Advances
 pub mod OnPivots
 pub mod Steps
+pub mod Runs

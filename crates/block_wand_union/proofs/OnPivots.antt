@@ -155,15 +155,15 @@ module _ (file : List ℕ) (lists : List (List ℕ)) (scoring : Scoring) (caches
           all-imp (λ s. OnIt (g s)) (Inside file lists h′) (take len l′) (λ s o. inside-on file lists scoring h′ s (o .1) (omega (arith, o .0))) on-it
 
       -- what a hit leaves, at threshold t
-      pub on-hit : (t : Float) (n : ℕ) {h″ : Held} {r : Step} → Hit file lists scoring t h′ l′ n len p h″ r → Pivoted file lists scoring t h l n at h″ r
-      on-hit t n {h″} {r} D =
+      pub on-hit : (t : Float) {m n : ℕ} → m ≤ n → {h″ : Held} {r : Step} → Hit file lists scoring t h′ l′ m len p h″ r → Pivoted file lists scoring t h l n at h″ r
+      on-hit t b {h″} {r} D =
           let k = first in
           record {
             carried = carried-trans file lists (O .carried) (D .carried);
             does = subst (λ (u : Turn (UnionPlace Float) Float). Does file lists scoring u h″ r)
                 (sym (after-hit 128 t l before len p (omega arith) f g l′ (O .aligned-are scoring) (O .rest-are scoring)))
                 (D .does (loadsBack (map f (take before l)) (map g (take before l′))));
-            few = D .few;
+            few = omega (arith, D .few);
           }
 
     -- what a miss leaves

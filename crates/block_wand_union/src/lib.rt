@@ -24,7 +24,7 @@ ghost use Rattle.route.specs.Inner.Unions.{UnionKept};
 ghost use Rattle.reports.specs.Inner.Turns.{Went};
 ghost use Rattle.notefile.specs.Header.{documents, normReader};
 ghost use Rattle.ordering.specs.Inner.Scorers.{slotOf};
-ghost use Rattle.term_scorer.specs.Inner.Slots.{held};
+ghost use Rattle.term_scorer.specs.Inner.Slots.{held, Sixteen};
 ghost use Rattle.block_wand_union.specs.Inner.Seats.{Readable, Seated, alive, placeIn, stageOf, termAt, terms};
 ghost use Rattle.block_wand_union.specs.Inner.Runs.{Stands, Walks, placeOf, unionEnded};
 
@@ -77,7 +77,7 @@ fn in_order(
     places: &[[usize; 8]; 16],
     docs: &[[u32; 128]; 16],
 ) -> Scorers
-    requires { ⌜ (len ≤ 16) × All (Readable (now file) (now lists) (now caches) (now places) (now docs)) (take len (now order)) ⌝ }
+    requires { ⌜ (len ≤ 16) × Sixteen (now order) × All (Readable (now file) (now lists) (now caches) (now places) (now docs)) (take len (now order)) ⌝ }
     ensures { λ r.
         let ordered = map (termAt (before file) (before lists) (similarity .scoring) (before places)) (take len (before order)) in
         ⌜ (r .len ≡ len) × (alive r ≡ ordered) ⌝ }
@@ -104,8 +104,8 @@ fn in_order(
 
 // The scorers' slots, in their order.
 pub fn keep_order(scorers: Scorers, order: &mut [usize; 16])
-    requires { ⌜ scorers .len ≤ 16 ⌝ }
-    ensures { λ _. ⌜ take (scorers .len) (after order) ≡ map slotOf (alive scorers) ⌝ }
+    requires { ⌜ (scorers .len ≤ 16) × Sixteen (now order) ⌝ }
+    ensures { λ _. ⌜ (take (scorers .len) (after order) ≡ map slotOf (alive scorers)) × Sixteen (after order) ⌝ }
 {
     let len = scorers.len;
     let array = scorers.scorers;

@@ -11,7 +11,7 @@ use Rattle.bm25.specs.declared.Scoring.{Scoring}
 use Rattle.ordering.specs.declared.TermScorer.{TermScorer}
 use Rattle.notefile.specs.Header.{documents}
 use Rattle.reports.specs.Inner.Turns.{Went}
-use Rattle.term_scorer.specs.Inner.Slots.{Held}
+use Rattle.term_scorer.specs.Inner.Slots.{Held, Sixteen}
 use Rattle.block_wand_union.specs.Inner.Seats.{Seated, Terms, alive, placeIn, slotScorer, stageOf, termAt, terms}
 use Rattle.block_wand_union.specs.declared.Stage.{Stage}
 use Rattle.block_wand_union.specs.declared.Union.{Union}
@@ -32,6 +32,7 @@ module _ (file : List ℕ) (lists : List (List ℕ)) where
   -- a run stands in the tables, and can go on: each scorer is in a slot of its own, and the route keeps its place
   pub record Stands (T : Terms) (u : Union) (order : List ℕ) (h : Held) : Type 0 where
     pub few : u .len ≤ 16
+    pub room : Sixteen order
     pub seated : Seated file lists T h (map (termAt file lists (T .scoring) (h .places)) (take (u .len) order))
     pub kept : UnionKept 128 (documents file) f32 (placeOf (T .scoring) u order (h .places))
 

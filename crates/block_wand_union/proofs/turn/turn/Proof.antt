@@ -1,0 +1,77 @@
+-- `turn::turn` meets its contract: at each stage the turn is the route's.
+use mathlib.Core.Path.{subst, _≡_}
+use borrow.Author.Needs.{needs}
+use Rattle.route.specs.F32.{f32}
+use Rattle.route.specs.Inner.Unions.{UnionKept}
+use Rattle.notefile.specs.Header.{documents}
+use Rattle.block_wand_union.specs.Inner.Seats.{alive, placeIn}
+use Rattle.block_wand_union.specs.declared.Stage.{Stage}
+use Rattle.block_wand_union.specs.declared.Stage.the-variants.{Called}
+use Rattle.block_wand_union.proofs.Steps.{goes-on, on-report, stands, stays}
+use Rattle.block_wand_union.proofs.turn.turn.Statement.{statement}
+use Rattle.block_wand_union.proofs.turn.turn.Tie as tie
+
+-- the place, with its stage known
+kept-at : (a : tie.Start) {stage : Stage} → a .args .stage ≡ stage
+    → UnionKept 128 (documents (a .args .file .now)) f32 (placeIn (a .args .file .now) (a .args .lists .now) (a .args .similarity .scoring) (a .args .places .now) stage (alive (a .args .scorers)))
+kept-at a e =
+    subst (λ (s : Stage). UnionKept 128 (documents (a .args .file .now)) f32 (placeIn (a .args .file .now) (a .args .lists .now) (a .args .similarity .scoring) (a .args .places .now) s (alive (a .args .scorers)))) e (a .pre .3)
+
+enum-told : tie.Need-enum-told
+enum-told c = search needs
+
+look-requires : tie.Need-look-requires
+look-requires c κs =
+    let m = c .before .before .before .before in
+    let a = m .before .before .before in
+    (a .pre .0, a .pre .1, a .pre .2, kept-at a (m .enum-told .given .1))
+
+enum-known-stage : tie.Need-enum-known-stage
+enum-known-stage c = search needs
+
+advance-all-scorers-on-pivot-requires : tie.Need-advance-all-scorers-on-pivot-requires
+advance-all-scorers-on-pivot-requires c κs =
+    let m = c .before .before .before in
+    let a = m .before .before .before .before in
+    let R = on-report (a .args .file .now) (a .args .lists .now) _ (a .args .threshold) _ (a .args .scorers) (a .pre .2) (kept-at a (m .before .stage .given .1)) in
+    (R .0, a .pre .0, a .pre .2 .apart, stands (a .args .file .now) (a .args .lists .now) _ (a .args .threshold) _ _ (a .pre .2), R .1)
+
+quiet-requires : tie.Need-quiet-requires
+quiet-requires c κs = search needs
+
+enum-told-2 : tie.Need-enum-told-2
+enum-told-2 c = search needs
+
+quiet-requires-2 : tie.Need-quiet-requires-2
+quiet-requires-2 c κs = search needs
+
+returns : tie.Need-returns
+returns c = let m = c .before .before .before .before .before in rw (m .enum-told .given .1) (c .look .ensures)
+
+returns-2 : tie.Need-returns-2
+returns-2 c =
+    let m = c .before .before .before .before .before in
+    let a = m .before .before .before .before in
+    let e = m .before .stage .given .1 in
+    rw (e, c .quiet .ensures) (goes-on (a .args .file .now) (a .args .lists .now) _ (a .args .threshold) _ (a .args .scorers) (a .pre .2) (kept-at a e) (c .before .advance-all-scorers-on-pivot .ensures))
+
+returns-3 : tie.Need-returns-3
+returns-3 c =
+    let m = c .before in
+    let a = m .before .before .before in
+    rw (m .enum-told2 .given .1, c .quiet2 .ensures) (stays (a .args .file .now) (a .args .lists .now) _ (a .args .threshold) _ (a .args .scorers) (a .pre .2))
+
+pub turn-spec : {M : Type 1} → statement M
+turn-spec =
+    tie.close
+    (tie.spec
+    enum-told
+    look-requires
+    enum-known-stage
+    advance-all-scorers-on-pivot-requires
+    quiet-requires
+    enum-told-2
+    quiet-requires-2
+    returns
+    returns-2
+    returns-3)
