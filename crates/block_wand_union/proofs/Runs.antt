@@ -1,5 +1,5 @@
 -- A union's run by turns: the scorers read off the tables and their slots written back, the loop of `walk`, and its beginning.
-use mathlib.Core.Bool.{Bool, false, true}
+use mathlib.Core.Bool.{Bool, false, not, true}
 use mathlib.Core.List.{List, map, [], _∷_}
 use mathlib.Core.Option.{none, some}
 use mathlib.Core.Path.{ap, refl, subst, sym, _∙_, _≡_}
@@ -48,6 +48,15 @@ fills f xs ys i d h k e {y} q =
 map-map : {A B C : Type 0} (g : B → C) (f : A → B) (xs : List A) → map g (map f xs) ≡ map (λ x. g (f x)) xs
 map-map g f [] = refl
 map-map g f (x ∷ xs) = ap (λ z. g (f x) ∷ z) (map-map g f xs)
+
+-- a negated test
+pub not-true : (b : Bool) → not b ≡ true → b ≡ false
+not-true true e = sym e
+not-true false e = refl
+
+pub not-false : (b : Bool) → not b ≡ false → b ≡ true
+not-false true e = refl
+not-false false e = sym e
 
 -- ---- the scorers in the tables
 
