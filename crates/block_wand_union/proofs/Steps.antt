@@ -146,8 +146,7 @@ module _ (file : List ℕ) (lists : List (List ℕ)) (T : Terms) (t : Float) (h 
         let l = alive z in
         let on = rw (sym (map-take at-route n l)) at (R .on) in
         let safe = rw (sym (map-take at-route n l)) at (all-take (SafeS 128 (documents file)) n (map at-route l) (k .scs)) in
-        let low = R .live in
-        (
+        let low = R .live in (
           few,
           rw (take-take n (z .len) (z .scorers) few) at
               (all-zip (λ s. docOf (at-route s) ≡ R .doc) (λ s. SafeS 128 (documents file) (at-route s)) (Inside file lists h)

@@ -43,9 +43,10 @@ returns c =
     let E = r .in-order .ensures in
     let W = w .walk .ensures in
     let K = c .keep-order .ensures in
-    let place = place-kept (a .args .file .now) (a .args .lists .now) (w .walk .result .scorers) (w .walk .result .stage) _ (W .few) (K .1) (W .seated) (W .kept) (K .0) in
-    (stands-kept (a .args .file .now) (a .args .lists .now) (w .walk .result .scorers) (w .walk .result .stage) _ (W .few) (K .1) (W .seated) (W .kept) (K .0),
-    rw (place-read (a .args .file .now) (a .args .lists .now) S (E .1), place) at (W .went))
+    let place = place-kept (a .args .file .now) (a .args .lists .now) (w .walk .result .scorers) (w .walk .result .stage) _ (W .few) (K .1) (W .seated) (W .kept) (K .0) in (
+      stands-kept (a .args .file .now) (a .args .lists .now) (w .walk .result .scorers) (w .walk .result .stage) _ (W .few) (K .1) (W .seated) (W .kept) (K .0),
+      rw (place-read (a .args .file .now) (a .args .lists .now) S (E .1), place) at (W .went),
+    )
 
 pub go-spec : {M : Type 1} → statement M
 go-spec =

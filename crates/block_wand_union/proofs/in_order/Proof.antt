@@ -63,11 +63,13 @@ loop-again c =
     let R = read b in
     let d = c .before .doc .ensures ∙ R .doc-is in
     let m = c .max-score .ensures in
-    let w = a .pre .1 in
-    (omega arith, length-set (l .loop .out) (l .loop .i) _ ∙ l .loop .inv .1,
-    fills (termAt (a .args .file .now) (a .args .lists .now) (a .args .similarity .scoring) (a .args .places .now)) (a .args .order .now) (l .loop .out) (l .loop .i) 0 (omega arith) (omega (arith, l .loop .inv .1)) (l .loop .inv .2)
-    (ap (λ (x : ℕ). record { doc = x; «max_score» = c .max-score .result; slot = q }) d
-    ∙ ap (λ (x : Float). record { doc = docIn (a .args .file .now) (partAt (a .args .lists .now) q) (cursorAt (a .args .places .now) q .at); «max_score» = x; slot = q }) m))
+    let w = a .pre .1 in (
+      omega arith,
+      length-set (l .loop .out) (l .loop .i) _ ∙ l .loop .inv .1,
+      fills (termAt (a .args .file .now) (a .args .lists .now) (a .args .similarity .scoring) (a .args .places .now)) (a .args .order .now) (l .loop .out) (l .loop .i) 0 (omega arith) (omega (arith, l .loop .inv .1)) (l .loop .inv .2)
+          (ap (λ (x : ℕ). record { doc = x; «max_score» = c .max-score .result; slot = q }) d
+          ∙ ap (λ (x : Float). record { doc = docIn (a .args .file .now) (partAt (a .args .lists .now) q) (cursorAt (a .args .places .now) q .at); «max_score» = x; slot = q }) m),
+    )
 
 returns : tie.Need-returns Inv-loop μ-loop
 returns c =
