@@ -35,14 +35,14 @@ use Rattle.notefile.specs.Lists.{fullBlocks}
 use Rattle.decoded.specs.Lists.{listOf}
 use Rattle.decoded.proofs.AcceptedLists.{list-ok}
 use Rattle.term_scorer.specs.Inner.Slots.{cursorAt, Held, listAt, partAt}
-use Rattle.block_wand_union.specs.Inner.Seats.{Inside, Scorable, Stand, WeighedAt, alive, scorerAt}
+use Rattle.block_wand_union.specs.Inner.Seats.{Inside, OnDocument, Seat, Stand, Terms, alive, scorerAt}
 use Rattle.block_wand_union.specs.Inner.Moves.{AdvancedAll, AlignedBy, Aligns, OnPivot, PastPivot}
 use Rattle.block_wand_union.specs.Inner.Turns.{AtPivot, Does, Hit, Pivoted, quietStep}
 use Rattle.block_wand_union.specs.declared.Stage.the-variants.{Called, Looking}
 use Rattle.block_wand_union.specs.declared.align.Alignment.{Alignment}
 use Rattle.block_wand_union.specs.declared.turn.Span.{Span}
 use Rattle.block_wand_union.specs.declared.turn.Step.{Step}
-use Rattle.block_wand_union.proofs.Seats.{carried-refl, carried-trans, same-doc}
+use Rattle.block_wand_union.proofs.Seats.{carried-refl, carried-trans, same-doc, seats-stand}
 
 module _ {A : Type 0} where
   pub all-unmap : {B : Type 0} (P : B → Type 0) (g : A → B) (xs : List A) → All P (map g xs) → All (λ x. P (g x)) xs
@@ -77,107 +77,108 @@ module _ (file : List ℕ) (lists : List (List ℕ)) where
       → docOf (scorerAt file lists scoring (h .places) s) < TERMINATED → Inside file lists h s
   inside-on scoring h s k d = rw (full-is scoring file lists (s .slot)) at (inside 128 (documents file) (scorerAt file lists scoring (h .places) s) k d .0)
 
-module _ (file : List ℕ) (lists : List (List ℕ)) (scoring : Scoring) (caches : List (List Float)) where
-  module _ {h : Held} {l : List TermScorer} {at : Span} (A : AtPivot file lists scoring caches h l at) where
-    abbrev before : ℕ
-    before = at .«before_pivot_len»
+module _ {file : List ℕ} {lists : List (List ℕ)} {T : Terms} {h : Held} {l : List TermScorer} {at : Span} (A : AtPivot file lists T h l at) where
+  abbrev before : ℕ
+  before = at .«before_pivot_len»
 
-    abbrev len : ℕ
-    len = at .«pivot_len»
+  abbrev len : ℕ
+  len = at .«pivot_len»
 
-    abbrev p : ℕ
-    p = at .«pivot_doc»
+  abbrev p : ℕ
+  p = at .«pivot_doc»
 
-    abbrev f : TermScorer → Scorer Float
-    f = scorerAt file lists scoring (h .places)
+  abbrev f : TermScorer → Scorer Float
+  f = scorerAt file lists (T .scoring) (h .places)
 
-    first : before < len
-    first = A .found .first
+  first : before < len
+  first = A .found .first
 
-    pub pivot-low : p < TERMINATED
-    pivot-low = found-low file lists h (A .stands) (A .found)
+  pub stands-at : All (Stand file lists h) l
+  stands-at = seats-stand file lists T h l (A .seated .seats)
 
-    -- a scorer on the pivot, safe on the route
-    abbrev OnIt : Scorer Float → Type 0
-    OnIt z = (docOf z ≡ p) × SafeS 128 (documents file) z
+  pub pivot-low : p < TERMINATED
+  pivot-low = found-low file lists h stands-at (A .found)
 
-    module _ {h′ : Held} {l′ : List TermScorer} (O : OnPivot file lists p h l before h′ l′) where
-      abbrev g : TermScorer → Scorer Float
-      g = scorerAt file lists scoring (h′ .places)
+  -- a scorer on the pivot, safe on the route
+  abbrev OnIt : Scorer Float → Type 0
+  OnIt z = (docOf z ≡ p) × SafeS 128 (documents file) z
 
-      whole : map g (take before l′) ++ map g (drop before (take len l′)) ≡ map g (take len l′)
-      whole =
-          let k = first in
-          sym (map-append g (take before l′) (drop before (take len l′)))
-          ∙ ap (map g) (ap (λ z. z ++ drop before (take len l′)) (sym (take-take before len l′ (omega arith))) ∙ take-append-drop before (take len l′))
+  module _ {h′ : Held} {l′ : List TermScorer} (O : OnPivot file lists p h l before h′ l′) where
+    abbrev g : TermScorer → Scorer Float
+    g = scorerAt file lists (T .scoring) (h′ .places)
 
-      -- those before the pivot have come to it
-      came : All OnIt (map g (take before l′))
-      came =
-          let pre = map f (take before l) in
-          let low = pivot-low in
-          let is = subst (AlignIs 128 p pre) (O .aligned-are scoring) (align-is 128 p pre) in
-          let safe : All (SafeS 128 (documents file)) pre = rw (map-take f before l) (all-take (SafeS 128 (documents file)) before (map f l) (A .safe)) in
-          let sought = all-map (SafeS 128 (documents file)) (SafeS 128 (documents file)) (seek 128 p) pre (λ s k. safe-seek 128 (documents file) p s (omega arith) k .safe) safe in
-          all-zip (λ z. docOf z ≡ p) (SafeS 128 (documents file)) OnIt (λ _ d k. (d, k)) (map g (take before l′)) (is .1) (rw (is .0) sought)
-
-      -- the others were on it
-      were : All OnIt (map g (drop before (take len l′)))
-      were =
-          let d = len - before in
-          let part = drop before (take len l) in
-          let cut : (k : TermScorer → Scorer Float) (z : List TermScorer) → map k (drop before (take len z)) ≡ take d (map k (drop before z)) =
-          λ k z. ap (map k) (drop-take before len z) ∙ map-take k d (drop before z) in
-          let same : map g (drop before (take len l′)) ≡ map f part = cut g l′ ∙ ap (take d) (O .rest-are scoring) ∙ sym (cut f l) in
-          let stands = all-drop (Stand file lists h) before (take len l) (all-take (Stand file lists h) len l (A .stands)) in
-          let docs : All (λ z. docOf z ≡ p) (map f part) =
-          all-map (λ s. docOf (f s) ≡ p) (λ z. docOf z ≡ p) f part (λ _ e. e)
-          (all-zip (Stand file lists h) (λ s. s .doc ≡ p) (λ s. docOf (f s) ≡ p) (λ s S e. same-doc file lists scoring h s S ∙ e) part stands (A .found .on)) in
-          let safe : All (SafeS 128 (documents file)) (map f part) =
-          rw (map-drop f before (take len l), map-take f len l) (all-drop (SafeS 128 (documents file)) before (take len (map f l)) (all-take (SafeS 128 (documents file)) len (map f l) (A .safe))) in
-          rw same (all-zip (λ z. docOf z ≡ p) (SafeS 128 (documents file)) OnIt (λ _ e k. (e, k)) (map f part) docs safe)
-
-      on-it : All (λ s. OnIt (g s)) (take len l′)
-      on-it = all-unmap OnIt g (take len l′) (rw whole at (all-append OnIt (map g (take before l′)) (map g (drop before (take len l′))) came were))
-
-      pub scorable : All (Scorable file lists caches h′) (take len l′)
-      scorable =
-          let low = pivot-low in
-          let stands = all-take (Stand file lists h′) len l′ (O .carried .stands) in
-          let weighed = all-take (WeighedAt file lists caches) len l′ (O .carried .weighed caches (A .weighed)) in
-          all-zip (λ s. Stand file lists h′ s × WeighedAt file lists caches s) (λ s. OnIt (g s)) (Scorable file lists caches h′)
-          (λ s z o. record { stand = z .0; weighed = z .1; live = omega (arith, same-doc file lists scoring h′ s (z .0), o .0) }) (take len l′)
-          (all-zip (Stand file lists h′) (WeighedAt file lists caches) (λ s. Stand file lists h′ s × WeighedAt file lists caches s) (λ _ a b. (a, b)) (take len l′) stands weighed) on-it
-
-      pub insides : All (Inside file lists h′) (take len l′)
-      insides =
-          let low = pivot-low in
-          all-imp (λ s. OnIt (g s)) (Inside file lists h′) (take len l′) (λ s o. inside-on file lists scoring h′ s (o .1) (omega (arith, o .0))) on-it
-
-      -- what a hit leaves, at threshold t
-      pub on-hit : (t : Float) {m n : ℕ} → m ≤ n → {h″ : Held} {r : Step} → Hit file lists scoring t h′ l′ m len p h″ r → Pivoted file lists scoring t h l n at h″ r
-      on-hit t b {h″} {r} D =
-          let k = first in
-          record {
-            carried = carried-trans file lists (O .carried) (D .carried);
-            does = subst (λ (u : Turn (UnionPlace Float) Float). Does file lists scoring u h″ r)
-                (sym (after-hit 128 t l before len p (omega arith) f g l′ (O .aligned-are scoring) (O .rest-are scoring)))
-                (D .does (loadsBack (map f (take before l)) (map g (take before l′))));
-            few = omega (arith, D .few);
-          }
-
-    -- what a miss leaves
-    pub miss : (t : Float) (n : ℕ) {h′ : Held} {z : Scorers} → PastPivot file lists p h l before h′ (alive z) → z .len ≤ n
-        → Pivoted file lists scoring t h l n at h′ (quietStep z Looking)
-    miss t n P few =
+    whole : map g (take before l′) ++ map g (drop before (take len l′)) ≡ map g (take len l′)
+    whole =
         let k = first in
-        let m = P .missed-is scoring in
-        let e = after-miss 128 t l before len p (omega arith) f (m .0) (m .1) in
+        sym (map-append g (take before l′) (drop before (take len l′)))
+        ∙ ap (map g) (ap (λ z. z ++ drop before (take len l′)) (sym (take-take before len l′ (omega arith))) ∙ take-append-drop before (take len l′))
+
+    -- those before the pivot have come to it
+    came : All OnIt (map g (take before l′))
+    came =
+        let pre = map f (take before l) in
+        let low = pivot-low in
+        let is = subst (AlignIs 128 p pre) (O .aligned-are (T .scoring)) (align-is 128 p pre) in
+        let safe : All (SafeS 128 (documents file)) pre = rw (map-take f before l) (all-take (SafeS 128 (documents file)) before (map f l) (A .safe)) in
+        let sought = all-map (SafeS 128 (documents file)) (SafeS 128 (documents file)) (seek 128 p) pre (λ s k. safe-seek 128 (documents file) p s (omega arith) k .safe) safe in
+        all-zip (λ z. docOf z ≡ p) (SafeS 128 (documents file)) OnIt (λ _ d k. (d, k)) (map g (take before l′)) (is .1) (rw (is .0) sought)
+
+    -- the others were on it
+    were : All OnIt (map g (drop before (take len l′)))
+    were =
+        let d = len - before in
+        let part = drop before (take len l) in
+        let cut : (k : TermScorer → Scorer Float) (z : List TermScorer) → map k (drop before (take len z)) ≡ take d (map k (drop before z)) =
+        λ k z. ap (map k) (drop-take before len z) ∙ map-take k d (drop before z) in
+        let same : map g (drop before (take len l′)) ≡ map f part = cut g l′ ∙ ap (take d) (O .rest-are (T .scoring)) ∙ sym (cut f l) in
+        let stands = all-drop (Stand file lists h) before (take len l) (all-take (Stand file lists h) len l stands-at) in
+        let docs : All (λ z. docOf z ≡ p) (map f part) =
+        all-map (λ s. docOf (f s) ≡ p) (λ z. docOf z ≡ p) f part (λ _ e. e)
+        (all-zip (Stand file lists h) (λ s. s .doc ≡ p) (λ s. docOf (f s) ≡ p) (λ s S e. same-doc file lists (T .scoring) h s S ∙ e) part stands (A .found .on)) in
+        let safe : All (SafeS 128 (documents file)) (map f part) =
+        rw (map-drop f before (take len l), map-take f len l) (all-drop (SafeS 128 (documents file)) before (take len (map f l)) (all-take (SafeS 128 (documents file)) len (map f l) (A .safe))) in
+        rw same (all-zip (λ z. docOf z ≡ p) (SafeS 128 (documents file)) OnIt (λ _ e k. (e, k)) (map f part) docs safe)
+
+    on-it : All (λ s. OnIt (g s)) (take len l′)
+    on-it = all-unmap OnIt g (take len l′) (rw whole at (all-append OnIt (map g (take before l′)) (map g (drop before (take len l′))) came were))
+
+    -- so they are on a document
+    pub on-document : All (OnDocument file lists (T .caches) h′) (take len l′)
+    on-document =
+        let low = pivot-low in
+        all-zip (Seat file lists T h′) (λ s. OnIt (g s)) (OnDocument file lists (T .caches) h′)
+        (λ s S o. record {
+          stand = S .stand;
+          weighed = S .weighed;
+          live = omega (arith, same-doc file lists (T .scoring) h′ s (S .stand), o .0);
+          inside = inside-on file lists (T .scoring) h′ s (o .1) (omega (arith, o .0));
+        })
+        (take len l′) (all-take (Seat file lists T h′) len l′ (O .carried .seats T (A .seated .seats))) on-it
+
+    -- what a hit leaves, at threshold t
+    pub on-hit : {t : Float} {m n : ℕ} → m ≤ n → {h″ : Held} {r : Step} → Hit file lists (T .scoring) t h′ l′ m len p h″ r → Pivoted file lists (T .scoring) t h l n at h″ r
+    on-hit {t} b {h″} {r} D =
+        let k = first in
         record {
-          carried = P .carried;
-          does = record { next-is = ap (λ u. u .next) e ∙ ap (λ ss. goOn ss) (sym (m .2)); due-is = ap (λ u. u .due) e };
-          few = few;
+          carried = carried-trans file lists (O .carried) (D .carried);
+          does = subst (λ (u : Turn (UnionPlace Float) Float). Does file lists (T .scoring) u h″ r)
+              (sym (after-hit 128 t l before len p (omega arith) f g l′ (O .aligned-are (T .scoring)) (O .rest-are (T .scoring))))
+              (D .does (loadsBack (map f (take before l)) (map g (take before l′))));
+          few = omega (arith, D .few);
         }
+
+  -- what a miss leaves
+  pub miss : (t : Float) {n : ℕ} {h′ : Held} {z : Scorers} → PastPivot file lists p h l before h′ (alive z) → z .len ≤ n
+      → Pivoted file lists (T .scoring) t h l n at h′ (quietStep z Looking)
+  miss t P few =
+      let k = first in
+      let m = P .missed-is (T .scoring) in
+      let e = after-miss 128 t l before len p (omega arith) f (m .0) (m .1) in
+      record {
+        carried = P .carried;
+        does = record { next-is = ap (λ u. u .next) e ∙ ap (λ ss. goOn ss) (sym (m .2)); due-is = ap (λ u. u .due) e };
+        few = few;
+      }
 
 -- the scorers on the pivot are scored
 module _ (file : List ℕ) (lists : List (List ℕ)) (scoring : Scoring) (t : Float) (h : Held) (z : Scorers) (len p : ℕ) (few : len ≤ z .len) {score : Float}
@@ -211,7 +212,7 @@ module _ (file : List ℕ) (lists : List (List ℕ)) (scoring : Scoring) (t : Fl
   }
 
 -- `align_scorers`' answer
-module _ (file : List ℕ) (lists : List (List ℕ)) {p : ℕ} {h h′ : Held} {l : List TermScorer} {n before : ℕ} {r : Alignment} (E : Aligns file lists p h l n before h′ r) where
+module _ {file : List ℕ} {lists : List (List ℕ)} {p : ℕ} {h h′ : Held} {l : List TermScorer} {n before : ℕ} {r : Alignment} (E : Aligns file lists p h l n before h′ r) where
   pub came-to : r .«on_pivot» ≡ true → OnPivot file lists p h l before h′ (alive (r .scorers))
   came-to e = subst (λ (b : Bool). AlignedBy file lists b p h l before h′ (alive (r .scorers))) e (E .by)
 

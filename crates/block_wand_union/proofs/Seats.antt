@@ -11,11 +11,11 @@ use Rattle.route.specs.Postings.{Postings}
 use Rattle.route.specs.Cursor.{Cursor, blockMax}
 use Rattle.route.specs.F32.{f32}
 use Rattle.route.specs.Scorer.{onCur}
-use Rattle.route.proofs.Lists.{perm-eq}
+use Rattle.route.proofs.Lists.{all-imp, perm-eq}
 use Rattle.bm25.specs.declared.Scoring.{Scoring}
 use Rattle.ordering.specs.Inner.Scorers.{Apart, noScorer}
 use Rattle.ordering.specs.declared.TermScorer.{TermScorer}
-use Rattle.ordering.proofs.Kept.{Kept, Off, kept-all, kept-apart, slots-all, slots-apart}
+use Rattle.ordering.proofs.Kept.{Kept, Off, kept-all, kept-apart, slots-apart}
 use Rattle.ordering.proofs.OnRoute.{Fair, SameDoc}
 use Rattle.ordering.proofs.Places.{all-at, all-take}
 use Rattle.ordering.proofs.Turns.{SameOff, replaced-all, replaced-slots}
@@ -24,8 +24,8 @@ use Rattle.postings.specs.Inner.Decoded.{docIn, doc-is}
 use Rattle.postings.specs.Inner.Reader.{readerAt}
 use Rattle.slot_rows.specs.Inner.Rows.{cursorIn, placeRow, PlaceIn, postingsIn}
 use Rattle.term_scorer.specs.Inner.Slots.{cursorAt, held, Held, listAt, partAt, MovedSlot, Shallowed, Sixteen, StandingIn}
-use Rattle.term_scorer.specs.Inner.Weights.{Bounded, FloatRow, Weighed}
-use Rattle.block_wand_union.specs.Inner.Seats.{Carried, MaxScoreAt, Seat, Stand, Terms, WeighedAt, scorerAt, terms}
+use Rattle.term_scorer.specs.Inner.Weights.{Bounded, FloatRow}
+use Rattle.block_wand_union.specs.Inner.Seats.{Carried, MaxScoreAt, Seat, Stand, Terms, scorerAt, terms}
 
 -- ---- rows
 
@@ -250,6 +250,9 @@ module _ (file : List ℕ) (lists : List (List ℕ)) where
 
   -- ---- all scorers
 
+  pub seats-stand : (T : Terms) (h : Held) (l : List TermScorer) → All (Seat file lists T h) l → All (Stand file lists h) l
+  seats-stand T h l a = all-imp (Seat file lists T h) (Stand file lists h) l (λ _ s. s .stand) a
+
   -- on their documents, with their list bounds
   pub fair : (scoring : Scoring) (h : Held) (l : List TermScorer) → All (Stand file lists h) l → All (MaxScoreAt file lists scoring) l
       → All (Fair (scorerAt file lists scoring (h .places))) l
@@ -257,14 +260,13 @@ module _ (file : List ℕ) (lists : List (List ℕ)) where
   fair scoring h (y ∷ ys) a b = (record { doc-is = same-doc scoring h y (a .0); max-is = b .0 }, fair scoring h ys (a .1) (b .1))
 
   pub carried-refl : (h : Held) (l : List TermScorer) → Apart l → All (Stand file lists h) l → Carried file lists h l h l
-  carried-refl h l apart a = record { stands = a; apart = apart; seats = λ T s. s; weighed = λ _ w. w }
+  carried-refl h l apart a = record { stands = a; apart = apart; seats = λ T s. s }
 
   pub carried-trans : {h h′ h″ : Held} {l l′ l″ : List TermScorer} → Carried file lists h l h′ l′ → Carried file lists h′ l′ h″ l″ → Carried file lists h l h″ l″
   carried-trans C D = record {
     stands = D .stands;
     apart = D .apart;
     seats = λ T s. D .seats T (C .seats T s);
-    weighed = λ caches w. D .weighed caches (C .weighed caches w);
   }
 
   -- some of them, in another order
@@ -273,7 +275,6 @@ module _ (file : List ℕ) (lists : List (List ℕ)) where
     stands = kept-all (Stand file lists h) k a;
     apart = kept-apart k apart;
     seats = λ T s. kept-all (Seat file lists T h) k s;
-    weighed = λ caches w. kept-all (WeighedAt file lists caches) k w;
   }
 
   -- the one at place i has moved in its slot
@@ -295,5 +296,4 @@ module _ (file : List ℕ) (lists : List (List ℕ)) where
           apart = slots-apart l (set l i x′) slots apart;
           seats = λ T s. replaced-all l i x′ inside apart (Seat file lists T h) (Seat file lists T h′)
               (λ z o R. seat-same T (T .bounds) h h′ z n (others-rows M (z .slot) o) refl R) (moved-seat x M T (all-at (Seat file lists T h) l i noScorer inside s)) s;
-          weighed = λ caches w. slots-all (Weighed lists caches) l (set l i x′) slots w;
         }

@@ -18,7 +18,7 @@ ghost use Rattle.route.specs.Scorer.{scoreHere};
 ghost use Rattle.ordering.specs.Inner.Scorers.{Apart};
 ghost use Rattle.notefile.specs.Header.{normReader};
 ghost use Rattle.term_scorer.specs.Inner.Slots.{held};
-ghost use Rattle.block_wand_union.specs.Inner.Seats.{Inside, Scorable, Stand, alive, onRoute};
+ghost use Rattle.block_wand_union.specs.Inner.Seats.{Inside, OnDocument, Stand, alive, onRoute};
 ghost use Rattle.block_wand_union.specs.Inner.Moves.{AdvancedAll};
 
 // The first scorers' scores, added in the order that the scorers have now.
@@ -35,7 +35,7 @@ pub fn score_on_pivot(
 ) -> f32
     requires { let slots = held (now places) (now docs) (now freqs) in
         ⌜ («pivot_len» ≤ 16) × (similarity .norms ≡ normReader (now file))
-        × All (Scorable (now file) (now lists) (now caches) slots) (take «pivot_len» (scorers .scorers)) ⌝ }
+        × All (OnDocument (now file) (now lists) (now caches) slots) (take «pivot_len» (scorers .scorers)) ⌝ }
     ensures { λ r.
         let old = held (before places) (before docs) (before freqs) in
         let first = onRoute (before file) (before lists) (similarity .scoring) old (take «pivot_len» (scorers .scorers)) in

@@ -10,8 +10,10 @@ use ordering::Scorers;
 use ordering::find_pivot_doc;
 use term_scorer::score::Similarity;
 ghost use mathlib.Core.Path.{_≡_};
+ghost use mathlib.Core.List.{List};
 ghost use Prim.Native.Nat.{_≤_, _<_};
 ghost use lib.ListN.{take};
+ghost use lib.Ieee.{Float};
 ghost use Rattle.arrays.specs.Lent.{before, after};
 ghost use Rattle.route.specs.F32.{f32};
 ghost use Rattle.route.specs.Lists.{All};
@@ -19,7 +21,7 @@ ghost use Rattle.route.specs.Inner.Unions.{UnionKept};
 ghost use Rattle.ordering.specs.Inner.Scorers.{Apart};
 ghost use Rattle.notefile.specs.Header.{documents, normReader};
 ghost use Rattle.term_scorer.specs.Inner.Slots.{held};
-ghost use Rattle.block_wand_union.specs.Inner.Seats.{Inside, Scorable, Seated, Stand, alive, placeIn, terms};
+ghost use Rattle.block_wand_union.specs.Inner.Seats.{OnDocument, Seated, Stand, alive, placeIn, terms};
 ghost use Rattle.block_wand_union.specs.Inner.Turns.{AtPivot, Hit, Pivoted, ToPivot, Turned, quietStep};
 ghost use Rattle.block_wand_union.specs.declared.Stage.the-variants.{Looking};
 
@@ -69,7 +71,7 @@ fn hit(
         let first = take (span .«pivot_len») (scorers .scorers) in
         ⌜ (span .«pivot_len» ≤ scorers .len) × (scorers .len ≤ 16) × (similarity .norms ≡ normReader (now file))
         × Apart (alive scorers) × All (Stand (now file) (now lists) slots) (alive scorers)
-        × All (Scorable (now file) (now lists) (now caches) slots) first × All (Inside (now file) (now lists) slots) first ⌝ }
+        × All (OnDocument (now file) (now lists) (now caches) slots) first ⌝ }
     ensures { λ r.
         let old = held (before places) (before docs) (before freqs) in
         let new = held (after places) (after docs) (after freqs) in
@@ -116,8 +118,8 @@ fn on_pivot(
     freqs: &mut [[u32; 128]; 16],
 ) -> Step
     requires { let slots = held (now places) (now docs) (now freqs) in
-        ⌜ (scorers .len ≤ 16) × (similarity .norms ≡ normReader (now file)) × Apart (alive scorers)
-        × AtPivot (now file) (now lists) (similarity .scoring) (now caches) slots (alive scorers) span ⌝ }
+        ⌜ (scorers .len ≤ 16) × (similarity .norms ≡ normReader (now file))
+        × ((bounds : List Float) × AtPivot (now file) (now lists) (terms (similarity .scoring) (now caches) bounds) slots (alive scorers) span) ⌝ }
     ensures { λ r.
         let old = held (before places) (before docs) (before freqs) in
         let new = held (after places) (after docs) (after freqs) in

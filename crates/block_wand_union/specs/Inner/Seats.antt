@@ -78,26 +78,23 @@ module _ (file : List ℕ) (lists : List (List ℕ)) where
   abbrev pub MaxScoreAt : Scoring → TermScorer → Type 0
   MaxScoreAt scoring s = listAt scoring file lists (s .slot) .top ≡ s .«max_score»
 
-  -- its slot has its list's norms
-  abbrev pub WeighedAt : List (List Float) → TermScorer → Type 0
-  WeighedAt caches s = Weighed lists caches (s .slot)
-
   -- a scorer stands in its slot, with its list's norms and its list bound, and a block bound that is known is right
   pub record Seat (T : Terms) (h : Held) (s : TermScorer) : Type 0 where
     pub stand : Stand h s
-    pub weighed : WeighedAt (T .caches) s
+    pub weighed : Weighed lists (T .caches) (s .slot)
     pub bound : BoundKept (T .scoring) file lists (h .places) (T .bounds) (s .slot)
     pub max-is : MaxScoreAt (T .scoring) s
-
-  -- a scorer whose posting can be scored: it is on a document
-  pub record Scorable (caches : List (List Float)) (h : Held) (s : TermScorer) : Type 0 where
-    pub stand : Stand h s
-    pub weighed : WeighedAt caches s
-    pub live : s .doc < TERMINATED
 
   -- a scorer whose skip reader has a block to stand on, so that it can advance
   abbrev pub Inside : Held → TermScorer → Type 0
   Inside h s = cursorAt (h .places) (s .slot) .blk ≤ fullBlocks (partAt lists (s .slot))
+
+  -- a scorer on a document: its posting can be scored, and it can advance
+  pub record OnDocument (caches : List (List Float)) (h : Held) (s : TermScorer) : Type 0 where
+    pub stand : Stand h s
+    pub weighed : Weighed lists caches (s .slot)
+    pub live : s .doc < TERMINATED
+    pub inside : Inside h s
 
   -- slot q's scorer can be read off the tables
   pub record Readable (caches : List (List Float)) (places docs : List (List ℕ)) (q : ℕ) : Type 0 where
@@ -113,7 +110,6 @@ module _ (file : List ℕ) (lists : List (List ℕ)) where
     pub stands : All (Stand h′) l′
     pub apart : Apart l′
     pub seats : (T : Terms) → All (Seat T h) l → All (Seat T h′) l′
-    pub weighed : (caches : List (List Float)) → All (WeighedAt caches) l → All (WeighedAt caches) l′
 
   -- the scorers of a run, each in a slot of its own
   pub record Seated (T : Terms) (h : Held) (l : List TermScorer) : Type 0 where

@@ -19,7 +19,7 @@ use Rattle.ordering.specs.declared.Scorers.{Scorers}
 use Rattle.ordering.specs.declared.Pivot.the-variants.{At}
 use Rattle.notefile.specs.Header.{documents}
 use Rattle.term_scorer.specs.Inner.Slots.{Held}
-use Rattle.block_wand_union.specs.Inner.Seats.{Carried, Seated, Stand, Terms, WeighedAt, alive, onRoute, placeIn, terms}
+use Rattle.block_wand_union.specs.Inner.Seats.{Carried, Seated, Terms, alive, onRoute, placeIn, terms}
 use Rattle.block_wand_union.specs.declared.Stage.{Stage}
 use Rattle.block_wand_union.specs.declared.Stage.the-variants.{Looking}
 use Rattle.block_wand_union.specs.declared.turn.Span.{Span}
@@ -39,12 +39,11 @@ module _ (file : List ℕ) (lists : List (List ℕ)) where
     pub next-is : u .next ≡ placeIn file lists scoring (h′ .places) (r .stage) (alive (r .scorers))
     pub due-is : u .due ≡ dueOf r
 
-  -- scorers at a pivot whose blocks are high enough: they are safe on the route, and their slots have norms
-  pub record AtPivot (scoring : Scoring) (caches : List (List Float)) (h : Held) (l : List TermScorer) (at : Span) : Type 0 where
+  -- scorers at a pivot whose blocks are high enough: seated, and safe on the route
+  pub record AtPivot (T : Terms) (h : Held) (l : List TermScorer) (at : Span) : Type 0 where
     pub found : Found l (at .«before_pivot_len») (at .«pivot_len») (at .«pivot_doc»)
-    pub stands : All (Stand file lists h) l
-    pub weighed : All (WeighedAt file lists caches) l
-    pub safe : All (SafeS 128 (documents file)) (onRoute file lists scoring h l)
+    pub seated : Seated file lists T h l
+    pub safe : All (SafeS 128 (documents file)) (onRoute file lists (T .scoring) h l)
 
   -- the first len of l, all on document p, were scored at threshold t, and went on if no report is due
   pub record Hit (scoring : Scoring) (t : Float) (h : Held) (l : List TermScorer) (n len p : ℕ) (h′ : Held) (r : Step) : Type 0 where

@@ -12,7 +12,7 @@ use Rattle.route.specs.Scorer.{scoreHere}
 use Rattle.ordering.specs.Inner.Scorers.{noScorer}
 use Rattle.ordering.proofs.Places.{all-first}
 use Rattle.term_scorer.specs.Inner.Slots.{held, Sixteen}
-use Rattle.block_wand_union.specs.Inner.Seats.{Scorable, scorerAt}
+use Rattle.block_wand_union.specs.Inner.Seats.{OnDocument, scorerAt}
 use Rattle.block_wand_union.proofs.Advances.{scored-next}
 use Rattle.block_wand_union.proofs.pivot.score_on_pivot.Statement.{statement}
 use Rattle.block_wand_union.proofs.pivot.score_on_pivot.Tie as tie
@@ -33,12 +33,12 @@ sixteen a = sym (length-map (a .args .scorers .scorers) _) ∙ a .good .1 .1 .1 
 long : (o : tie.After-array Inv-loop μ-loop) → start o .args .pivot-len ≤ length (start o .args .scorers .scorers)
 long o = omega (arith, sixteen (start o))
 
-scorable : (c : tie.In-loop Inv-loop μ-loop) → (let a = start (c .before .before) in
-    Scorable (a .args .file .now) (a .args .lists .now) (a .args .caches .now) (held (a .args .places .now) (a .args .docs .now) (a .args .freqs .now)) (getD (a .args .scorers .scorers) (c .before .loop .i) noScorer))
-scorable c =
+on-document : (c : tie.In-loop Inv-loop μ-loop) → (let a = start (c .before .before) in
+    OnDocument (a .args .file .now) (a .args .lists .now) (a .args .caches .now) (held (a .args .places .now) (a .args .docs .now) (a .args .freqs .now)) (getD (a .args .scorers .scorers) (c .before .loop .i) noScorer))
+on-document c =
     let o = c .before .before in
     let a = start o in
-    all-first (Scorable _ _ _ _) (a .args .scorers .scorers) (a .args .pivot-len) (c .before .loop .i) noScorer (omega arith) (long o) (a .pre .2)
+    all-first (OnDocument _ _ _ _) (a .args .scorers .scorers) (a .args .pivot-len) (c .before .loop .i) noScorer (omega arith) (long o) (a .pre .2)
 
 loop-holds : tie.Need-loop-holds Inv-loop μ-loop
 unfolding ofBits
@@ -51,7 +51,7 @@ array-copy-out-scorer : tie.Need-array-copy-out-scorer Inv-loop μ-loop
 array-copy-out-scorer c = search needs
 
 score-requires : tie.Need-score-requires Inv-loop μ-loop
-score-requires c κs = let b = c .before in let S = scorable b in (S .stand .slot-in, start (b .before .before) .pre .1, S .stand .slot, S .weighed, S .stand .doc-is, S .live)
+score-requires c κs = let b = c .before in let S = on-document b in (S .stand .slot-in, start (b .before .before) .pre .1, S .stand .slot, S .weighed, S .stand .doc-is, S .live)
 
 add-i : tie.Need-add-i Inv-loop μ-loop
 add-i c = search needs

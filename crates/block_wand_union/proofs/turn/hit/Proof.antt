@@ -1,9 +1,11 @@
 -- `turn::hit` meets its contract: a report is due if the sum of the scores exceeds the threshold, and then the scorers stay; else those that went on are the route's.
 use mathlib.Core.Path.{sym, _∙_}
 use native.Mathlib.Omega.{arith}
-use lib.ListN.{length-map}
+use lib.ListN.{length-map, take}
 use borrow.Author.Needs.{needs}
-use Rattle.term_scorer.specs.Inner.Slots.{Sixteen}
+use Rattle.route.proofs.Lists.{all-imp}
+use Rattle.term_scorer.specs.Inner.Slots.{held, Sixteen}
+use Rattle.block_wand_union.specs.Inner.Seats.{Inside, OnDocument}
 use Rattle.block_wand_union.proofs.OnPivots.{hit-due, hit-quiet}
 use Rattle.block_wand_union.proofs.turn.hit.Statement.{statement}
 use Rattle.block_wand_union.proofs.turn.hit.Tie as tie
@@ -25,7 +27,10 @@ returns c =
     (s .score-on-pivot .ensures) (c .if1 .taken) (omega (arith, sixteen a)) (a .pre .3) (a .pre .4)
 
 advance-all-scorers-on-pivot-requires : tie.Need-advance-all-scorers-on-pivot-requires
-advance-all-scorers-on-pivot-requires c κs = let a = start (c .before .before .before .before) in (a .pre .0, a .pre .1, a .pre .3, a .pre .4, a .pre .6)
+advance-all-scorers-on-pivot-requires c κs = 
+    let a = start (c .before .before .before .before) in
+    let h = held (a .args .places .now) (a .args .docs .now) (a .args .freqs .now) in
+    (a .pre .0, a .pre .1, a .pre .3, a .pre .4, all-imp (OnDocument (a .args .file .now) (a .args .lists .now) (a .args .caches .now) h) (Inside (a .args .file .now) (a .args .lists .now) h) (take (a .args .span .«pivot_len») (a .args .scorers .scorers)) (λ _ s. s .inside) (a .pre .5))
 
 quiet-requires : tie.Need-quiet-requires
 quiet-requires c κs = search needs

@@ -29,7 +29,7 @@ returns c =
     let p = c .before .before .before in
     let a = p .before .before .before in
     let e = sym (c .before .enum-told .given .1) ∙ p .find-pivot-doc .ensures in
-    rw (c .quiet .ensures) (nowhere (a .args .file .now) (a .args .lists .now) _ (a .args .threshold) _ (a .args .scorers) (a .pre .2) e)
+    rw (c .quiet .ensures) (nowhere (a .args .threshold) (a .args .scorers) (a .pre .2) e)
 
 returns-2 : tie.Need-returns-2
 returns-2 c = c .to-pivot .ensures

@@ -6,7 +6,7 @@ use lib.Seq.{take-take}
 use borrow.Author.Needs.{needs}
 use Rattle.block_wand_union.specs.Inner.Seats.{Seat, alive}
 use Rattle.block_wand_union.proofs.Seats.{first-apart, first-of}
-use Rattle.block_wand_union.proofs.Steps.{at-pivot, found, high, low, stands′}
+use Rattle.block_wand_union.proofs.Steps.{at-pivot, found, high, low, seated′, stands}
 use Rattle.block_wand_union.proofs.turn.to_pivot.Statement.{statement}
 use Rattle.block_wand_union.proofs.turn.to_pivot.Tie as tie
 
@@ -15,7 +15,7 @@ abbrev start : tie.After-seek-blocks → tie.Start
 start b = b .before .before .before .before .before .before
 
 few : (a : tie.Start) → a .args .span .«pivot_len» ≤ a .args .scorers .len
-few a = let P = a .pre .2 in omega (arith, found _ _ _ _ _ _ (P .seated) P .inside, length-take (a .args .scorers .len) (a .args .scorers .scorers))
+few a = let P = a .pre .2 in omega (arith, found P .inside, length-take (a .args .scorers .len) (a .args .scorers .scorers))
 
 seek-blocks-requires : tie.Need-seek-blocks-requires
 seek-blocks-requires c κs =
@@ -31,7 +31,7 @@ on-pivot-requires c κs =
     let a = start b in
     let P = a .pre .2 in
     let B = b .seek-blocks .ensures (alive (a .args .scorers)) (take-take (a .args .span .«pivot_len») (a .args .scorers .len) (a .args .scorers .scorers) (few a)) (P .seated .apart) (P .seated .seats) in
-    (a .pre .0, a .pre .1, P .seated .apart, at-pivot (a .args .file .now) (a .args .lists .now) _ (a .args .threshold) _ _ (P .seated) P B)
+    (a .pre .0, a .pre .1, (_, at-pivot P B))
 
 returns : tie.Need-returns
 returns c =
@@ -39,7 +39,7 @@ returns c =
     let a = start (t .before) in
     let P = a .pre .2 in
     let B = t .before .seek-blocks .ensures (alive (a .args .scorers)) (take-take (a .args .span .«pivot_len») (a .args .scorers .len) (a .args .scorers .scorers) (few a)) (P .seated .apart) (P .seated .seats) in
-    high (a .args .file .now) (a .args .lists .now) _ (a .args .threshold) _ _ (P .seated) P B (t .if1 .taken) (c .on-pivot .ensures)
+    high P B (t .if1 .taken) (c .on-pivot .ensures)
 
 block-max-was-too-low-advance-one-scorer-requires :
     tie.Need-block-max-was-too-low-advance-one-scorer-requires
@@ -48,8 +48,7 @@ block-max-was-too-low-advance-one-scorer-requires c κs =
     let a = start b in
     let P = a .pre .2 in
     let B = b .seek-blocks .ensures (alive (a .args .scorers)) (take-take (a .args .span .«pivot_len») (a .args .scorers .len) (a .args .scorers .scorers) (few a)) (P .seated .apart) (P .seated .seats) in
-    let F = found (a .args .file .now) (a .args .lists .now) _ (a .args .threshold) _ _ (P .seated) P in
-    (omega (arith, F .first), few a, a .pre .0, P .seated .apart, stands′ (a .args .file .now) (a .args .lists .now) _ (a .args .threshold) _ _ (P .seated) P B)
+    (omega (arith, found P .first), few a, a .pre .0, P .seated .apart, stands (seated′ P B))
 
 quiet-requires : tie.Need-quiet-requires
 quiet-requires c κs = search needs
@@ -60,7 +59,7 @@ returns-2 c =
     let a = start (e .before) in
     let P = a .pre .2 in
     let B = e .before .seek-blocks .ensures (alive (a .args .scorers)) (take-take (a .args .span .«pivot_len») (a .args .scorers .len) (a .args .scorers .scorers) (few a)) (P .seated .apart) (P .seated .seats) in
-    rw (c .quiet .ensures) (low (a .args .file .now) (a .args .lists .now) _ (a .args .threshold) _ _ (P .seated) P B (e .if1 .left) (c .before .block-max-was-too-low-advance-one-scorer .ensures))
+    rw (c .quiet .ensures) (low P B (e .if1 .left) (c .before .block-max-was-too-low-advance-one-scorer .ensures))
 
 pub to-pivot-spec : {M : Type 1} → statement M
 to-pivot-spec =

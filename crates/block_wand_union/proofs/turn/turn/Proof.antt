@@ -4,6 +4,7 @@ use borrow.Author.Needs.{needs}
 use Rattle.route.specs.F32.{f32}
 use Rattle.route.specs.Inner.Unions.{UnionKept}
 use Rattle.notefile.specs.Header.{documents}
+use Rattle.term_scorer.specs.Inner.Slots.{held}
 use Rattle.block_wand_union.specs.Inner.Seats.{alive, placeIn}
 use Rattle.block_wand_union.specs.declared.Stage.{Stage}
 use Rattle.block_wand_union.specs.declared.Stage.the-variants.{Called}
@@ -33,8 +34,8 @@ advance-all-scorers-on-pivot-requires : tie.Need-advance-all-scorers-on-pivot-re
 advance-all-scorers-on-pivot-requires c κs =
     let m = c .before .before .before in
     let a = m .before .before .before .before in
-    let R = on-report (a .args .file .now) (a .args .lists .now) _ (a .args .threshold) _ (a .args .scorers) (a .pre .2) (kept-at a (m .before .stage .given .1)) in
-    (R .0, a .pre .0, a .pre .2 .apart, stands (a .args .file .now) (a .args .lists .now) _ (a .args .threshold) _ _ (a .pre .2), R .1)
+    let R = on-report (a .args .file .now) (a .args .lists .now) (a .args .similarity .scoring) (held (a .args .places .now) (a .args .docs .now) (a .args .freqs .now)) (a .args .scorers) (kept-at a (m .before .stage .given .1)) in
+    (R .0, a .pre .0, a .pre .2 .apart, stands (a .pre .2), R .1)
 
 quiet-requires : tie.Need-quiet-requires
 quiet-requires c κs = search needs
@@ -53,13 +54,13 @@ returns-2 c =
     let m = c .before .before .before .before .before in
     let a = m .before .before .before .before in
     let e = m .before .stage .given .1 in
-    rw (e, c .quiet .ensures) (goes-on (a .args .file .now) (a .args .lists .now) _ (a .args .threshold) _ (a .args .scorers) (a .pre .2) (kept-at a e) (c .before .advance-all-scorers-on-pivot .ensures))
+    rw (e, c .quiet .ensures) (goes-on (a .args .threshold) (a .args .scorers) (a .pre .2) (c .before .advance-all-scorers-on-pivot .ensures))
 
 returns-3 : tie.Need-returns-3
 returns-3 c =
     let m = c .before in
     let a = m .before .before .before in
-    rw (m .enum-told2 .given .1, c .quiet2 .ensures) (stays (a .args .file .now) (a .args .lists .now) _ (a .args .threshold) _ (a .args .scorers) (a .pre .2))
+    rw (m .enum-told2 .given .1, c .quiet2 .ensures) (stays (a .args .threshold) (a .args .scorers) (a .pre .2))
 
 pub turn-spec : {M : Type 1} → statement M
 turn-spec =
