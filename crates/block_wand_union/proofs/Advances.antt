@@ -87,7 +87,7 @@ module _ (file : List ℕ) (lists : List (List ℕ)) (h : Held) (ss : List TermS
 
       module _ {h″ : Held} {doc : ℕ} (M : MovedSlot file lists (x .slot) (λ s. advanceIn (listAt s file lists (x .slot)) 128 (cursorAt (h′ .places) (x .slot))) h′ h″ doc) where
         abbrev x′ : TermScorer
-        x′ = record { doc = doc; slot = x .slot }
+        x′ = record { doc = doc; «max_score» = x .«max_score»; slot = x .slot }
 
         out-is : take n (set out i x′) ≡ set (take n out) i x′
         out-is = take-set-lt n out i x′ inside
@@ -107,9 +107,8 @@ module _ (file : List ℕ) (lists : List (List ℕ)) (h : Held) (ss : List TermS
         }
 
     -- then the finished go, and the rest is sorted
-    pub advanced : (len : ℕ) → i ≡ len → {r : Scorers} → Left (sweep byDoc n (take n out)) n r → {sorted : List TermScorer} → Sixteen sorted
-        → take (r .len) sorted ≡ sortBy byDoc (take (r .len) (r .scorers)) → AdvancedAll file lists h l n len h′ (record { scorers = sorted; len = r .len })
-    advanced len e {r} L {sorted} wide q =
+    pub advanced : (len : ℕ) → i ≡ len → {r : Scorers} → Left (sweep byDoc n (take n out)) n r → {sorted : List TermScorer} → take (r .len) sorted ≡ sortBy byDoc (take (r .len) (r .scorers)) → AdvancedAll file lists h l n len h′ (record { scorers = sorted; len = r .len })
+    advanced len e {r} L {sorted} q =
         let out-n : length (take n out) ≡ n = let o = S .long in omega (arith, length-take n out) in
         let now : take (r .len) sorted ≡ sortBy byDoc (sweep byDoc n (take n out)) = q ∙ ap (sortBy byDoc) (L .are) in
         record {
@@ -123,5 +122,4 @@ module _ (file : List ℕ) (lists : List (List ℕ)) (h : Held) (ss : List TermS
               (all-imp (Stand file lists h′) (SameDoc g) (take n out) (same-doc file lists scoring h′) (S .carried .stands))
               (rw e at (moved-all (advance 128) f l (S .on scoring)));
           few = L .few;
-          long = wide;
         }

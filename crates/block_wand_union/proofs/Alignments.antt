@@ -64,7 +64,7 @@ module _ (file : List ℕ) (lists : List (List ℕ)) (p : ℕ) (h : Held) (ss : 
 
       module _ {h″ : Held} {doc : ℕ} (M : MovedSlot file lists (x .slot) to h′ h″ doc) where
         abbrev x′ : TermScorer
-        x′ = record { doc = doc; slot = x .slot }
+        x′ = record { doc = doc; «max_score» = x .«max_score»; slot = x .slot }
 
         out-is : take n (set out j x′) ≡ set (take n out) j x′
         out-is = let k = few in take-set-lt n out j x′ (omega arith)

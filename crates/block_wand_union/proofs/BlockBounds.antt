@@ -18,8 +18,8 @@ use Rattle.ordering.specs.declared.TermScorer.{TermScorer}
 use Rattle.ordering.proofs.Places.{all-at, map-append}
 use Rattle.ordering.proofs.Turns.{replaced-all}
 use Rattle.ordering.proofs.Moving.{moves-on-doc, moving}
-use Rattle.term_scorer.specs.Inner.Slots.{cursorAt, held, listAt, Shallowed, Sixteen}
-use Rattle.term_scorer.specs.Inner.Weights.{Bounded}
+use Rattle.term_scorer.specs.Inner.Slots.{cursorAt, held, listAt, Shallowed}
+use Rattle.term_scorer.specs.Inner.Weights.{Bounded, FloatRow}
 use Rattle.block_wand_union.specs.Inner.Seats.{Seat, Terms, scorerAt, terms}
 use Rattle.block_wand_union.specs.Inner.Moves.{BlocksSought}
 use Rattle.block_wand_union.proofs.Seats.{bound-here, bounded-seat, other-scorers, other-seat, shallow-scorer}
@@ -34,17 +34,17 @@ module _ (file : List ℕ) (lists : List (List ℕ)) (T : Terms) (places docs fr
   f = scorerAt file lists (T .scoring) places
 
   abbrev with : List Float → Terms
-  with bounds = terms (T .scoring) (T .weights) (T .caches) bounds
+  with bounds = terms (T .scoring) (T .caches) bounds
 
   -- the first i have sought, and the bounds of their blocks are added up
   pub record Bounding (i : ℕ) (places′ : List (List ℕ)) (bounds′ : List Float) (sum : Float) : Type 0 where
     pub seats : All (Seat file lists (with bounds′) (held places′ docs freqs)) l
     pub moved : Moving (seekBlock 128 doc) f l i (scorerAt file lists (T .scoring) places′) l
     pub sum-is : sum ≡ sumFrom f32 (f32 .nil) (map (blockMaxScore 128 f32) (map (seekBlock 128 doc) (map f (take i l))))
-    pub sixteen : Sixteen bounds′
+    pub row : FloatRow bounds′
 
-  pub bounding : All (Seat file lists T (held places docs freqs)) l → Sixteen (T .bounds) → Bounding 0 places (T .bounds) (f32 .nil)
-  bounding a n = record { seats = a; moved = moving (seekBlock 128 doc) f l; sum-is = refl; sixteen = n }
+  pub bounding : All (Seat file lists T (held places docs freqs)) l → FloatRow (T .bounds) → Bounding 0 places (T .bounds) (f32 .nil)
+  bounding a n = record { seats = a; moved = moving (seekBlock 128 doc) f l; sum-is = refl; row = n }
 
   module _ {i : ℕ} {places′ : List (List ℕ)} {bounds′ : List Float} {sum : Float} (S : Bounding i places′ bounds′ sum) where
     seat-at : (inside : i < length l) → Seat file lists (with bounds′) (held places′ docs freqs) (getD l i noScorer)
@@ -67,12 +67,12 @@ module _ (file : List ℕ) (lists : List (List ℕ)) (T : Terms) (places docs fr
         record {
           seats = rw (set-getD l i noScorer) at
               (replaced-all l i x inside apart (Seat file lists (with bounds′) (held places′ docs freqs)) (Seat file lists (with bounds₂) (held places₂ docs freqs))
-              (other-seat file lists x docs freqs M (with bounds′) B X (S .sixteen)) (bounded-seat file lists x docs freqs M (with bounds′) B X (S .sixteen)) (S .seats));
+              (other-seat file lists x docs freqs M (with bounds′) B X (S .row)) (bounded-seat file lists x docs freqs M (with bounds′) B X (S .row)) (S .seats));
           moved = moves-on-doc (seekBlock 128 doc) f l (S .moved) (scorerAt file lists (T .scoring) places₂) inside apart
-              (other-scorers file lists x docs freqs M (with bounds′) B X (S .sixteen)) (shallow-scorer file lists x docs freqs M (with bounds′) B X (S .sixteen));
+              (other-scorers file lists x docs freqs M (with bounds′) B X (S .row)) (shallow-scorer file lists x docs freqs M (with bounds′) B X (S .row));
           sum-is =
               ap (λ (z : Float). f32 .add z r) (S .sum-is) ∙ ap (f32 .add (sumFrom f32 (f32 .nil) (map (blockMaxScore 128 f32) (map (seekBlock 128 doc) (map f (take i l))))))
-              (bound-here file lists x docs freqs M (with bounds′) B X (S .sixteen) ∙ ap (λ (z : Scorer Float). blockMaxScore 128 f32 (seekBlock 128 doc z)) here)
+              (bound-here file lists x docs freqs M (with bounds′) B X (S .row) ∙ ap (λ (z : Scorer Float). blockMaxScore 128 f32 (seekBlock 128 doc z)) here)
               ∙ sym (sum-snoc (map (blockMaxScore 128 f32) (map (seekBlock 128 doc) (map f (take i l)))) (f32 .nil) (blockMaxScore 128 f32 sought))
               ∙ sym (rw (
                 add-one,
@@ -81,7 +81,7 @@ module _ (file : List ℕ) (lists : List (List ℕ)) (T : Terms) (places docs fr
                 map-append (seekBlock 128 doc) (map f (take i l)) (f x ∷ []),
                 map-append (blockMaxScore 128 f32) (map (seekBlock 128 doc) (map f (take i l))) (sought ∷ []),
               ));
-          sixteen = ap length (B .bounds-are) ∙ length-set bounds′ q r ∙ S .sixteen;
+          row = ap length (B .bounds-are) ∙ length-set bounds′ q r ∙ S .row;
         }
 
     pub bounded : (len : ℕ) → i ≡ len → BlocksSought file lists T (held places docs freqs) doc len (held places′ docs freqs) bounds′ sum l
@@ -89,13 +89,13 @@ module _ (file : List ℕ) (lists : List (List ℕ)) (T : Terms) (places docs fr
       seats = S .seats;
       moving = rw e at (S .moved);
       sum-is = S .sum-is ∙ ap (λ z. sumFrom f32 (f32 .nil) (map (blockMaxScore 128 f32) z)) (sym (S .moved .front)) ∙ rw e;
-      sixteen = S .sixteen;
+      row = S .row;
     }
 
 -- the scorer at place i, by the array
 pub seat-of : (file : List ℕ) (lists : List (List ℕ)) (T : Terms) (places docs freqs : List (List ℕ)) (doc len : ℕ) (ss : List TermScorer) {i : ℕ} {places′ : List (List ℕ)} {bounds′ : List Float} {sum : Float}
     → Bounding file lists T places docs freqs doc (take len ss) i places′ bounds′ sum → i < len → len ≤ length ss
-    → Seat file lists (terms (T .scoring) (T .weights) (T .caches) bounds′) (held places′ docs freqs) (getD ss i noScorer)
+    → Seat file lists (terms (T .scoring) (T .caches) bounds′) (held places′ docs freqs) (getD ss i noScorer)
 seat-of file lists T places docs freqs doc len ss {i} S h k =
     rw (getD-take len ss i noScorer h) at (seat-at file lists T places docs freqs doc (take len ss) S (omega (arith, length-take len ss)))
 

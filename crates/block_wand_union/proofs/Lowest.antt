@@ -17,6 +17,7 @@ use Rattle.route.proofs.Union.Pivot.{leastLast-le}
 use Rattle.bm25.specs.declared.Scoring.{Scoring}
 use Rattle.ordering.specs.Inner.Scorers.{Apart, leastDocOf, moved, noScorer}
 use Rattle.ordering.specs.Inner.Pivots.{placeToSeek}
+use Rattle.ordering.specs.declared.Scorers.{Scorers}
 use Rattle.ordering.specs.declared.TermScorer.{TermScorer}
 use Rattle.ordering.proofs.Places.{all-at, all-take, drop-take-cons, drop-take-nil}
 use Rattle.ordering.proofs.Found.{seek-inside}
@@ -28,7 +29,7 @@ use Rattle.postings.proofs.Readers.{end-is}
 use Rattle.slot_rows.specs.Inner.Rows.{cursorIn}
 use Rattle.slot_rows.proofs.Rows.{last-is, last-small}
 use Rattle.term_scorer.specs.Inner.Slots.{cursorAt, Held, lastAt, listAt, partAt, MovedSlot}
-use Rattle.block_wand_union.specs.Inner.Seats.{Carried, Stand, scorerAt}
+use Rattle.block_wand_union.specs.Inner.Seats.{Carried, Stand, alive, scorerAt}
 use Rattle.block_wand_union.specs.Inner.Moves.{LastRead, TooLow, leastLastOf}
 use Rattle.block_wand_union.proofs.Seats.{carried-kept, carried-move, carried-trans, fair, moved-stand, same-doc, same-off, scorer-is}
 
@@ -96,10 +97,10 @@ module _ (file : List ℕ) (lists : List (List ℕ)) (h : Held) where
 
 -- ---- the scorers after the move
 
-pub seeks-inside : (maxScores : List Float) (ss : List TermScorer) (len at : ℕ) → at ≡ placeToSeek maxScores (take len ss) → 0 < len → len ≤ length ss → at < len
-seeks-inside maxScores ss len at e pos long = omega (arith, seek-inside maxScores (take len ss) (omega (arith, length-take len ss)), length-take len ss)
+pub seeks-inside : (ss : List TermScorer) (len at : ℕ) → at ≡ placeToSeek (take len ss) → 0 < len → len ≤ length ss → at < len
+seeks-inside ss len at e pos long = omega (arith, seek-inside (take len ss) (omega (arith, length-take len ss)), length-take len ss)
 
-module _ (file : List ℕ) (lists : List (List ℕ)) (maxScores : List Float) (ss : List TermScorer) (n len at last after d doc : ℕ) where
+module _ (file : List ℕ) (lists : List (List ℕ)) (ss : List TermScorer) (n len at last after d doc : ℕ) where
   abbrev l : List TermScorer
   l = take n ss
 
@@ -107,17 +108,17 @@ module _ (file : List ℕ) (lists : List (List ℕ)) (maxScores : List Float) (s
   x = getD ss at noScorer
 
   abbrev x′ : TermScorer
-  x′ = record { doc = doc; slot = x .slot }
+  x′ = record { doc = doc; «max_score» = x .«max_score»; slot = x .slot }
 
   module _ {h h′ : Held} (pos : 0 < len) (few : len ≤ n) (long : n ≤ length ss) (apart : Apart l) (a : All (Stand file lists h) l)
       (last-is : last ≡ leastLastOf (h .places) 2147483647 (take len ss)) (after-is : after ≡ behind last) (d-is : d ≡ leastDocOf after (drop len l))
-      (at-is : at ≡ placeToSeek maxScores (take len ss))
+      (at-is : at ≡ placeToSeek (take len ss))
       (M : MovedSlot file lists (x .slot) (λ s. seekIn (listAt s file lists (x .slot)) 128 d (cursorAt (h .places) (x .slot))) h h′ doc) where
     cut : take len l ≡ take len ss
     cut = take-take len n ss few
 
     inside : at < len
-    inside = seeks-inside maxScores ss len at at-is pos (omega arith)
+    inside = seeks-inside ss len at at-is pos (omega arith)
 
     there : getD l at noScorer ≡ x
     there = getD-take n ss at noScorer (omega (arith, inside))
@@ -134,18 +135,20 @@ module _ (file : List ℕ) (lists : List (List ℕ)) (maxScores : List Float) (s
         let C = rw there at (carried-move file lists l at in-l apart N a) in
         carried-trans file lists C (carried-kept file lists h′ (moved-kept (set l at x′) at) (C .apart) (C .stands))
 
-    pub too-low : (r : List TermScorer) → take n r ≡ moved (take n (set ss at x′)) at → TooLow file lists maxScores h l len h′ (take n r)
-    too-low r e =
-        let q : take n r ≡ out = e ∙ ap (λ z. moved z at) (take-set-lt n ss at x′ (omega (arith, inside))) in
-        rw q (record {
-          carried = carries;
+    pub too-low : (r : Scorers) → r .len ≡ n → take n (r .scorers) ≡ moved (take n (set ss at x′)) at → TooLow file lists h l n len h′ r
+    too-low r k e =
+        let q : alive r ≡ out = ap (λ (z : ℕ). take z (r .scorers)) k ∙ e ∙ ap (λ z. moved z at) (take-set-lt n ss at x′ (omega (arith, inside))) in
+        record {
+          carried = rw q carries;
           scorers-are = λ scoring max-scores.
+              rw q (
               let f₀ = scorerAt file lists scoring (h .places) in
               let f₁ = scorerAt file lists scoring (h′ .places) in
               let first = rw cut at (all-take (Stand file lists h) len l a) in
-              too-low-on-route 128 maxScores f₀ f₁ l len at d x′ pos (omega (arith, length-take n ss)) (fair file lists maxScores scoring h l a max-scores) apart
+              too-low-on-route 128 f₀ f₁ l len at d x′ pos (omega (arith, length-take n ss)) (fair file lists scoring h l a max-scores) apart
               (rw cut at-is)
               (d-is ∙ ap (λ (z : ℕ). leastDocOf z (drop len l)) (after-is ∙ ap behind (last-is ∙ least-is file lists h scoring (take len ss) first ∙ ap (leastLast 128 f₀) (sym cut))))
               (rw there (same-off file lists M scoring)) (rw there (scorer-is file lists x M scoring))
-              (same-doc file lists scoring h′ x′ (moved-stand file lists x M (rw there at (all-at (Stand file lists h) l at noScorer in-l a))));
-        })
+              (same-doc file lists scoring h′ x′ (moved-stand file lists x M (rw there at (all-at (Stand file lists h) l at noScorer in-l a)))));
+          all = k;
+        }

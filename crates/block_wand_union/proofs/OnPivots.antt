@@ -1,20 +1,21 @@
 -- At a pivot: scorers that all came to it can be scored and go on, and what the step leaves is the route's.
 use mathlib.Core.Bool.{Bool, false, true}
 use mathlib.Core.List.{List, map, [], _++_, _∷_}
+use mathlib.Core.Option.{some}
 use mathlib.Core.Path.{ap, refl, subst, sym, _∙_, _≡_}
 use Prim.Native.Nat.{ℕ, _-_, _<_, _≤_}
 use native.Mathlib.Omega.{arith}
-use lib.ListN.{drop, getD, take, take-append-drop}
+use lib.ListN.{drop, getD, length, length-take, take, take-append-drop}
 use lib.Seq.{take-take}
 use lib.Ieee.{Float}
 use Rattle.route.specs.Lists.{All}
 use Rattle.route.specs.Score.{sum}
 use Rattle.route.specs.F32.{f32}
 use Rattle.route.specs.Postings.{TERMINATED}
-use Rattle.route.specs.Report.{dueAt}
+use Rattle.route.specs.Report.{Report}
 use Rattle.route.specs.Scorer.{Scorer, docOf, scoreHere, seek}
-use Rattle.route.specs.Union.{goOn}
-use Rattle.route.specs.Route.{quiet}
+use Rattle.route.specs.Union.{UnionPlace, goOn}
+use Rattle.route.specs.Route.{Load, Turn, loadsBack}
 use Rattle.route.specs.Inner.Unions.{SafeS}
 use Rattle.route.proofs.Cases.{lt-of-ne}
 use Rattle.route.proofs.Lists.{all-append, all-imp, all-map, all-zip}
@@ -23,26 +24,28 @@ use Rattle.route.proofs.Union.Pivot.{AlignIs, align-is}
 use Rattle.route.proofs.Union.Safe.{inside, safe-seek}
 use Rattle.bm25.specs.declared.Scoring.{Scoring}
 use Rattle.bm25.specs.declared.Scoring.the-variants.{Unstepped}
-use Rattle.ordering.specs.Inner.Scorers.{noScorer}
+use Rattle.ordering.specs.Inner.Scorers.{Apart, noScorer}
 use Rattle.ordering.specs.Inner.Pivots.{Found}
 use Rattle.ordering.specs.declared.TermScorer.{TermScorer}
 use Rattle.ordering.specs.declared.Scorers.{Scorers}
 use Rattle.ordering.proofs.Places.{all-at, all-drop, all-take, drop-take, drop-take-cons, map-append, map-drop, map-take}
-use Rattle.ordering.proofs.UnionTurns.{after-hit, after-miss}
+use Rattle.ordering.proofs.UnionTurns.{after-hit, after-miss, scored-due, scored-quiet}
 use Rattle.notefile.specs.Header.{documents}
 use Rattle.notefile.specs.Lists.{fullBlocks}
 use Rattle.decoded.specs.Lists.{listOf}
 use Rattle.decoded.proofs.AcceptedLists.{list-ok}
-use Rattle.term_scorer.specs.Inner.Slots.{cursorAt, Held, listAt, partAt, Sixteen}
-use Rattle.block_wand_union.specs.Inner.Seats.{Inside, Scorable, Stand, WeighedAt, scorerAt}
+use Rattle.term_scorer.specs.Inner.Slots.{cursorAt, Held, listAt, partAt}
+use Rattle.block_wand_union.specs.Inner.Seats.{Inside, OnDocument, Seat, Stand, Terms, alive, scorerAt}
 use Rattle.block_wand_union.specs.Inner.Moves.{AdvancedAll, AlignedBy, Aligns, OnPivot, PastPivot}
-use Rattle.block_wand_union.specs.Inner.Turns.{AtPivot, Hit, Pivoted, quietStep}
+use Rattle.block_wand_union.specs.Inner.Turns.{AtPivot, Does, Hit, Pivoted, quietStep}
+use Rattle.block_wand_union.specs.declared.Stage.the-variants.{Called, Looking}
 use Rattle.block_wand_union.specs.declared.align.Alignment.{Alignment}
+use Rattle.block_wand_union.specs.declared.turn.Span.{Span}
 use Rattle.block_wand_union.specs.declared.turn.Step.{Step}
-use Rattle.block_wand_union.proofs.Seats.{carried-trans, same-doc}
+use Rattle.block_wand_union.proofs.Seats.{carried-refl, carried-trans, same-doc, seats-stand}
 
 module _ {A : Type 0} where
-  all-unmap : {B : Type 0} (P : B → Type 0) (g : A → B) (xs : List A) → All P (map g xs) → All (λ x. P (g x)) xs
+  pub all-unmap : {B : Type 0} (P : B → Type 0) (g : A → B) (xs : List A) → All P (map g xs) → All (λ x. P (g x)) xs
   all-unmap P g [] a = tt
   all-unmap P g (x ∷ xs) a = (a .0, all-unmap P g xs (a .1))
 
@@ -69,122 +72,149 @@ module _ (file : List ℕ) (lists : List (List ℕ)) where
       let low = doc-low h (getD l before noScorer) (all-at (Stand file lists h) l before noScorer (omega arith) a) in
       lt-of-ne (omega arith) (q .live)
 
-module _ (file : List ℕ) (lists : List (List ℕ)) (scoring : Scoring) (weights : List Float) (caches : List (List Float)) where
-  module _ {h : Held} {l : List TermScorer} {before len p : ℕ} (A : AtPivot file lists scoring weights caches h l before len p) where
-    abbrev f : TermScorer → Scorer Float
-    f = scorerAt file lists scoring (h .places)
+  -- a scorer that is on a document can go on
+  pub inside-on : (scoring : Scoring) (h : Held) (s : TermScorer) → SafeS 128 (documents file) (scorerAt file lists scoring (h .places) s)
+      → docOf (scorerAt file lists scoring (h .places) s) < TERMINATED → Inside file lists h s
+  inside-on scoring h s k d = rw (full-is scoring file lists (s .slot)) at (inside 128 (documents file) (scorerAt file lists scoring (h .places) s) k d .0)
 
-    first : before < len
-    first = A .found .first
+module _ {file : List ℕ} {lists : List (List ℕ)} {T : Terms} {h : Held} {l : List TermScorer} {at : Span} (A : AtPivot file lists T h l at) where
+  abbrev before : ℕ
+  before = at .«before_pivot_len»
 
-    pub pivot-low : p < TERMINATED
-    pivot-low = found-low file lists h (A .stands) (A .found)
+  abbrev len : ℕ
+  len = at .«pivot_len»
 
-    -- a scorer on the pivot, safe on the route
-    abbrev OnIt : Scorer Float → Type 0
-    OnIt z = (docOf z ≡ p) × SafeS 128 (documents file) z
+  abbrev p : ℕ
+  p = at .«pivot_doc»
 
-    module _ {h′ : Held} {l′ : List TermScorer} (O : OnPivot file lists p h l before h′ l′) where
-      abbrev g : TermScorer → Scorer Float
-      g = scorerAt file lists scoring (h′ .places)
+  abbrev f : TermScorer → Scorer Float
+  f = scorerAt file lists (T .scoring) (h .places)
 
-      whole : map g (take before l′) ++ map g (drop before (take len l′)) ≡ map g (take len l′)
-      whole =
-          let k = first in
-          sym (map-append g (take before l′) (drop before (take len l′)))
-          ∙ ap (map g) (ap (λ z. z ++ drop before (take len l′)) (sym (take-take before len l′ (omega arith))) ∙ take-append-drop before (take len l′))
+  first : before < len
+  first = A .found .first
 
-      -- those before the pivot have come to it
-      came : All OnIt (map g (take before l′))
-      came =
-          let pre = map f (take before l) in
-          let low = pivot-low in
-          let is = subst (AlignIs 128 p pre) (O .aligned-are scoring) (align-is 128 p pre) in
-          let safe : All (SafeS 128 (documents file)) pre = rw (map-take f before l) (all-take (SafeS 128 (documents file)) before (map f l) (A .safe)) in
-          let sought = all-map (SafeS 128 (documents file)) (SafeS 128 (documents file)) (seek 128 p) pre (λ s k. safe-seek 128 (documents file) p s (omega arith) k .safe) safe in
-          all-zip (λ z. docOf z ≡ p) (SafeS 128 (documents file)) OnIt (λ _ d k. (d, k)) (map g (take before l′)) (is .1) (rw (is .0) sought)
+  pub stands-at : All (Stand file lists h) l
+  stands-at = seats-stand file lists T h l (A .seated .seats)
 
-      -- the others were on it
-      were : All OnIt (map g (drop before (take len l′)))
-      were =
-          let d = len - before in
-          let part = drop before (take len l) in
-          let cut : (k : TermScorer → Scorer Float) (z : List TermScorer) → map k (drop before (take len z)) ≡ take d (map k (drop before z)) =
-          λ k z. ap (map k) (drop-take before len z) ∙ map-take k d (drop before z) in
-          let same : map g (drop before (take len l′)) ≡ map f part = cut g l′ ∙ ap (take d) (O .rest-are scoring) ∙ sym (cut f l) in
-          let stands = all-drop (Stand file lists h) before (take len l) (all-take (Stand file lists h) len l (A .stands)) in
-          let docs : All (λ z. docOf z ≡ p) (map f part) =
-          all-map (λ s. docOf (f s) ≡ p) (λ z. docOf z ≡ p) f part (λ _ e. e)
-          (all-zip (Stand file lists h) (λ s. s .doc ≡ p) (λ s. docOf (f s) ≡ p) (λ s S e. same-doc file lists scoring h s S ∙ e) part stands (A .found .on)) in
-          let safe : All (SafeS 128 (documents file)) (map f part) =
-          rw (map-drop f before (take len l), map-take f len l) (all-drop (SafeS 128 (documents file)) before (take len (map f l)) (all-take (SafeS 128 (documents file)) len (map f l) (A .safe))) in
-          rw same (all-zip (λ z. docOf z ≡ p) (SafeS 128 (documents file)) OnIt (λ _ e k. (e, k)) (map f part) docs safe)
+  pub pivot-low : p < TERMINATED
+  pivot-low = found-low file lists h stands-at (A .found)
 
-      on-it : All (λ s. OnIt (g s)) (take len l′)
-      on-it = all-unmap OnIt g (take len l′) (rw whole at (all-append OnIt (map g (take before l′)) (map g (drop before (take len l′))) came were))
+  -- a scorer on the pivot, safe on the route
+  abbrev OnIt : Scorer Float → Type 0
+  OnIt z = (docOf z ≡ p) × SafeS 128 (documents file) z
 
-      pub scorable : All (Scorable file lists weights caches h′) (take len l′)
-      scorable =
-          let low = pivot-low in
-          let stands = all-take (Stand file lists h′) len l′ (O .carried .stands) in
-          let weighed = all-take (WeighedAt file lists weights caches) len l′ (O .carried .weights weights caches (A .weighed)) in
-          all-zip (λ s. Stand file lists h′ s × WeighedAt file lists weights caches s) (λ s. OnIt (g s)) (Scorable file lists weights caches h′)
-          (λ s z o. record { stand = z .0; weighed = z .1; live = omega (arith, same-doc file lists scoring h′ s (z .0), o .0) }) (take len l′)
-          (all-zip (Stand file lists h′) (WeighedAt file lists weights caches) (λ s. Stand file lists h′ s × WeighedAt file lists weights caches s) (λ _ a b. (a, b)) (take len l′) stands weighed) on-it
+  module _ {h′ : Held} {l′ : List TermScorer} (O : OnPivot file lists p h l before h′ l′) where
+    abbrev g : TermScorer → Scorer Float
+    g = scorerAt file lists (T .scoring) (h′ .places)
 
-      pub insides : All (Inside file lists h′) (take len l′)
-      insides =
-          let low = pivot-low in
-          all-imp (λ s. OnIt (g s)) (Inside file lists h′) (take len l′)
-          (λ s o. rw (full-is scoring file lists (s .slot)) at (inside 128 (documents file) (g s) (o .1) (omega (arith, o .0)) .0)) on-it
-
-      -- what a hit leaves, at threshold t
-      pub on-hit : (t : Float) (n : ℕ) {h″ : Held} {r : Step} → Hit file lists scoring t h′ l′ n len p h″ r → Pivoted file lists scoring t h l n before len p h″ r
-      on-hit t n D =
-          let k = first in
-          record {
-            carried = carried-trans file lists (O .carried) (D .carried);
-            turn-is = D .turn-is ∙ sym (after-hit 128 t l before len p (omega arith) f g l′ (O .aligned-are scoring) (O .rest-are scoring));
-            few = D .few;
-            long = D .long;
-          }
-
-    -- what a miss leaves
-    pub miss : (t : Float) (n : ℕ) {h′ : Held} {out : List TermScorer} {len′ : ℕ} → PastPivot file lists p h l before h′ (take len′ out) → len′ ≤ n → Sixteen out
-        → Pivoted file lists scoring t h l n before len p h′ (quietStep out len′ true)
-    miss t n P few long =
+    whole : map g (take before l′) ++ map g (drop before (take len l′)) ≡ map g (take len l′)
+    whole =
         let k = first in
-        let m = P .missed-is scoring in
+        sym (map-append g (take before l′) (drop before (take len l′)))
+        ∙ ap (map g) (ap (λ z. z ++ drop before (take len l′)) (sym (take-take before len l′ (omega arith))) ∙ take-append-drop before (take len l′))
+
+    -- those before the pivot have come to it
+    came : All OnIt (map g (take before l′))
+    came =
+        let pre = map f (take before l) in
+        let low = pivot-low in
+        let is = subst (AlignIs 128 p pre) (O .aligned-are (T .scoring)) (align-is 128 p pre) in
+        let safe : All (SafeS 128 (documents file)) pre = rw (map-take f before l) (all-take (SafeS 128 (documents file)) before (map f l) (A .safe)) in
+        let sought = all-map (SafeS 128 (documents file)) (SafeS 128 (documents file)) (seek 128 p) pre (λ s k. safe-seek 128 (documents file) p s (omega arith) k .safe) safe in
+        all-zip (λ z. docOf z ≡ p) (SafeS 128 (documents file)) OnIt (λ _ d k. (d, k)) (map g (take before l′)) (is .1) (rw (is .0) sought)
+
+    -- the others were on it
+    were : All OnIt (map g (drop before (take len l′)))
+    were =
+        let d = len - before in
+        let part = drop before (take len l) in
+        let cut : (k : TermScorer → Scorer Float) (z : List TermScorer) → map k (drop before (take len z)) ≡ take d (map k (drop before z)) =
+        λ k z. ap (map k) (drop-take before len z) ∙ map-take k d (drop before z) in
+        let same : map g (drop before (take len l′)) ≡ map f part = cut g l′ ∙ ap (take d) (O .rest-are (T .scoring)) ∙ sym (cut f l) in
+        let stands = all-drop (Stand file lists h) before (take len l) (all-take (Stand file lists h) len l stands-at) in
+        let docs : All (λ z. docOf z ≡ p) (map f part) =
+        all-map (λ s. docOf (f s) ≡ p) (λ z. docOf z ≡ p) f part (λ _ e. e)
+        (all-zip (Stand file lists h) (λ s. s .doc ≡ p) (λ s. docOf (f s) ≡ p) (λ s S e. same-doc file lists (T .scoring) h s S ∙ e) part stands (A .found .on)) in
+        let safe : All (SafeS 128 (documents file)) (map f part) =
+        rw (map-drop f before (take len l), map-take f len l) (all-drop (SafeS 128 (documents file)) before (take len (map f l)) (all-take (SafeS 128 (documents file)) len (map f l) (A .safe))) in
+        rw same (all-zip (λ z. docOf z ≡ p) (SafeS 128 (documents file)) OnIt (λ _ e k. (e, k)) (map f part) docs safe)
+
+    on-it : All (λ s. OnIt (g s)) (take len l′)
+    on-it = all-unmap OnIt g (take len l′) (rw whole at (all-append OnIt (map g (take before l′)) (map g (drop before (take len l′))) came were))
+
+    -- so they are on a document
+    pub on-document : All (OnDocument file lists (T .caches) h′) (take len l′)
+    on-document =
+        let low = pivot-low in
+        all-zip (Seat file lists T h′) (λ s. OnIt (g s)) (OnDocument file lists (T .caches) h′)
+        (λ s S o. record {
+          stand = S .stand;
+          weighed = S .weighed;
+          live = omega (arith, same-doc file lists (T .scoring) h′ s (S .stand), o .0);
+          inside = inside-on file lists (T .scoring) h′ s (o .1) (omega (arith, o .0));
+        })
+        (take len l′) (all-take (Seat file lists T h′) len l′ (O .carried .seats T (A .seated .seats))) on-it
+
+    -- what a hit leaves, at threshold t
+    pub on-hit : {t : Float} {m n : ℕ} → m ≤ n → {h″ : Held} {r : Step} → Hit file lists (T .scoring) t h′ l′ m len p h″ r → Pivoted file lists (T .scoring) t h l n at h″ r
+    on-hit {t} b {h″} {r} D =
+        let k = first in
         record {
-          carried = P .carried;
-          turn-is = ap (λ ss. quiet (goOn ss)) (m .2) ∙ sym (after-miss 128 t l before len p (omega arith) f (m .0) (m .1));
-          few = few;
-          long = long;
+          carried = carried-trans file lists (O .carried) (D .carried);
+          does = subst (λ (u : Turn (UnionPlace Float) Float). Does file lists (T .scoring) u h″ r)
+              (sym (after-hit 128 t l before len p (omega arith) f g l′ (O .aligned-are (T .scoring)) (O .rest-are (T .scoring))))
+              (D .does (loadsBack (map f (take before l)) (map g (take before l′))));
+          few = omega (arith, D .few);
         }
 
--- the scorers on the pivot, scored and advanced
-pub hit : (file : List ℕ) (lists : List (List ℕ)) (scoring : Scoring) (t : Float) (h : Held) (ss : List TermScorer) (n len p : ℕ) → len ≤ n → {h′ : Held} {left : Scorers} {score : Float}
-    → AdvancedAll file lists h (take n ss) n len h′ left → score ≡ sum f32 (map scoreHere (map (scorerAt file lists scoring (h .places)) (take len ss)))
-    → Hit file lists scoring t h (take n ss) n len p h′ (record { scorers = left .scorers; len = left .len; more = true; due = f32 .above score t; doc = p; score = score })
-hit file lists scoring t h ss n len p few {h′} {left} D e =
-    let next = map (scorerAt file lists scoring (h′ .places)) (take (left .len) (left .scorers)) in
-    let q = take-take len n ss few in
-    let x : Float = sum f32 (map scoreHere (map (scorerAt file lists scoring (h .places)) (take len (take n ss)))) in
-    record {
-      carried = D .carried;
-      turn-is =
-          ap (λ (z : Float). record { next = goOn next; due = dueAt f32 t p z }) (e ∙ rw q)
-          ∙ ap (λ z. record { next = goOn z; due = dueAt f32 t p x }) (D .scorers-are scoring);
-      doc-is = refl;
-      score-is = e ∙ rw q;
-      few = D .few;
-      long = D .long;
-    }
+  -- what a miss leaves
+  pub miss : (t : Float) {n : ℕ} {h′ : Held} {z : Scorers} → PastPivot file lists p h l before h′ (alive z) → z .len ≤ n
+      → Pivoted file lists (T .scoring) t h l n at h′ (quietStep z Looking)
+  miss t P few =
+      let k = first in
+      let m = P .missed-is (T .scoring) in
+      let e = after-miss 128 t l before len p (omega arith) f (m .0) (m .1) in
+      record {
+        carried = P .carried;
+        does = record { next-is = ap (λ u. u .next) e ∙ ap (λ ss. goOn ss) (sym (m .2)); due-is = ap (λ u. u .due) e };
+        few = few;
+      }
+
+-- the scorers on the pivot are scored
+module _ (file : List ℕ) (lists : List (List ℕ)) (scoring : Scoring) (t : Float) (h : Held) (z : Scorers) (len p : ℕ) (few : len ≤ z .len) {score : Float}
+    (e : score ≡ sum f32 (map scoreHere (map (scorerAt file lists scoring (h .places)) (take len (z .scorers))))) where
+  abbrev at-route : TermScorer → Scorer Float
+  at-route = scorerAt file lists scoring (h .places)
+
+  score-is : score ≡ sum f32 (map scoreHere (map at-route (take len (alive z))))
+  score-is = let q = take-take len (z .len) (z .scorers) few in e ∙ rw q
+
+  -- a report is due, and they stay
+  pub hit-due : f32 .above score t ≡ true → z .len ≤ length (z .scorers) → Apart (alive z) → All (Stand file lists h) (alive z)
+      → Hit file lists scoring t h (alive z) (z .len) len p h (record { scorers = z; stage = Called len; due = true; doc = p; score = score })
+  hit-due q long apart a = record {
+    carried = carried-refl file lists h (alive z) apart a;
+    does = λ ls.
+        let d = scored-due 128 t p ls at-route (alive z) len (omega (arith, length-take (z .len) (z .scorers))) (rw score-is at q) in
+        record { next-is = ap (λ u. u .next) d; due-is = ap (λ u. u .due) d ∙ ap (λ (x : Float). some (record { doc = p; score = x })) (sym score-is) };
+    few = omega arith;
+  }
+
+  -- none is due, and they have advanced
+  pub hit-quiet : f32 .above score t ≡ false → {h′ : Held} {left : Scorers} → AdvancedAll file lists h (alive z) (z .len) len h′ left
+      → Hit file lists scoring t h (alive z) (z .len) len p h′ (quietStep left Looking)
+  hit-quiet q D = record {
+    carried = D .carried;
+    does = λ ls.
+        let d = scored-quiet 128 t p ls at-route (alive z) len (rw score-is at q) in
+        record { next-is = ap (λ u. u .next) d ∙ ap (λ ss. goOn ss) (sym (D .scorers-are scoring)); due-is = ap (λ u. u .due) d };
+    few = D .few;
+  }
 
 -- `align_scorers`' answer
-module _ (file : List ℕ) (lists : List (List ℕ)) {p : ℕ} {h h′ : Held} {l : List TermScorer} {n before : ℕ} {r : Alignment} (E : Aligns file lists p h l n before h′ r) where
-  pub came-to : r .«on_pivot» ≡ true → OnPivot file lists p h l before h′ (take n (r .scorers))
-  came-to e = rw (E .all e) at (subst (λ (b : Bool). AlignedBy file lists b p h l before h′ (take (r .len) (r .scorers))) e (E .by))
+module _ {file : List ℕ} {lists : List (List ℕ)} {p : ℕ} {h h′ : Held} {l : List TermScorer} {n before : ℕ} {r : Alignment} (E : Aligns file lists p h l n before h′ r) where
+  pub came-to : r .«on_pivot» ≡ true → OnPivot file lists p h l before h′ (alive (r .scorers))
+  came-to e = subst (λ (b : Bool). AlignedBy file lists b p h l before h′ (alive (r .scorers))) e (E .by)
 
-  pub went-past : r .«on_pivot» ≡ false → PastPivot file lists p h l before h′ (take (r .len) (r .scorers))
-  went-past e = subst (λ (b : Bool). AlignedBy file lists b p h l before h′ (take (r .len) (r .scorers))) e (E .by)
+  pub went-past : r .«on_pivot» ≡ false → PastPivot file lists p h l before h′ (alive (r .scorers))
+  went-past e = subst (λ (b : Bool). AlignedBy file lists b p h l before h′ (alive (r .scorers))) e (E .by)

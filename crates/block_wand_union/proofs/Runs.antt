@@ -1,182 +1,190 @@
--- The loop of `block_wand` goes the route: begun with the scorers in order, on by a turn with or without a report, and its two ends.
+-- A union's run by turns: the scorers read off the tables and their slots written back, the loop of `walk`, and its beginning.
 use mathlib.Core.Bool.{Bool, false, not, true}
-use mathlib.Core.List.{List, map, []}
-use mathlib.Core.Option.{some}
+use mathlib.Core.List.{List, map, [], _∷_}
+use mathlib.Core.Option.{none, some}
 use mathlib.Core.Path.{ap, refl, subst, sym, _∙_, _≡_}
-use Prim.Native.Nat.{ℕ, _≤_, _<_}
+use Prim.Native.Nat.{ℕ, suc, _+_, _≤_, _<_}
+use native.Mathlib.Numerals.{add-one}
 use native.Mathlib.Omega.{arith}
-use lib.ListN.{length, take}
+use lib.ListN.{getD, length, length-set, set, take}
+use lib.Seq.{take-suc, take-suc-set}
 use lib.Ieee.{Float}
-use Rattle.route.specs.Lists.{All}
-use Rattle.route.specs.Cursor.{Cursor, fresh}
 use Rattle.route.specs.F32.{f32}
-use Rattle.route.specs.Ordering.{sortBy}
-use Rattle.route.specs.Scorer.{Scorer, docOf}
-use Rattle.route.specs.Route.{Route}
-use Rattle.route.specs.Union.{UnionPlace, goOn, pivotRoute, unionTurn}
-use Rattle.route.specs.Inner.Unions.{Safe, SafeS, UnionKept}
-use Rattle.route.proofs.Cases.{lt-of-ne}
-use Rattle.route.proofs.Lists.{all-each, all-imp, all-map, all-perm, all-zip}
-use Rattle.route.proofs.Ordering.{sort-perm, sort-sorted}
-use Rattle.route.proofs.Cursor.{fresh-is}
-use Rattle.route.proofs.Union.Ends.{union-nears, unionCost}
+use Rattle.route.specs.Lists.{All}
+use Rattle.route.specs.Scorer.{Scorer}
+use Rattle.route.specs.Union.{UnionPlace, isOver, unionTurn}
+use Rattle.route.specs.Inner.Unions.{UnionKept}
+use Rattle.route.proofs.Lists.{all-imp}
+use Rattle.route.proofs.Union.Ends.{union-nears}
 use Rattle.bm25.specs.declared.Scoring.{Scoring}
-use Rattle.ordering.specs.Inner.Scorers.{byDoc}
+use Rattle.ordering.specs.Inner.Scorers.{slotOf}
+use Rattle.ordering.specs.declared.Scorers.{Scorers}
 use Rattle.ordering.specs.declared.TermScorer.{TermScorer}
-use Rattle.ordering.proofs.Kept.{kept-all, kept-apart, sort-kept}
-use Rattle.ordering.proofs.OnRoute.{SameDoc, sorted-on-route}
-use Rattle.rule.specs.Inner.Follows.{Follows}
-use Rattle.rule.specs.declared.Rule.{Rule}
-use Rattle.rule.specs.declared.Threshold.{Threshold}
+use Rattle.ordering.proofs.Places.{map-append}
 use Rattle.notefile.specs.Header.{documents}
-use Rattle.reports.specs.Rows.{rowsOf}
-use Rattle.reports.specs.Inner.Rows.{Reported}
-use Rattle.reports.specs.Inner.Runs.{AtRest, Going, Rests}
-use Rattle.reports.proofs.RunLaws.{rests-ended, rests-full, run-begun, run-quiet, run-reports}
-use Rattle.reports.proofs.RowLaws.{count-is, documents-long, scores-long}
-use Rattle.decoded.proofs.AcceptedLists.{list-ok}
-use Rattle.term_scorer.specs.Inner.Slots.{Held, cursorAt, listAt, partAt, Sixteen}
-use Rattle.block_wand_union.specs.Inner.Seats.{Seat, Seated, Stand, Terms, MaxScoreAt, scorerAt, terms, OnFirst}
-use Rattle.block_wand_union.specs.Inner.Turns.{Turned, turnOf}
+use Rattle.reports.specs.Inner.Turns.{Went}
+use Rattle.reports.specs.declared.Event.the-variants as event
+use Rattle.reports.proofs.TurnLaws.{Quietly, at-end, at-pause, at-report, none-yet, one-more}
+use Rattle.slot_rows.specs.Inner.Rows.{postingsIn}
+use Rattle.slot_rows.proofs.Rows.{doc-in-array}
+use Rattle.term_scorer.specs.Inner.Slots.{Held, listAt, Sixteen}
+use Rattle.block_wand_union.specs.Inner.Seats.{Readable, Seat, Seated, Terms, alive, placeIn, scorerAt, slotScorer, stageOf, termAt, terms}
+use Rattle.block_wand_union.specs.Inner.Turns.{Turned}
+use Rattle.block_wand_union.specs.Inner.Runs.{Stands, Walks, placeOf, unionEnded}
+use Rattle.block_wand_union.specs.declared.Stage.{Stage}
+use Rattle.block_wand_union.specs.declared.Union.{Union}
+use Rattle.block_wand_union.specs.declared.Walked.{Walked}
 use Rattle.block_wand_union.specs.declared.turn.Step.{Step}
-use Rattle.block_wand_union.proofs.Seats.{same-doc}
+use Rattle.block_wand_union.proofs.OnPivots.{all-unmap}
 
--- the loop's route from scorers that are in order
-abbrev pub routeFrom : List (Scorer Float) → Route Float
-routeFrom ss =
-    let W = pivotRoute 128 f32 [] in
-    record { Place = UnionPlace Float; first = goOn ss; ended = W .ended; turn = W .turn; scorers = W .scorers }
+-- ---- lists
 
-module _ (file : List ℕ) (lists : List (List ℕ)) (maxScores : List Float) where
-  -- a scorer that was just opened is safe on the route
-  fresh-safe : (scoring : Scoring) (h : Held) (s : TermScorer) → Stand file lists h s → OnFirst (h .places) s → SafeS 128 (documents file) (scorerAt file lists scoring (h .places) s)
-  fresh-safe scoring h s S e =
-      let l = listAt scoring file lists (s .slot) in
-      let ok = list-ok scoring file (partAt lists (s .slot)) (S .slot .list .right) (S .slot .list .few) in
-      let w = fresh-is 128 (documents file) l ok .0 in
-      let safe : Safe 128 (documents file) l fresh = record { lo = w .lo; hi = w .hi; order = w .order; in-list = omega (arith, w .in-list); edge = λ z. absurd (omega arith) } in
-      record { ok = ok; safe = subst (Safe 128 (documents file) l) (sym e) safe }
+-- one element more of a list that is written place by place
+pub fills : {A B : Type 0} (f : A → B) (xs : List A) (ys : List B) (i : ℕ) (d : A) → i < length xs → i < length ys → take i ys ≡ map f (take i xs) → {y : B} → y ≡ f (getD xs i d)
+    → take (i + 1) (set ys i y) ≡ map f (take (i + 1) xs)
+fills f xs ys i d h k e {y} q =
+    rw (add-one, take-suc-set ys i y k, take-suc xs i d h, map-append f (take i xs) (getD xs i d ∷ []), e, q)
 
-  module _ (T : Terms) (rule : Rule) (script : List Float) (documents₀ : List ℕ) (scores₀ : List Float) (first : List (Scorer Float)) where
-    abbrev with : List Float → Terms
-    with bounds = terms (T .scoring) (T .weights) (T .caches) bounds
+map-map : {A B C : Type 0} (g : B → C) (f : A → B) (xs : List A) → map g (map f xs) ≡ map (λ x. g (f x)) xs
+map-map g f [] = refl
+map-map g f (x ∷ xs) = ap (λ z. g (f x) ∷ z) (map-map g f xs)
 
-    abbrev placeOf : Held → List TermScorer → ℕ → Bool → UnionPlace Float
-    placeOf h alive len more = record { more = more; scorers = map (scorerAt file lists (T .scoring) (h .places)) (take len alive) }
+-- a negated test
+pub not-true : (b : Bool) → not b ≡ true → b ≡ false
+not-true true e = sym e
+not-true false e = refl
 
-    in-slots : (h : Held) (l : List TermScorer) → All (AtRest (cursorAt (h .places))) (map (scorerAt file lists (T .scoring) (h .places)) l)
-    in-slots h l = all-each (AtRest (cursorAt (h .places))) (scorerAt file lists (T .scoring) (h .places)) l (λ s. refl)
+pub not-false : (b : Bool) → not b ≡ false → b ≡ true
+not-false true e = refl
+not-false false e = sym e
 
-    -- the scorers left are seated, and stand where the route does after the reports so far
-    pub record Running (t : Threshold) (docs : List ℕ) (values : List Float) (h : Held) (bounds : List Float) (alive : List TermScorer) (len : ℕ) (more : Bool) : Type 0 where
-      pub going : Going (routeFrom first) rule script documents₀ scores₀ t docs values (placeOf h alive len more)
-      pub kept : UnionKept 128 (documents file) f32 (placeOf h alive len more)
-      pub seated : Seated file lists (with bounds) maxScores h (take len alive)
-      pub few : len ≤ 16
-      pub long : Sixteen alive
+-- ---- the scorers in the tables
 
-    module _ {t : Threshold} {docs : List ℕ} {values : List Float} {h : Held} {bounds : List Float} {alive : List TermScorer} {len : ℕ} {more : Bool}
-        (S : Running t docs values h bounds alive len more) where
-      pub ends : more ≡ false → Rests (routeFrom first) rule script documents₀ scores₀ (cursorAt (h .places)) false (t .reports) docs values
-      ends e = rests-ended (routeFrom first) rule script documents₀ scores₀ (S .going) (cursorAt (h .places)) (ap not e) (in-slots h (take len alive))
+module _ (file : List ℕ) (lists : List (List ℕ)) where
+  -- a scorer can be read off the tables
+  readable : (T : Terms) (h : Held) (q : ℕ) → Seat file lists T h (termAt file lists (T .scoring) (h .places) q) → Readable file lists (T .caches) (h .places) (h .docs) q
+  unfolding postingsIn
+  readable T h q S = record {
+    slot-in = S .stand .slot-in;
+    part-row = S .stand .slot .part-row;
+    list = S .stand .slot .list;
+    weighed = S .weighed;
+    inside = S .stand .slot .place .placed .inside;
+    doc-is = sym (doc-in-array file (getD lists q []) (getD (h .places) q []) (S .stand .slot .list) (S .stand .slot .place));
+  }
 
-      pub kept-on : more ≡ true → UnionKept 128 (documents file) f32 (goOn (map (scorerAt file lists (T .scoring) (h .places)) (take len alive)))
-      kept-on e = subst (UnionKept 128 (documents file) f32) (ap (placeOf h alive len) e) (S .kept)
+  -- seated scorers are those that their slots have
+  same-terms : (T : Terms) (h : Held) (l : List TermScorer) → All (Seat file lists T h) l → map (termAt file lists (T .scoring) (h .places)) (map slotOf l) ≡ l
+  same-terms T h [] a = refl
+  same-terms T h (s ∷ l) a =
+      let t = same-terms T h l (a .1) in
+      let d = a .0 .stand .doc-is in
+      let m = a .0 .max-is in
+      let e : termAt file lists (T .scoring) (h .places) (s .slot) ≡ s =
+      ap (λ (x : ℕ). record { doc = x; «max_score» = listAt (T .scoring) file lists (s .slot) .top; slot = s .slot }) (sym d)
+      ∙ ap (λ (x : Float). record { doc = s .doc; «max_score» = x; slot = s .slot }) m in
+      rw (e, t)
 
-      module _ (on : more ≡ true) {h′ : Held} {bounds′ : List Float} {r : Step} (D : Turned file lists (with bounds) maxScores (t .now) h (take len alive) len h′ bounds′ r) where
-        place-on : placeOf h alive len more ≡ goOn (map (scorerAt file lists (T .scoring) (h .places)) (take len alive))
-        place-on = ap (placeOf h alive len) on
+  module _ {T : Terms} {u : Union} {order : List ℕ} {h : Held} (S : Stands file lists T u order h) where
+    abbrev ordered : List TermScorer
+    ordered = map (termAt file lists (T .scoring) (h .places)) (take (u .len) order)
 
-        turn-is : unionTurn 128 f32 (t .now) (placeOf h alive len more) ≡ turnOf (scorerAt file lists (T .scoring) (h′ .places)) r
-        turn-is = ap (unionTurn 128 f32 (t .now)) place-on ∙ D .turn-is
+    pub readables : All (Readable file lists (T .caches) (h .places) (h .docs)) (take (u .len) order)
+    readables =
+        all-imp (λ q. Seat file lists T h (termAt file lists (T .scoring) (h .places) q)) (Readable file lists (T .caches) (h .places) (h .docs)) (take (u .len) order) (readable T h)
+        (all-unmap (Seat file lists T h) (termAt file lists (T .scoring) (h .places)) (take (u .len) order) (S .seated .seats))
 
-        near : UnionKept 128 (documents file) f32 (placeOf h′ (r .scorers) (r .len) (r .more))
-            × (unionCost 128 (documents file) f32 (placeOf h′ (r .scorers) (r .len) (r .more)) < unionCost 128 (documents file) f32 (placeOf h alive len more))
-        near = rw turn-is at (union-nears 128 (documents file) f32 [] tt .nears (t .now) (placeOf h alive len more) (ap not on) (S .kept))
+    module _ {l : List TermScorer} (e : l ≡ ordered) where
+      -- their place is the run's
+      pub place-read : placeIn file lists (T .scoring) (h .places) (u .stage) l ≡ placeOf file lists (T .scoring) u order (h .places)
+      place-read =
+          ap (λ z. record { stage = stageOf (u .stage); scorers = map (scorerAt file lists (T .scoring) (h .places)) z }) e
+          ∙ ap (λ z. record { stage = stageOf (u .stage); scorers = z }) (map-map (scorerAt file lists (T .scoring) (h .places)) (termAt file lists (T .scoring) (h .places)) (take (u .len) order))
 
-        pub less : unionCost 128 (documents file) f32 (placeOf h′ (r .scorers) (r .len) (r .more)) < unionCost 128 (documents file) f32 (placeOf h alive len more)
-        less = near .1
+      pub seated-read : Seated file lists T h l
+      seated-read = rw e (S .seated)
 
-        -- a turn without a report
-        pub quietly : r .due ≡ false → Running t docs values h′ bounds′ (r .scorers) (r .len) (r .more)
-        quietly e = record {
-          going = run-quiet (routeFrom first) rule script documents₀ scores₀ (S .going) (turn-is ∙ rw e);
-          kept = near .0;
-          seated = D .seated;
-          few = let a = D .few in let b = S .few in omega arith;
-          long = D .long;
-        }
+      pub kept-read : UnionKept 128 (documents file) f32 (placeIn file lists (T .scoring) (h .places) (u .stage) l)
+      kept-read = rw place-read (S .kept)
 
-        module _ (due : r .due ≡ true) where
-          due-is : turnOf (scorerAt file lists (T .scoring) (h′ .places)) r
-              ≡ record { next = placeOf h′ (r .scorers) (r .len) (r .more); due = some (record { doc = r .doc; score = r .score }) }
-          due-is = rw due
+  -- slots written back in their order
+  module _ {T : Terms} {h : Held} (z : Scorers) (stage : Stage) (order : List ℕ) (few : z .len ≤ 16) (room : Sixteen order) (S : Seated file lists T h (alive z))
+      (k : UnionKept 128 (documents file) f32 (placeIn file lists (T .scoring) (h .places) stage (alive z))) (e : take (z .len) order ≡ map slotOf (alive z)) where
+    abbrev u : Union
+    u = record { len = z .len; stage = stage }
 
-          -- a report, written and told
-          pub reporting : {t′ : Threshold} {docs′ : List ℕ} {values′ : List Float} → t .reports < rowsOf documents₀ scores₀ → Reported rule script t (r .doc) (r .score) docs values t′ docs′ values′
-              → Running t′ docs′ values′ h′ bounds′ (r .scorers) (r .len) (r .more)
-          reporting k R = record {
-            going = run-reports (routeFrom first) rule script documents₀ scores₀ (S .going) (turn-is ∙ due-is) k R;
-            kept = near .0;
-            seated = D .seated;
-            few = let a = D .few in let b = S .few in omega arith;
-            long = D .long;
-          }
+    pub place-kept : placeIn file lists (T .scoring) (h .places) stage (alive z) ≡ placeOf file lists (T .scoring) u order (h .places)
+    place-kept =
+        ap (λ w. record { stage = stageOf stage; scorers = w })
+        (sym (map-map (slotScorer file lists (T .scoring) (h .places)) slotOf (alive z)) ∙ ap (map (slotScorer file lists (T .scoring) (h .places))) (sym e))
 
-          -- a report, and no row for it
-          pub filled : t .reports ≡ rowsOf documents₀ scores₀ → Rests (routeFrom first) rule script documents₀ scores₀ (cursorAt (h′ .places)) true (t .reports) docs values
-          filled k =
-              rests-full (routeFrom first) rule script documents₀ scores₀ (S .going) (cursorAt (h′ .places)) (turn-is ∙ due-is) k (in-slots h′ (take (r .len) (r .scorers)))
-
-      -- the buffers are as long as they were, and the next row is in them unless all are written
-      pub lengths : (length docs ≡ length documents₀) × (length values ≡ length scores₀) × (t .reports ≤ rowsOf documents₀ scores₀)
-      lengths =
-          let K = S .going .kept in
-          let n = count-is K in
-          let f = K .written .fit in
-          (documents-long (K .written), scores-long (K .written), omega arith)
-
-      pub row-left : {all : ℕ} → all ≡ rowsOf documents₀ scores₀ → (t .reports ≡ all → ⊥) → (t .reports < length docs) × (t .reports < length values) × (t .reports < rowsOf documents₀ scores₀)
-      row-left {all} e ne =
-          let n = lengths in
-          let k : t .reports < all = lt-of-ne (omega (arith, n .2)) ne in
-          (omega (arith, n .0), omega (arith, n .1), omega arith)
-
-  -- ---- the beginning
-
-  module _ (T : Terms) (rule : Rule) (script : List Float) (documents₀ : List ℕ) (scores₀ : List Float) (h : Held) (l : List TermScorer)
-      (S : Seated file lists T maxScores h l) (a : All (OnFirst (h .places)) l) (alive : List TermScorer) (n : ℕ) (e : take n alive ≡ sortBy byDoc l) where
-    abbrev f : TermScorer → Scorer Float
-    f = scorerAt file lists (T .scoring) (h .places)
-
-    stands : All (Stand file lists h) l
-    stands = all-imp (Seat file lists T h) (Stand file lists h) l (λ _ s. s .stand) (S .seats)
-
-    in-order : map f (take n alive) ≡ sortBy docOf (map f l)
-    in-order = ap (map f) e ∙ sorted-on-route f l (all-imp (Stand file lists h) (SameDoc f) l (same-doc file lists (T .scoring) h) stands)
-
-    safe : All (SafeS 128 (documents file)) (map f l)
-    safe =
-        all-map (λ s. SafeS 128 (documents file) (f s)) (SafeS 128 (documents file)) f l (λ _ k. k)
-        (all-zip (Stand file lists h) (OnFirst (h .places)) (λ s. SafeS 128 (documents file) (f s)) (fresh-safe (T .scoring) h) l stands a)
-
-    pub running : n ≤ 16 → Sixteen alive → {t : Threshold} → Follows rule script [] t
-        → Running T rule script documents₀ scores₀ (map f (take n alive)) t documents₀ scores₀ h (T .bounds) alive n true
-    running few long F = record {
-      going = run-begun (routeFrom (map f (take n alive))) rule script documents₀ scores₀ F;
-      kept = rw in-order (record { scs = all-perm (SafeS 128 (documents file)) (sort-perm docOf (map f l)) safe; order = sort-sorted docOf (map f l) });
-      seated = rw e (record {
-        seats = kept-all (Seat file lists T h) (sort-kept byDoc l) (S .seats);
-        apart = kept-apart (sort-kept byDoc l) (S .apart);
-        max-scores = kept-all (MaxScoreAt file lists (T .scoring) maxScores) (sort-kept byDoc l) (S .max-scores);
-        sixteen = S .sixteen;
-      });
+    pub stands-kept : Stands file lists T u order h
+    stands-kept = record {
       few = few;
-      long = long;
+      room = room;
+      seated = rw (e, same-terms T h (alive z) (S .seats)) S;
+      kept = rw place-kept at k;
     }
 
-    -- the loop's route is `block_wand`'s
-    pub whole-run : {cursor : ℕ → Cursor} {full : Bool} {count : ℕ} {docs : List ℕ} {values : List Float}
-        → Rests (routeFrom (map f (take n alive))) rule script documents₀ scores₀ cursor full count docs values → Rests (pivotRoute 128 f32 (map f l)) rule script documents₀ scores₀ cursor full count docs values
-    whole-run {cursor} {full} {count} {docs} {values} R =
-        subst (λ (ss : List (Scorer Float)). Rests (routeFrom ss) rule script documents₀ scores₀ cursor full count docs values) in-order R
+-- ---- the loop of `walk`
+
+module _ (file : List ℕ) (lists : List (List ℕ)) (T : Terms) (t : Float) (stage₀ : Stage) (h₀ : Held) (l₀ : List TermScorer) (turns : ℕ) where
+  abbrev with : List Float → Terms
+  with bounds = terms (T .scoring) (T .caches) bounds
+
+  abbrev place : Held → Stage → Scorers → UnionPlace Float
+  place h stage z = placeIn file lists (T .scoring) (h .places) stage (alive z)
+
+  -- so many turns were taken, none with a report, and the scorers are seated
+  pub record OnWay (h : Held) (bounds : List Float) (z : Scorers) (stage : Stage) (taken : ℕ) : Type 0 where
+    pub quietly : Quietly (unionTurn 128 f32) unionEnded t (placeIn file lists (T .scoring) (h₀ .places) stage₀ l₀) taken (place h stage z)
+    pub kept : UnionKept 128 (documents file) f32 (place h stage z)
+    pub seated : Seated file lists (with bounds) h (alive z)
+    pub few : z .len ≤ 16
+    pub within : taken ≤ turns
+
+  module _ {h : Held} {bounds : List Float} {z : Scorers} {stage : Stage} {taken : ℕ} (S : OnWay h bounds z stage taken) where
+    pub over : isOver (stageOf stage) ≡ true → Walks file lists T t stage₀ h₀ l₀ turns h bounds (record { scorers = z; stage = stage; taken = taken; event = event.Over })
+    over e = record { few = S .few; seated = S .seated; kept = S .kept; went = at-end (unionTurn 128 f32) unionEnded t (S .quietly) (S .within) e }
+
+    module _ (on : isOver (stageOf stage) ≡ false) where
+      pub paused : taken ≡ turns → Walks file lists T t stage₀ h₀ l₀ turns h bounds (record { scorers = z; stage = stage; taken = taken; event = event.Paused })
+      paused e = record {
+        few = S .few;
+        seated = S .seated;
+        kept = S .kept;
+        went = subst (λ (k : ℕ). Went (unionTurn 128 f32) unionEnded t (placeIn file lists (T .scoring) (h₀ .places) stage₀ l₀) k taken (place h stage z) event.Paused) e
+            (at-pause (unionTurn 128 f32) unionEnded t (S .quietly) on);
+      }
+
+      module _ (room : taken < turns) {h′ : Held} {bounds′ : List Float} {r : Step} (D : Turned file lists (with bounds) t stage h (alive z) (z .len) h′ bounds′ r) where
+        next-kept : UnionKept 128 (documents file) f32 (place h′ (r .stage) (r .scorers))
+        next-kept = rw (D .does .next-is) at (union-nears 128 (documents file) f32 [] tt .nears t (place h stage z) on (S .kept) .0)
+
+        fewer : r .scorers .len ≤ 16
+        fewer = let a = D .few in let b = S .few in omega arith
+
+        -- a turn without a report
+        pub quiet-turn : r .due ≡ false → OnWay h′ bounds′ (r .scorers) (r .stage) (taken + 1)
+        quiet-turn e = record {
+          quietly = rw add-one (one-more (unionTurn 128 f32) unionEnded t (S .quietly) on (D .does .due-is ∙ rw e) (D .does .next-is));
+          kept = next-kept;
+          seated = D .seated;
+          few = fewer;
+          within = omega arith;
+        }
+
+        -- a turn with one
+        pub reports : r .due ≡ true
+            → Walks file lists T t stage₀ h₀ l₀ turns h′ bounds′ (record { scorers = r .scorers; stage = r .stage; taken = taken + 1; event = event.Report (r .doc) (r .score) })
+        reports e = record {
+          few = fewer;
+          seated = D .seated;
+          kept = next-kept;
+          went = rw add-one (at-report (unionTurn 128 f32) unionEnded t (S .quietly) room on (D .does .due-is ∙ rw e) (D .does .next-is));
+        }
+
+-- no turn yet
+pub begun : (file : List ℕ) (lists : List (List ℕ)) (T : Terms) (t : Float) (stage : Stage) (h : Held) (z : Scorers) (turns : ℕ) → z .len ≤ 16 → Seated file lists T h (alive z)
+    → UnionKept 128 (documents file) f32 (placeIn file lists (T .scoring) (h .places) stage (alive z)) → OnWay file lists T t stage h (alive z) turns h (T .bounds) z stage 0
+begun file lists T t stage h z turns few S k = record { quietly = none-yet (unionTurn 128 f32) unionEnded t _; kept = k; seated = S; few = few; within = omega arith }

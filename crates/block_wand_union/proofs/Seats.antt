@@ -11,11 +11,11 @@ use Rattle.route.specs.Postings.{Postings}
 use Rattle.route.specs.Cursor.{Cursor, blockMax}
 use Rattle.route.specs.F32.{f32}
 use Rattle.route.specs.Scorer.{onCur}
-use Rattle.route.proofs.Lists.{perm-eq}
+use Rattle.route.proofs.Lists.{all-imp, perm-eq}
 use Rattle.bm25.specs.declared.Scoring.{Scoring}
 use Rattle.ordering.specs.Inner.Scorers.{Apart, noScorer}
 use Rattle.ordering.specs.declared.TermScorer.{TermScorer}
-use Rattle.ordering.proofs.Kept.{Kept, Off, kept-all, kept-apart, slots-all, slots-apart}
+use Rattle.ordering.proofs.Kept.{Kept, Off, kept-all, kept-apart, slots-apart}
 use Rattle.ordering.proofs.OnRoute.{Fair, SameDoc}
 use Rattle.ordering.proofs.Places.{all-at, all-take}
 use Rattle.ordering.proofs.Turns.{SameOff, replaced-all, replaced-slots}
@@ -24,8 +24,8 @@ use Rattle.postings.specs.Inner.Decoded.{docIn, doc-is}
 use Rattle.postings.specs.Inner.Reader.{readerAt}
 use Rattle.slot_rows.specs.Inner.Rows.{cursorIn, placeRow, PlaceIn, postingsIn}
 use Rattle.term_scorer.specs.Inner.Slots.{cursorAt, held, Held, listAt, partAt, MovedSlot, Shallowed, Sixteen, StandingIn}
-use Rattle.term_scorer.specs.Inner.Weights.{Bounded, Weighed}
-use Rattle.block_wand_union.specs.Inner.Seats.{Carried, Seat, Stand, Terms, MaxScoreAt, WeighedAt, scorerAt, terms}
+use Rattle.term_scorer.specs.Inner.Weights.{Bounded, FloatRow}
+use Rattle.block_wand_union.specs.Inner.Seats.{Carried, MaxScoreAt, Seat, Stand, Terms, scorerAt, terms}
 
 -- ---- rows
 
@@ -48,23 +48,23 @@ AllSixteen h = Sixteen (h .places) × Sixteen (h .docs) × Sixteen (h .freqs)
 same-bound : (l : Postings Float) (c c′ : Cursor) → c′ .blk ≡ c .blk → c′ .loaded ≡ c .loaded → blockMax 128 f32 l c ≡ blockMax 128 f32 l c′
 same-bound l c c′ b k = rw (b, k)
 
--- that the bound is known changes nothing of a place
-known-cursor : (file : List ℕ) (x : Part) (row docs freqs : List ℕ) → PlaceIn file x row docs freqs → cursorIn (set row 7 1) ≡ cursorIn row
+-- whether the bound is known changes nothing of a place
+known-cursor : (file : List ℕ) (x : Part) (row docs freqs : List ℕ) (flag : ℕ) → PlaceIn file x row docs freqs → cursorIn (set row 7 flag) ≡ cursorIn row
 unfolding cursorIn
-known-cursor file x row docs freqs P =
+known-cursor file x row docs freqs flag P =
     let p = postingsIn file x row in
     let e = P .standing .row-is in
-    ap (λ (z : List ℕ). cursorIn (set z 7 1)) e ∙ sym (ap cursorIn e)
+    ap (λ (z : List ℕ). cursorIn (set z 7 flag)) e ∙ sym (ap cursorIn e)
 
-known-row : (file : List ℕ) (x : Part) (row docs freqs : List ℕ) → PlaceIn file x row docs freqs → PlaceIn file x (set row 7 1) docs freqs
+known-row : (file : List ℕ) (x : Part) (row docs freqs : List ℕ) (flag : ℕ) → PlaceIn file x row docs freqs → PlaceIn file x (set row 7 flag) docs freqs
 unfolding postingsIn readerAt
-known-row file x row docs freqs P =
+known-row file x row docs freqs flag P =
     let p = postingsIn file x row in
     let e = P .standing .row-is in
-    let s : set row 7 1 ≡ placeRow p 1 = ap (λ (z : List ℕ). set z 7 1) e in
-    let back : postingsIn file x (placeRow p 1) ≡ p = sym (ap (postingsIn file x) e) in
+    let s : set row 7 flag ≡ placeRow p flag = ap (λ (z : List ℕ). set z 7 flag) e in
+    let back : postingsIn file x (placeRow p flag) ≡ p = sym (ap (postingsIn file x) e) in
     rw s (record {
-      standing = record { row-is = ap (λ q. placeRow q 1) (sym back); narrow = rw back (P .standing .narrow); low = P .standing .low };
+      standing = record { row-is = ap (λ q. placeRow q flag) (sym back); narrow = rw back (P .standing .narrow); low = P .standing .low };
       placed = rw back (P .placed);
     })
 
@@ -89,13 +89,14 @@ module _ (file : List ℕ) (lists : List (List ℕ)) where
 
   seat-same : (T : Terms) (bounds′ : List Float) (h h′ : Held) (s : TermScorer) → AllSixteen h′ → SameRows h h′ (s .slot)
       → getD bounds′ (s .slot) nan ≡ getD (T .bounds) (s .slot) nan → Seat file lists T h s
-      → Seat file lists (terms (T .scoring) (T .weights) (T .caches) bounds′) h′ s
+      → Seat file lists (terms (T .scoring) (T .caches) bounds′) h′ s
   seat-same T bounds′ h h′ s n R e S = record {
     stand = stand-same h h′ s n R (S .stand);
     weighed = S .weighed;
     bound = λ k.
         e ∙ S .bound (sym (ap (λ (row : List ℕ). getD row 7 0) (R .places)) ∙ k)
         ∙ ap (λ (row : List ℕ). blockMax 128 f32 (listAt (T .scoring) file lists (s .slot)) (cursorIn row)) (sym (R .places));
+    max-is = S .max-is;
   }
 
   -- ---- the scorer that moves
@@ -121,7 +122,7 @@ module _ (file : List ℕ) (lists : List (List ℕ)) where
 
   module _ (s : TermScorer) {to : Scoring → Cursor} {h h′ : Held} {doc : ℕ} (M : MovedSlot file lists (s .slot) to h h′ doc) where
     abbrev s′ : TermScorer
-    s′ = record { doc = doc; slot = s .slot }
+    s′ = record { doc = doc; «max_score» = s .«max_score»; slot = s .slot }
 
     pub moved-stand : Stand file lists h s → Stand file lists h′ s′
     moved-stand S = record {
@@ -137,6 +138,7 @@ module _ (file : List ℕ) (lists : List (List ℕ)) where
       bound = λ k.
           let w = M .moved .bound-is k in
           S .bound (w .0) ∙ same-bound (listAt (T .scoring) file lists (s .slot)) (cursorAt (h .places) (s .slot)) (cursorAt (h′ .places) (s .slot)) (w .1) (w .2);
+      max-is = S .max-is;
     }
 
     -- the route's scorer has moved
@@ -173,31 +175,32 @@ module _ (file : List ℕ) (lists : List (List ℕ)) where
           stand = record { slot-in = S .stand .slot-in; slot = Z .stand .slot; doc-is = S .stand .doc-is ∙ N .moved .doc-is };
           weighed = S .weighed;
           bound = Z .bound;
+          max-is = S .max-is;
         }
 
     module _ (T : Terms) {places₂ : List (List ℕ)} {bounds₂ : List Float} {r : Float} (B : Bounded (T .scoring) file lists (s .slot) places₁ (T .bounds) places₂ bounds₂ r)
-        (S : Seat file lists T (held places docs freqs) s) (n : Sixteen (T .bounds)) where
+        (S : Seat file lists T (held places docs freqs) s) (n : FloatRow (T .bounds)) where
       abbrev row₁ : List ℕ
       row₁ = getD places₁ (s .slot) []
 
       place₁ : PlaceIn file (partAt lists (s .slot)) row₁ (getD docs (s .slot) []) (getD freqs (s .slot) [])
       place₁ = shallow-seat T S .stand .slot .place
 
-      row₂ : getD places₂ (s .slot) [] ≡ set row₁ 7 1
+      row₂ : getD places₂ (s .slot) [] ≡ set row₁ 7 (B .flag)
       row₂ =
           let l = shallow-seat T S .stand .slot .sixteen .0 in
           let h = S .stand .slot-in in
-          ap (λ (z : List (List ℕ)). getD z (s .slot) []) (B .places-are) ∙ getD-set-same places₁ (s .slot) (set row₁ 7 1) [] (omega arith)
+          ap (λ (z : List (List ℕ)). getD z (s .slot) []) (B .places-are) ∙ getD-set-same places₁ (s .slot) (set row₁ 7 (B .flag)) [] (omega arith)
 
       cursor₂ : cursorAt places₂ (s .slot) ≡ cursorAt places₁ (s .slot)
-      cursor₂ = ap cursorIn row₂ ∙ known-cursor file (partAt lists (s .slot)) row₁ (getD docs (s .slot) []) (getD freqs (s .slot) []) place₁
+      cursor₂ = ap cursorIn row₂ ∙ known-cursor file (partAt lists (s .slot)) row₁ (getD docs (s .slot) []) (getD freqs (s .slot) []) (B .flag) place₁
 
       sixteen₂ : AllSixteen (held places₂ docs freqs)
       sixteen₂ =
           let l = shallow-seat T S .stand .slot .sixteen in
-          (still-sixteen places₁ places₂ (s .slot) (set row₁ 7 1) (B .places-are) (l .0), l .1, l .2)
+          (still-sixteen places₁ places₂ (s .slot) (set row₁ 7 (B .flag)) (B .places-are) (l .0), l .1, l .2)
 
-      pub bounded-seat : Seat file lists (terms (T .scoring) (T .weights) (T .caches) bounds₂) (held places₂ docs freqs) s
+      pub bounded-seat : Seat file lists (terms (T .scoring) (T .caches) bounds₂) (held places₂ docs freqs) s
       bounded-seat =
           let Z = shallow-seat T S in
           let h = Z .stand .slot-in in
@@ -208,7 +211,7 @@ module _ (file : List ℕ) (lists : List (List ℕ)) where
                 sixteen = sixteen₂;
                 part-row = Z .stand .slot .part-row;
                 list = Z .stand .slot .list;
-                place = rw row₂ (known-row file (partAt lists (s .slot)) row₁ (getD docs (s .slot) []) (getD freqs (s .slot) []) place₁);
+                place = rw row₂ (known-row file (partAt lists (s .slot)) row₁ (getD docs (s .slot) []) (getD freqs (s .slot) []) (B .flag) place₁);
               };
               doc-is = Z .stand .doc-is ∙ ap (λ (c : Cursor). docIn file (partAt lists (s .slot)) (c .at)) (sym cursor₂);
             };
@@ -216,17 +219,18 @@ module _ (file : List ℕ) (lists : List (List ℕ)) where
             bound = λ _.
                 ap (λ (z : List Float). getD z (s .slot) nan) (B .bounds-are) ∙ getD-set-same (T .bounds) (s .slot) r nan (omega arith) ∙ B .bound-is
                 ∙ ap (blockMax 128 f32 (listAt (T .scoring) file lists (s .slot))) (sym cursor₂);
+            max-is = Z .max-is;
           }
 
       -- the other slots
       other-rows : (z : ℕ) → (z ≡ (s .slot) → ⊥) → SameRows (held places docs freqs) (held places₂ docs freqs) z
       other-rows z o = record {
-        places = ap (λ (y : List (List ℕ)). getD y z []) (B .places-are) ∙ getD-set-other places₁ (s .slot) z (set row₁ 7 1) [] o ∙ row-off places places₁ (s .slot) z (M .only) o;
+        places = ap (λ (y : List (List ℕ)). getD y z []) (B .places-are) ∙ getD-set-other places₁ (s .slot) z (set row₁ 7 (B .flag)) [] o ∙ row-off places places₁ (s .slot) z (M .only) o;
         docs = refl;
         freqs = refl;
       }
 
-      pub other-seat : (z : TermScorer) → Off (s .slot) z → Seat file lists T (held places docs freqs) z → Seat file lists (terms (T .scoring) (T .weights) (T .caches) bounds₂) (held places₂ docs freqs) z
+      pub other-seat : (z : TermScorer) → Off (s .slot) z → Seat file lists T (held places docs freqs) z → Seat file lists (terms (T .scoring) (T .caches) bounds₂) (held places₂ docs freqs) z
       other-seat z o R =
           seat-same T bounds₂ (held places docs freqs) (held places₂ docs freqs) z sixteen₂ (other-rows (z .slot) o)
           (ap (λ (y : List Float). getD y (z .slot) nan) (B .bounds-are) ∙ getD-set-other (T .bounds) (s .slot) (z .slot) r nan o) R
@@ -246,22 +250,23 @@ module _ (file : List ℕ) (lists : List (List ℕ)) where
 
   -- ---- all scorers
 
-  -- on their documents, with their list bounds by slot
-  pub fair : (maxScores : List Float) (scoring : Scoring) (h : Held) (l : List TermScorer) → All (Stand file lists h) l → All (MaxScoreAt file lists scoring maxScores) l
-      → All (Fair maxScores (scorerAt file lists scoring (h .places))) l
-  fair maxScores scoring h [] a b = tt
-  fair maxScores scoring h (y ∷ ys) a b = (record { doc-is = same-doc scoring h y (a .0); max-is = b .0 }, fair maxScores scoring h ys (a .1) (b .1))
+  pub seats-stand : (T : Terms) (h : Held) (l : List TermScorer) → All (Seat file lists T h) l → All (Stand file lists h) l
+  seats-stand T h l a = all-imp (Seat file lists T h) (Stand file lists h) l (λ _ s. s .stand) a
+
+  -- on their documents, with their list bounds
+  pub fair : (scoring : Scoring) (h : Held) (l : List TermScorer) → All (Stand file lists h) l → All (MaxScoreAt file lists scoring) l
+      → All (Fair (scorerAt file lists scoring (h .places))) l
+  fair scoring h [] a b = tt
+  fair scoring h (y ∷ ys) a b = (record { doc-is = same-doc scoring h y (a .0); max-is = b .0 }, fair scoring h ys (a .1) (b .1))
 
   pub carried-refl : (h : Held) (l : List TermScorer) → Apart l → All (Stand file lists h) l → Carried file lists h l h l
-  carried-refl h l apart a = record { stands = a; apart = apart; seats = λ T s. s; weights = λ _ _ w. w; max-scores = λ _ _ t. t }
+  carried-refl h l apart a = record { stands = a; apart = apart; seats = λ T s. s }
 
   pub carried-trans : {h h′ h″ : Held} {l l′ l″ : List TermScorer} → Carried file lists h l h′ l′ → Carried file lists h′ l′ h″ l″ → Carried file lists h l h″ l″
   carried-trans C D = record {
     stands = D .stands;
     apart = D .apart;
     seats = λ T s. D .seats T (C .seats T s);
-    weights = λ weights caches w. D .weights weights caches (C .weights weights caches w);
-    max-scores = λ scoring maxScores t. D .max-scores scoring maxScores (C .max-scores scoring maxScores t);
   }
 
   -- some of them, in another order
@@ -270,8 +275,6 @@ module _ (file : List ℕ) (lists : List (List ℕ)) where
     stands = kept-all (Stand file lists h) k a;
     apart = kept-apart k apart;
     seats = λ T s. kept-all (Seat file lists T h) k s;
-    weights = λ weights caches w. kept-all (WeighedAt file lists weights caches) k w;
-    max-scores = λ scoring maxScores t. kept-all (MaxScoreAt file lists scoring maxScores) k t;
   }
 
   -- the one at place i has moved in its slot
@@ -281,7 +284,7 @@ module _ (file : List ℕ) (lists : List (List ℕ)) where
     x = getD l i noScorer
 
     abbrev x′ : TermScorer
-    x′ = record { doc = doc; slot = x .slot }
+    x′ = record { doc = doc; «max_score» = x .«max_score»; slot = x .slot }
 
     pub carried-move : Carried file lists h l h′ (set l i x′)
     carried-move =
@@ -293,6 +296,4 @@ module _ (file : List ℕ) (lists : List (List ℕ)) where
           apart = slots-apart l (set l i x′) slots apart;
           seats = λ T s. replaced-all l i x′ inside apart (Seat file lists T h) (Seat file lists T h′)
               (λ z o R. seat-same T (T .bounds) h h′ z n (others-rows M (z .slot) o) refl R) (moved-seat x M T (all-at (Seat file lists T h) l i noScorer inside s)) s;
-          weights = λ weights caches w. slots-all (Weighed lists weights caches) l (set l i x′) slots w;
-          max-scores = λ scoring maxScores t. slots-all (λ (q : ℕ). listAt scoring file lists q .top ≡ getD maxScores q nan) l (set l i x′) slots t;
         }

@@ -2,3 +2,4 @@
 pub mod Seats
 pub mod Moves
 pub mod Turns
+pub mod Runs

@@ -1,8 +1,7 @@
 // The blocks that may hold the pivot, and the sum of their bounds.
-use bm25::Scoring;
-use fieldnorm::FieldNormReader;
-use ordering::TermScorer;
+use ordering::Scorers;
 use term_scorer::score;
+use term_scorer::score::Similarity;
 use term_scorer::slot;
 ghost use mathlib.Core.Path.{_≡_};
 ghost use mathlib.Core.List.{List};
@@ -13,51 +12,50 @@ ghost use Rattle.route.specs.Lists.{All};
 ghost use Rattle.ordering.specs.Inner.Scorers.{Apart};
 ghost use Rattle.ordering.specs.declared.TermScorer.{TermScorer};
 ghost use Rattle.notefile.specs.Header.{normReader};
-ghost use Rattle.term_scorer.specs.Inner.Slots.{held, Sixteen};
+ghost use Rattle.term_scorer.specs.Inner.Slots.{held};
+ghost use Rattle.term_scorer.specs.Inner.Weights.{FloatRow};
 ghost use Rattle.block_wand_union.specs.Inner.Seats.{Seat, terms};
 ghost use Rattle.block_wand_union.specs.Inner.Moves.{BlocksSought};
 
 // Each of the first scorers' skip readers seeks the pivot. Their documents stay, and so does every other scorer, whatever it is.
 pub fn seek_blocks(
     file: &[u8],
-    norms: FieldNormReader,
-    weights: &[f32; 16],
-    caches: &[[f32; 256]; 16],
-    scoring: Scoring,
+    similarity: Similarity,
     lists: &[[usize; 8]; 16],
-    scorers: [TermScorer; 16],
+    caches: &[[f32; 256]; 16],
+    scorers: Scorers,
     pivot_len: usize,
     pivot_doc: u32,
     places: &mut [[usize; 8]; 16],
     docs: &[[u32; 128]; 16],
     freqs: &[[u32; 128]; 16],
-    bounds: &mut [f32; 16],
+    bounds: &mut [f32; 128],
 ) -> f32
-    requires { let T = terms scoring (now weights) (now caches) (now bounds) in
+    requires { let T = terms (similarity .scoring) (now caches) (now bounds) in
         let slots = held (now places) (now docs) (now freqs) in
-        ⌜ («pivot_len» ≤ 16) × (norms ≡ normReader (now file)) × Sixteen (now bounds) × Apart (take «pivot_len» scorers)
-        × All (Seat (now file) (now lists) T slots) (take «pivot_len» scorers) ⌝ }
+        let first = take «pivot_len» (scorers .scorers) in
+        ⌜ («pivot_len» ≤ 16) × (similarity .norms ≡ normReader (now file)) × FloatRow (now bounds) × Apart first
+        × All (Seat (now file) (now lists) T slots) first ⌝ }
     ensures { λ r.
-        let T = terms scoring (before weights) (before caches) (before bounds) in
+        let T = terms (similarity .scoring) (before caches) (before bounds) in
         let old = held (before places) (before docs) (before freqs) in
         let new = held (after places) (before docs) (before freqs) in
-        ⌜ ((l : List TermScorer) → take «pivot_len» l ≡ take «pivot_len» scorers
+        ⌜ ((l : List TermScorer) → take «pivot_len» l ≡ take «pivot_len» (scorers .scorers)
         → Apart l → All (Seat (before file) (before lists) T old) l
         → BlocksSought (before file) (before lists) T old «pivot_doc» «pivot_len» new (after bounds) r l) ⌝ }
 {
+    let array = scorers.scorers;
     let mut sum = 0.0f32;
     let mut i = 0usize;
     while i < pivot_len {
-        let scorer = scorers[i];
-        let q = scorer.slot as usize;
+        let scorer = array[i];
+        let q = scorer.slot;
         slot::shallow_seek(file, lists, q, pivot_doc, places);
-        let bound = score::known_block_max(
+        let bound = score::block_max(
             file,
-            norms,
-            weights,
-            caches,
-            scoring,
+            similarity,
             lists,
+            caches,
             q,
             places,
             docs,

@@ -6,103 +6,252 @@ pub mod pivot;
 pub mod turn;
 
 use crate::turn::turn;
-use bm25::Scoring;
-use fieldnorm::FieldNormReader;
+use ordering::Scorers;
 use ordering::TermScorer;
-use ordering::sort_by_doc;
-use reports::report;
-use reports::rows;
-use rule::Rule;
-use rule::Threshold;
+use reports::Event;
+use term_scorer::score;
+use term_scorer::score::Similarity;
+use term_scorer::slot;
 ghost use mathlib.Core.Path.{_≡_};
+ghost use mathlib.Core.List.{map};
 ghost use Prim.Native.Nat.{_≤_};
-ghost use lib.ListN.{take};
+ghost use lib.ListN.{length, take};
 ghost use Rattle.arrays.specs.Lent.{before, after};
-ghost use Rattle.route.specs.Lists.{All};
 ghost use Rattle.route.specs.F32.{f32};
-ghost use Rattle.route.specs.Union.{pivotRoute};
-ghost use Rattle.rule.specs.Inner.Follows.{Keeps};
-ghost use Rattle.notefile.specs.Header.{normReader};
-ghost use Rattle.reports.specs.Inner.Runs.{Rests};
-ghost use Rattle.term_scorer.specs.Inner.Slots.{cursorAt, held};
-ghost use Rattle.block_wand_union.specs.Inner.Seats.{Seated, onRoute, terms, OnFirst};
+ghost use Rattle.route.specs.Lists.{All};
+ghost use Rattle.route.specs.Union.{isOver, unionTurn};
+ghost use Rattle.route.specs.Inner.Unions.{UnionKept};
+ghost use Rattle.reports.specs.Inner.Turns.{Went};
+ghost use Rattle.notefile.specs.Header.{documents, normReader};
+ghost use Rattle.ordering.specs.Inner.Scorers.{slotOf};
+ghost use Rattle.term_scorer.specs.Inner.Slots.{held, Sixteen};
+ghost use Rattle.block_wand_union.specs.Inner.Seats.{Readable, Seated, alive, placeIn, stageOf, termAt, terms};
+ghost use Rattle.block_wand_union.specs.Inner.Runs.{Stands, Walks, placeOf, unionEnded};
 
-// Whether a report found every row full, and how many rows are written.
-pub struct Ended {
-    pub full: bool,
-    pub count: usize,
+// Before a pivot is looked for; behind a report, with so many scorers on its document that have still to go on; returned.
+pub enum Stage {
+    Looking,
+    Called(usize),
+    Over,
 }
 
-// From scorers just opened to the route's end, or to a report for which no row is left.
-// Then the slots stand behind the turn that found it.
-pub fn block_wand(
+// What of a union's run stands in no table: how many scorers are left, and its stage.
+pub struct Union {
+    pub len: usize,
+    pub stage: Stage,
+}
+
+// Where a run stands after `taken` turns, and why it took no more.
+pub struct Gone {
+    pub union: Union,
+    pub taken: usize,
+    pub event: Event,
+}
+
+// The same with the scorers by value.
+pub struct Walked {
+    pub scorers: Scorers,
+    pub stage: Stage,
+    pub taken: usize,
+    pub event: Event,
+}
+
+fn is_over(stage: Stage) -> bool
+    ensures { λ r. ⌜ r ≡ isOver (stageOf stage) ⌝ }
+{
+    match stage {
+        Stage::Looking => false,
+        Stage::Called(_) => false,
+        Stage::Over => true,
+    }
+}
+
+// The scorers of the first slots in `order`.
+fn in_order(
     file: &[u8],
-    norms: FieldNormReader,
-    weights: &[f32; 16],
-    caches: &[[f32; 256]; 16],
-    max_scores: &[f32; 16],
-    scoring: Scoring,
+    similarity: Similarity,
     lists: &[[usize; 8]; 16],
-    scorers: [TermScorer; 16],
-    n: usize,
-    rule: Rule,
-    script: &[f32],
+    caches: &[[f32; 256]; 16],
+    len: usize,
+    order: &[usize; 16],
+    places: &[[usize; 8]; 16],
+    docs: &[[u32; 128]; 16],
+) -> Scorers
+    requires { ⌜ (len ≤ 16) × Sixteen (now order) × All (Readable (now file) (now lists) (now caches) (now places) (now docs)) (take len (now order)) ⌝ }
+    ensures { λ r.
+        let ordered = map (termAt (before file) (before lists) (similarity .scoring) (before places)) (take len (before order)) in
+        ⌜ (r .len ≡ len) × (alive r ≡ ordered) ⌝ }
+{
+    let mut out = [TermScorer {
+        doc: 0,
+        max_score: 0.0,
+        slot: 0,
+    }; 16];
+    let mut i = 0usize;
+    while i < len {
+        let q = order[i];
+        let doc = slot::doc(q, places, docs);
+        let max_score = score::max_score(file, similarity, lists, caches, q);
+        out[i] = TermScorer {
+            doc,
+            max_score,
+            slot: q,
+        };
+        i += 1;
+    }
+    Scorers { scorers: out, len }
+}
+
+// The scorers' slots, in their order.
+pub fn keep_order(scorers: Scorers, order: &mut [usize; 16])
+    requires { ⌜ (scorers .len ≤ 16) × Sixteen (now order) ⌝ }
+    ensures { λ _. ⌜ (take (scorers .len) (after order) ≡ map slotOf (alive scorers)) × Sixteen (after order) ⌝ }
+{
+    let len = scorers.len;
+    let array = scorers.scorers;
+    let mut i = 0usize;
+    while i < len {
+        let scorer = array[i];
+        order[i] = scorer.slot;
+        i += 1;
+    }
+}
+
+// Turn after turn, until a report is due, the route is over, or `turns` turns are taken.
+fn walk(
+    file: &[u8],
+    similarity: Similarity,
+    lists: &[[usize; 8]; 16],
+    caches: &[[f32; 256]; 16],
+    threshold: f32,
+    turns: usize,
+    stage: Stage,
+    scorers: Scorers,
     places: &mut [[usize; 8]; 16],
     docs: &mut [[u32; 128]; 16],
     freqs: &mut [[u32; 128]; 16],
-    bounds: &mut [f32; 16],
-    documents: &mut [u32],
-    scores: &mut [f32],
-) -> Ended
-    requires { let T = terms scoring (now weights) (now caches) (now bounds) in
+    bounds: &mut [f32; 128],
+) -> Walked
+    requires { let T = terms (similarity .scoring) (now caches) (now bounds) in
         let slots = held (now places) (now docs) (now freqs) in
-        ⌜ (n ≤ 16) × (norms ≡ normReader (now file)) × Keeps rule
-        × Seated (now file) (now lists) T (now «max_scores») slots (take n scorers) × All (OnFirst (now places)) (take n scorers) ⌝ }
+        let place = placeIn (now file) (now lists) (similarity .scoring) (now places) stage (alive scorers) in
+        ⌜ (scorers .len ≤ 16) × (similarity .norms ≡ normReader (now file))
+        × Seated (now file) (now lists) T slots (alive scorers) × UnionKept 128 (documents (now file)) f32 place ⌝ }
     ensures { λ r.
+        let T = terms (similarity .scoring) (before caches) (before bounds) in
         let old = held (before places) (before docs) (before freqs) in
-        let opened = onRoute (before file) (before lists) scoring old (take n scorers) in
-        ⌜ Rests (pivotRoute 128 f32 opened) rule (before script) (before documents) (before scores)
-        (cursorAt (after places)) (r .full) (r .count) (after documents) (after scores) ⌝ }
+        let new = held (after places) (after docs) (after freqs) in
+        ⌜ Walks (before file) (before lists) T threshold stage old (alive scorers) turns new (after bounds) r ⌝ }
 {
-    let row_count = rows(documents, scores);
-    let mut t = Threshold::new(rule);
-    let mut alive = sort_by_doc(scorers, n);
-    let mut len = n;
-    let mut more = true;
-    while more {
+    let mut left = scorers;
+    let mut now = stage;
+    let mut taken = 0usize;
+    while !is_over(now) {
+        if taken == turns {
+            return Walked {
+                scorers: left,
+                stage: now,
+                taken,
+                event: Event::Paused,
+            };
+        }
         let step = turn(
             file,
-            norms,
-            weights,
-            caches,
-            max_scores,
-            scoring,
+            similarity,
             lists,
-            t.now,
-            alive,
-            len,
+            caches,
+            threshold,
+            now,
+            left,
             places,
             docs,
             freqs,
             bounds,
         );
-        let left = step.scorers;
-        alive = left;
-        len = step.len;
-        more = step.more;
+        let scorers_left = step.scorers;
+        let next = step.stage;
+        left = scorers_left;
+        now = next;
+        taken += 1;
         if step.due {
-            if t.reports == row_count {
-                return Ended {
-                    full: true,
-                    count: t.reports,
-                };
-            }
-            let told = report(rule, script, t, step.doc, step.score, documents, scores);
-            t = told;
+            let event = Event::Report(step.doc, step.score);
+            return Walked {
+                scorers: left,
+                stage: now,
+                taken,
+                event,
+            };
         }
     }
-    Ended {
-        full: false,
-        count: t.reports,
+    Walked {
+        scorers: left,
+        stage: now,
+        taken,
+        event: Event::Over,
+    }
+}
+
+// From where the tables stand on to the next report, to the route's end, or through `turns` turns, under one threshold.
+pub fn go(
+    file: &[u8],
+    similarity: Similarity,
+    union: Union,
+    lists: &[[usize; 8]; 16],
+    caches: &[[f32; 256]; 16],
+    threshold: f32,
+    turns: usize,
+    order: &mut [usize; 16],
+    places: &mut [[usize; 8]; 16],
+    docs: &mut [[u32; 128]; 16],
+    freqs: &mut [[u32; 128]; 16],
+    bounds: &mut [f32; 128],
+) -> Gone
+    requires { let T = terms (similarity .scoring) (now caches) (now bounds) in
+        let slots = held (now places) (now docs) (now freqs) in
+        ⌜ (similarity .norms ≡ normReader (now file)) × Stands (now file) (now lists) T union (now order) slots ⌝ }
+    ensures { λ r.
+        let T = terms (similarity .scoring) (before caches) (after bounds) in
+        let slots = held (after places) (after docs) (after freqs) in
+        let from = placeOf (before file) (before lists) (similarity .scoring) union (before order) (before places) in
+        let to = placeOf (before file) (before lists) (similarity .scoring) (r .union) (after order) (after places) in
+        ⌜ Stands (before file) (before lists) T (r .union) (after order) slots
+        × Went (unionTurn 128 f32) unionEnded threshold from turns (r .taken) to (r .event) ⌝ }
+{
+    let scorers = in_order(
+        file,
+        similarity,
+        lists,
+        caches,
+        union.len,
+        order,
+        places,
+        docs,
+    );
+    let stage = union.stage;
+    let walked = walk(
+        file,
+        similarity,
+        lists,
+        caches,
+        threshold,
+        turns,
+        stage,
+        scorers,
+        places,
+        docs,
+        freqs,
+        bounds,
+    );
+    let left = walked.scorers;
+    keep_order(left, order);
+    let stage = walked.stage;
+    let event = walked.event;
+    Gone {
+        union: Union {
+            len: left.len,
+            stage,
+        },
+        taken: walked.taken,
+        event,
     }
 }

@@ -1,9 +1,10 @@
 // Past blocks that are too low: one scorer goes on.
+use ordering::Scorers;
 use ordering::TERMINATED;
 use ordering::TermScorer;
 use ordering::least_doc;
-use ordering::restore_ordering;
 use ordering::scorer_to_seek;
+use ordering_lent::restored;
 use term_scorer::slot;
 ghost use mathlib.Core.Path.{_≡_};
 ghost use Prim.Native.Nat.{_≤_, _<_};
@@ -13,7 +14,7 @@ ghost use Rattle.route.specs.Lists.{All};
 ghost use Rattle.route.specs.Union.{behind};
 ghost use Rattle.ordering.specs.Inner.Scorers.{Apart};
 ghost use Rattle.term_scorer.specs.Inner.Slots.{held};
-ghost use Rattle.block_wand_union.specs.Inner.Seats.{Stand};
+ghost use Rattle.block_wand_union.specs.Inner.Seats.{Stand, alive};
 ghost use Rattle.block_wand_union.specs.Inner.Moves.{leastLastOf, LastRead, TooLow};
 
 // The least last document of the first scorers' present blocks.
@@ -25,8 +26,7 @@ fn least_last_doc(scorers: [TermScorer; 16], pivot_len: usize, places: &[[usize;
     let mut i = 0usize;
     while i < pivot_len {
         let scorer = scorers[i];
-        let q = scorer.slot as usize;
-        let last = slot::last_doc_in_block(q, places);
+        let last = slot::last_doc_in_block(scorer.slot, places);
         i += 1;
         if last <= least {
             least = last;
@@ -50,32 +50,36 @@ fn behind(last: u32) -> u32
 pub fn block_max_was_too_low_advance_one_scorer(
     file: &[u8],
     lists: &[[usize; 8]; 16],
-    max_scores: &[f32; 16],
-    scorers: [TermScorer; 16],
-    n: usize,
+    scorers: Scorers,
     pivot_len: usize,
     places: &mut [[usize; 8]; 16],
     docs: &mut [[u32; 128]; 16],
     freqs: &mut [[u32; 128]; 16],
-) -> [TermScorer; 16]
+) -> Scorers
     requires { let slots = held (now places) (now docs) (now freqs) in
-        ⌜ (0 < «pivot_len») × («pivot_len» ≤ n) × (n ≤ 16) × Apart (take n scorers)
-        × All (Stand (now file) (now lists) slots) (take n scorers) ⌝ }
+        ⌜ (0 < «pivot_len») × («pivot_len» ≤ scorers .len) × (scorers .len ≤ 16) × Apart (alive scorers)
+        × All (Stand (now file) (now lists) slots) (alive scorers) ⌝ }
     ensures { λ r.
         let old = held (before places) (before docs) (before freqs) in
         let new = held (after places) (after docs) (after freqs) in
-        ⌜ TooLow (before file) (before lists) (before «max_scores») old (take n scorers) «pivot_len» new (take n r) ⌝ }
+        ⌜ TooLow (before file) (before lists) old (alive scorers) (scorers .len) «pivot_len» new r ⌝ }
 {
-    let doc_to_seek_after = least_last_doc(scorers, pivot_len, places);
-    let target = least_doc(scorers, n, pivot_len, behind(doc_to_seek_after));
-    let at = scorer_to_seek(scorers, pivot_len, max_scores);
-    let scorer = scorers[at];
-    let q = scorer.slot as usize;
+    let n = scorers.len;
+    let mut out = scorers.scorers;
+    let doc_to_seek_after = least_last_doc(out, pivot_len, places);
+    let target = least_doc(out, n, pivot_len, behind(doc_to_seek_after));
+    let at = scorer_to_seek(out, pivot_len);
+    let scorer = out[at];
+    let q = scorer.slot;
     let doc = slot::seek(file, lists, q, scorer.doc, target, places, docs, freqs);
-    let mut out = scorers;
     out[at] = TermScorer {
         doc,
-        slot: scorer.slot,
+        max_score: scorer.max_score,
+        slot: q,
     };
-    restore_ordering(out, n, at)
+    let moved = Scorers {
+        scorers: out,
+        len: n,
+    };
+    restored(moved, at)
 }

@@ -15,7 +15,8 @@ use Rattle.ordering.specs.Inner.Scorers.{Moving}
 use Rattle.ordering.specs.declared.Scorers.{Scorers}
 use Rattle.ordering.specs.declared.TermScorer.{TermScorer}
 use Rattle.term_scorer.specs.Inner.Slots.{Held, lastAt, Sixteen}
-use Rattle.block_wand_union.specs.Inner.Seats.{Carried, Seat, Terms, MaxScoreAt, onRoute, scorerAt, terms}
+use Rattle.term_scorer.specs.Inner.Weights.{FloatRow}
+use Rattle.block_wand_union.specs.Inner.Seats.{Carried, Seat, Terms, MaxScoreAt, alive, onRoute, scorerAt, terms}
 use Rattle.block_wand_union.specs.declared.align.Alignment.{Alignment}
 
 -- the least of t and the last documents of the scorers' present blocks
@@ -31,18 +32,19 @@ module _ (file : List ℕ) (lists : List (List ℕ)) where
   -- the first len of l have shallowly sought doc, and r is the sum of their block bounds, in their order
   pub record BlocksSought (T : Terms) (h : Held) (doc len : ℕ)
       (h′ : Held) (bounds′ : List Float) (r : Float) (l : List TermScorer) : Type 0 where
-    pub seats : All (Seat file lists (terms (T .scoring) (T .weights) (T .caches) bounds′) h′) l
+    pub seats : All (Seat file lists (terms (T .scoring) (T .caches) bounds′) h′) l
     pub moving : Moving (seekBlock 128 doc) (scorerAt file lists (T .scoring) (h .places)) l len
         (scorerAt file lists (T .scoring) (h′ .places)) l
     pub sum-is : r ≡ sum f32 (map (blockMaxScore 128 f32) (onRoute file lists (T .scoring) h′ (take len l)))
-    pub sixteen : Sixteen bounds′
+    pub row : FloatRow bounds′
 
-  -- the blocks of the first len were too low, and one of them has gone on: the route's next scorers, whatever the scoring
-  pub record TooLow (maxScores : List Float) (h : Held) (l : List TermScorer) (len : ℕ) (h′ : Held) (l′ : List TermScorer) : Type 0 where
-    pub carried : Carried file lists h l h′ l′
-    pub scorers-are : (scoring : Scoring) → All (MaxScoreAt file lists scoring maxScores) l
-        → onRoute file lists scoring h′ l′
+  -- the blocks of the first len of n scorers l were too low, and one of them has gone on: the route's next scorers, whatever the scoring
+  pub record TooLow (h : Held) (l : List TermScorer) (n len : ℕ) (h′ : Held) (r : Scorers) : Type 0 where
+    pub carried : Carried file lists h l h′ (alive r)
+    pub scorers-are : (scoring : Scoring) → All (MaxScoreAt file lists scoring) l
+        → onRoute file lists scoring h′ (alive r)
         ≡ blockMaxWasTooLow 128 f32 (onRoute file lists scoring h (take len l)) (onRoute file lists scoring h (drop len l))
+    pub all : r .len ≡ n
 
   -- all came to the pivot: the first before scorers have sought it, and the others stay
   pub record OnPivot (p : ℕ) (h : Held) (l : List TermScorer) (before : ℕ) (h′ : Held) (l′ : List TermScorer) : Type 0 where
@@ -65,16 +67,14 @@ module _ (file : List ℕ) (lists : List (List ℕ)) where
 
   -- what `align_scorers` leaves of n scorers l
   pub record Aligns (p : ℕ) (h : Held) (l : List TermScorer) (n before : ℕ) (h′ : Held) (r : Alignment) : Type 0 where
-    pub by : AlignedBy (r .«on_pivot») p h l before h′ (take (r .len) (r .scorers))
-    pub few : r .len ≤ n
-    pub all : r .«on_pivot» ≡ true → r .len ≡ n
-    pub long : Sixteen (r .scorers)
+    pub by : AlignedBy (r .«on_pivot») p h l before h′ (alive (r .scorers))
+    pub few : r .scorers .len ≤ n
+    pub all : r .«on_pivot» ≡ true → r .scorers .len ≡ n
 
   -- the first len of n scorers l have advanced, the finished are gone, and the rest is in order
   pub record AdvancedAll (h : Held) (l : List TermScorer) (n len : ℕ) (h′ : Held) (r : Scorers) : Type 0 where
-    pub carried : Carried file lists h l h′ (take (r .len) (r .scorers))
+    pub carried : Carried file lists h l h′ (alive r)
     pub scorers-are : (scoring : Scoring)
-        → onRoute file lists scoring h′ (take (r .len) (r .scorers))
+        → onRoute file lists scoring h′ (alive r)
         ≡ advanceAllScorersOnPivot 128 (onRoute file lists scoring h (take len l)) (onRoute file lists scoring h (drop len l))
     pub few : r .len ≤ n
-    pub long : Sixteen (r .scorers)

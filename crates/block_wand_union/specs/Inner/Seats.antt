@@ -1,43 +1,72 @@
 -- The scorers of a union over the slots: what the lent arrays hold of each, and the route's scorer that it stands for.
 use mathlib.Core.Path.{_≡_}
-use mathlib.Core.List.{List, map}
+use mathlib.Core.List.{List, [], map}
 use Prim.Native.Nat.{ℕ, _≤_, _<_}
-use lib.ListN.{getD}
-use lib.Ieee.{Float, nan}
+use lib.ListN.{getD, take}
+use lib.Ieee.{Float}
 use Rattle.route.specs.Lists.{All}
 use Rattle.route.specs.Postings.{TERMINATED}
 use Rattle.route.specs.Scorer.{Scorer}
 use Rattle.route.specs.Cursor.{fresh}
+use Rattle.route.specs.Union.{Stage, UnionPlace, called, looking, over}
 use Rattle.bm25.specs.declared.Scoring.{Scoring}
 use Rattle.ordering.specs.Inner.Scorers.{Apart}
+use Rattle.ordering.specs.declared.Scorers.{Scorers}
 use Rattle.ordering.specs.declared.TermScorer.{TermScorer}
 use Rattle.notefile.specs.Lists.{fullBlocks}
-use Rattle.postings.specs.Inner.Decoded.{docIn}
-use Rattle.term_scorer.specs.Inner.Slots.{cursorAt, Held, listAt, partAt, Sixteen, SlotIn}
-use Rattle.term_scorer.specs.Inner.Weights.{BoundKept, Weighed}
+use Rattle.postings.specs.Inner.Decoded.{docIn, ListIn}
+use Rattle.slot_rows.specs.Inner.Rows.{PartRow}
+use Rattle.term_scorer.specs.Inner.Slots.{cursorAt, Held, listAt, partAt, SlotIn}
+use Rattle.term_scorer.specs.Inner.Weights.{BoundKept, FloatRow, Weighed}
+use Rattle.block_wand_union.specs.declared.Stage as code
+use Rattle.block_wand_union.specs.declared.Stage.the-variants.{Called, Looking, Over}
 
 -- how the lists' postings are scored, and the block bounds that are kept
 pub record Terms : Type 0 where
   pub scoring : Scoring
-  pub weights : List Float
   pub caches : List (List Float)
   pub bounds : List Float
 
-abbrev pub terms : Scoring → List Float → List (List Float) → List Float → Terms
-terms scoring weights caches bounds = record { scoring = scoring; weights = weights; caches = caches; bounds = bounds }
+abbrev pub terms : Scoring → List (List Float) → List Float → Terms
+terms scoring caches bounds = record { scoring = scoring; caches = caches; bounds = bounds }
+
+-- the scorers that are left
+abbrev pub alive : Scorers → List TermScorer
+alive z = take (z .len) (z .scorers)
 
 -- a scorer that has just been opened stands on its list's first posting
 abbrev pub OnFirst : List (List ℕ) → TermScorer → Type 0
 OnFirst places s = cursorAt places (s .slot) ≡ fresh
 
+-- the route's stage
+abbrev pub stageOf : code.Stage → Stage
+stageOf Looking = looking
+stageOf (Called n) = called n
+stageOf Over = over
+
 module _ (file : List ℕ) (lists : List (List ℕ)) where
-  -- the route's scorer: its position is the slot
+  -- the route's scorer in slot q, whose number is its position
+  abbrev pub slotScorer : Scoring → List (List ℕ) → ℕ → Scorer Float
+  slotScorer scoring places q = record { ord = q; list = listAt scoring file lists q; cur = cursorAt places q }
+
   abbrev pub scorerAt : Scoring → List (List ℕ) → TermScorer → Scorer Float
-  scorerAt scoring places s = record { ord = s .slot; list = listAt scoring file lists (s .slot); cur = cursorAt places (s .slot) }
+  scorerAt scoring places s = slotScorer scoring places (s .slot)
+
+  -- the code's scorer in slot q, on the document of its place there and with its list bound
+  abbrev pub termAt : Scoring → List (List ℕ) → ℕ → TermScorer
+  termAt scoring places q = record {
+    doc = docIn file (partAt lists q) (cursorAt places q .at);
+    «max_score» = listAt scoring file lists q .top;
+    slot = q;
+  }
 
   -- the route's scorers
   abbrev pub onRoute : Scoring → Held → List TermScorer → List (Scorer Float)
   onRoute scoring h l = map (scorerAt scoring (h .places)) l
+
+  -- the route's place
+  abbrev pub placeIn : Scoring → List (List ℕ) → code.Stage → List TermScorer → UnionPlace Float
+  placeIn scoring places stage l = record { stage = stageOf stage; scorers = map (scorerAt scoring places) l }
 
   -- a scorer stands in its slot, on the document of its place there
   pub record Stand (h : Held) (s : TermScorer) : Type 0 where
@@ -45,41 +74,45 @@ module _ (file : List ℕ) (lists : List (List ℕ)) where
     pub slot : SlotIn file lists h (s .slot)
     pub doc-is : s .doc ≡ docIn file (partAt lists (s .slot)) (cursorAt (h .places) (s .slot) .at)
 
-  -- and its slot has its list's weight and norms, and a bound that is known is right
+  -- the list bound of a scorer is its list's
+  abbrev pub MaxScoreAt : Scoring → TermScorer → Type 0
+  MaxScoreAt scoring s = listAt scoring file lists (s .slot) .top ≡ s .«max_score»
+
+  -- a scorer stands in its slot, with its list's norms and its list bound, and a block bound that is known is right
   pub record Seat (T : Terms) (h : Held) (s : TermScorer) : Type 0 where
     pub stand : Stand h s
-    pub weighed : Weighed lists (T .weights) (T .caches) (s .slot)
+    pub weighed : Weighed lists (T .caches) (s .slot)
     pub bound : BoundKept (T .scoring) file lists (h .places) (T .bounds) (s .slot)
-
-  -- a scorer whose posting can be scored: it is on a document
-  pub record Scorable (weights : List Float) (caches : List (List Float)) (h : Held) (s : TermScorer) : Type 0 where
-    pub stand : Stand h s
-    pub weighed : Weighed lists weights caches (s .slot)
-    pub live : s .doc < TERMINATED
+    pub max-is : MaxScoreAt (T .scoring) s
 
   -- a scorer whose skip reader has a block to stand on, so that it can advance
   abbrev pub Inside : Held → TermScorer → Type 0
   Inside h s = cursorAt (h .places) (s .slot) .blk ≤ fullBlocks (partAt lists (s .slot))
 
-  -- the list bound of a scorer stands by its slot
-  abbrev pub MaxScoreAt : Scoring → List Float → TermScorer → Type 0
-  MaxScoreAt scoring maxScores s = listAt scoring file lists (s .slot) .top ≡ getD maxScores (s .slot) nan
+  -- a scorer on a document: its posting can be scored, and it can advance
+  pub record OnDocument (caches : List (List Float)) (h : Held) (s : TermScorer) : Type 0 where
+    pub stand : Stand h s
+    pub weighed : Weighed lists caches (s .slot)
+    pub live : s .doc < TERMINATED
+    pub inside : Inside h s
 
-  -- and its list's weight and norms
-  abbrev pub WeighedAt : List Float → List (List Float) → TermScorer → Type 0
-  WeighedAt weights caches s = Weighed lists weights caches (s .slot)
+  -- slot q's scorer can be read off the tables
+  pub record Readable (caches : List (List Float)) (places docs : List (List ℕ)) (q : ℕ) : Type 0 where
+    pub slot-in : q < 16
+    pub part-row : PartRow (getD lists q [])
+    pub list : ListIn file (partAt lists q)
+    pub weighed : Weighed lists caches q
+    pub inside : getD (getD places q []) 6 0 < 128
+    pub doc-is : getD (getD docs q []) (getD (getD places q []) 6 0) 0 ≡ docIn file (partAt lists q) (cursorAt places q .at)
 
   -- after moves of scorers l, those left are l′: each stands in a slot of its own, where it was right it still is
   pub record Carried (h : Held) (l : List TermScorer) (h′ : Held) (l′ : List TermScorer) : Type 0 where
     pub stands : All (Stand h′) l′
     pub apart : Apart l′
     pub seats : (T : Terms) → All (Seat T h) l → All (Seat T h′) l′
-    pub weights : (weights : List Float) (caches : List (List Float)) → All (WeighedAt weights caches) l → All (WeighedAt weights caches) l′
-    pub max-scores : (scoring : Scoring) (maxScores : List Float) → All (MaxScoreAt scoring maxScores) l → All (MaxScoreAt scoring maxScores) l′
 
-  -- the scorers of a run, with what stands by their slots
-  pub record Seated (T : Terms) (maxScores : List Float) (h : Held) (l : List TermScorer) : Type 0 where
+  -- the scorers of a run, each in a slot of its own
+  pub record Seated (T : Terms) (h : Held) (l : List TermScorer) : Type 0 where
     pub seats : All (Seat T h) l
     pub apart : Apart l
-    pub max-scores : All (MaxScoreAt (T .scoring) maxScores) l
-    pub sixteen : Sixteen (T .bounds)
+    pub row : FloatRow (T .bounds)

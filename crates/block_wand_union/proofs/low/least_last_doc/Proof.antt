@@ -29,11 +29,8 @@ mul-scorer c = search needs
 array-copy-out-scorer : tie.Need-array-copy-out-scorer Inv-loop μ-loop
 array-copy-out-scorer c = search needs
 
-cast-q : tie.Need-cast-q Inv-loop μ-loop
-cast-q c = search needs
-
 last-doc-in-block-requires : tie.Need-last-doc-in-block-requires Inv-loop μ-loop
-last-doc-in-block-requires c κs = read (c .before .before)
+last-doc-in-block-requires c κs = read (c .before)
 
 add-i : tie.Need-add-i Inv-loop μ-loop
 add-i c = search needs
@@ -42,13 +39,13 @@ loop-less : tie.Need-loop-less Inv-loop μ-loop
 loop-less c = search needs
 
 loop-again : tie.Need-loop-again Inv-loop μ-loop
-loop-again c = lowers _ _ _ _ (search needs) (c .before .before .before .before .before .loop .inv) (omega arith) (omega (arith, c .before .last-doc-in-block .ensures))
+loop-again c = lowers _ _ _ _ (search needs) (c .before .before .before .before .loop .inv) (omega arith) (omega (arith, c .before .last-doc-in-block .ensures))
 
 loop-less-2 : tie.Need-loop-less-2 Inv-loop μ-loop
 loop-less-2 c = search needs
 
 loop-again-2 : tie.Need-loop-again-2 Inv-loop μ-loop
-loop-again-2 c = lowers _ _ _ _ (search needs) (c .before .before .before .before .before .loop .inv) (omega arith) (omega (arith, c .before .last-doc-in-block .ensures))
+loop-again-2 c = lowers _ _ _ _ (search needs) (c .before .before .before .before .loop .inv) (omega arith) (omega (arith, c .before .last-doc-in-block .ensures))
 
 returns : tie.Need-returns Inv-loop μ-loop
 returns c = lowest _ _ _ _ (search needs) (c .before .loop .inv) (omega arith)
@@ -62,7 +59,6 @@ least-last-doc-spec =
     loop-holds
     mul-scorer
     array-copy-out-scorer
-    cast-q
     last-doc-in-block-requires
     add-i
     loop-less

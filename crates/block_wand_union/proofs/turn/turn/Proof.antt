@@ -1,49 +1,78 @@
--- `turn::turn` meets its contract: the pivot's places are the route's, and with no pivot the loop ends.
-use mathlib.Core.Path.{refl, sym, _∙_}
+-- `turn::turn` meets its contract: at each stage the turn is the route's.
+use mathlib.Core.Path.{subst, _≡_}
 use borrow.Author.Needs.{needs}
-use Rattle.term_scorer.specs.Inner.Slots.{Sixteen}
-use Rattle.block_wand_union.proofs.Steps.{in-slots, nowhere}
+use Rattle.route.specs.F32.{f32}
+use Rattle.route.specs.Inner.Unions.{UnionKept}
+use Rattle.notefile.specs.Header.{documents}
+use Rattle.term_scorer.specs.Inner.Slots.{held}
+use Rattle.block_wand_union.specs.Inner.Seats.{alive, placeIn}
+use Rattle.block_wand_union.specs.declared.Stage.{Stage}
+use Rattle.block_wand_union.specs.declared.Stage.the-variants.{Called}
+use Rattle.block_wand_union.proofs.Steps.{goes-on, on-report, stands, stays}
 use Rattle.block_wand_union.proofs.turn.turn.Statement.{statement}
 use Rattle.block_wand_union.proofs.turn.turn.Tie as tie
 
-long : (a : tie.Start) → Sixteen (a .args .scorers)
-long a = search needs
-
-find-pivot-doc-requires : tie.Need-find-pivot-doc-requires
-find-pivot-doc-requires c κs = let a = c .before in (a .pre .0, in-slots _ _ _ _ (a .args .threshold) _ _ (a .pre .2))
+-- the place, with its stage known
+kept-at : (a : tie.Start) {stage : Stage} → a .args .stage ≡ stage
+    → UnionKept 128 (documents (a .args .file .now)) f32 (placeIn (a .args .file .now) (a .args .lists .now) (a .args .similarity .scoring) (a .args .places .now) stage (alive (a .args .scorers)))
+kept-at a e =
+    subst (λ (s : Stage). UnionKept 128 (documents (a .args .file .now)) f32 (placeIn (a .args .file .now) (a .args .lists .now) (a .args .similarity .scoring) (a .args .places .now) s (alive (a .args .scorers)))) e (a .pre .3)
 
 enum-told : tie.Need-enum-told
 enum-told c = search needs
 
+look-requires : tie.Need-look-requires
+look-requires c κs =
+    let m = c .before .before .before .before in
+    let a = m .before .before .before in
+    (a .pre .0, a .pre .1, a .pre .2, kept-at a (m .enum-told .given .1))
+
+enum-known-stage : tie.Need-enum-known-stage
+enum-known-stage c = search needs
+
+advance-all-scorers-on-pivot-requires : tie.Need-advance-all-scorers-on-pivot-requires
+advance-all-scorers-on-pivot-requires c κs =
+    let m = c .before .before .before in
+    let a = m .before .before .before .before in
+    let R = on-report (a .args .file .now) (a .args .lists .now) (a .args .similarity .scoring) (held (a .args .places .now) (a .args .docs .now) (a .args .freqs .now)) (a .args .scorers) (kept-at a (m .before .stage .given .1)) in
+    (R .0, a .pre .0, a .pre .2 .apart, stands (a .pre .2), R .1)
+
 quiet-requires : tie.Need-quiet-requires
 quiet-requires c κs = search needs
 
-enum-known-pivot : tie.Need-enum-known-pivot
-enum-known-pivot c = search needs
+enum-told-2 : tie.Need-enum-told-2
+enum-told-2 c = search needs
 
-to-pivot-requires : tie.Need-to-pivot-requires
-to-pivot-requires c κs =
-    let k = c .before .before .before .before in
-    let a = k .before .before .before .before .before in
-    (a .pre .0, a .pre .1, record { found = sym (k .before .pivot .given .1) ∙ k .before .before .before .find-pivot-doc .ensures; seated = a .pre .2; kept = a .pre .3 })
+quiet-requires-2 : tie.Need-quiet-requires-2
+quiet-requires-2 c κs = search needs
 
 returns : tie.Need-returns
-returns c =
-    let a = c .before .before .before .before .before in
-    let e = sym (c .before .enum-told .given .1) ∙ c .before .before .before .find-pivot-doc .ensures in
-    rw (c .quiet .ensures) (nowhere (a .args .file .now) (a .args .lists .now) _ (a .args .max-scores .now) (a .args .threshold) _ _ (a .pre .2) e (a .args .scorers) (a .args .n) refl (long a))
+returns c = let m = c .before .before .before .before .before in rw (m .enum-told .given .1) (c .look .ensures)
 
 returns-2 : tie.Need-returns-2
-returns-2 c = c .to-pivot .ensures
+returns-2 c =
+    let m = c .before .before .before .before .before in
+    let a = m .before .before .before .before in
+    let e = m .before .stage .given .1 in
+    rw (e, c .quiet .ensures) (goes-on (a .args .threshold) (a .args .scorers) (a .pre .2) (c .before .advance-all-scorers-on-pivot .ensures))
+
+returns-3 : tie.Need-returns-3
+returns-3 c =
+    let m = c .before in
+    let a = m .before .before .before in
+    rw (m .enum-told2 .given .1, c .quiet2 .ensures) (stays (a .args .threshold) (a .args .scorers) (a .pre .2))
 
 pub turn-spec : {M : Type 1} → statement M
 turn-spec =
     tie.close
     (tie.spec
-    find-pivot-doc-requires
     enum-told
+    look-requires
+    enum-known-stage
+    advance-all-scorers-on-pivot-requires
     quiet-requires
-    enum-known-pivot
-    to-pivot-requires
+    enum-told-2
+    quiet-requires-2
     returns
-    returns-2)
+    returns-2
+    returns-3)

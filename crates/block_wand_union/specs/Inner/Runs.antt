@@ -1,0 +1,46 @@
+-- A union's run as it stands in the tables, and turns of it in a row.
+use mathlib.Core.Bool.{Bool}
+use mathlib.Core.List.{List, map}
+use Prim.Native.Nat.{ℕ, _≤_}
+use lib.ListN.{take}
+use lib.Ieee.{Float}
+use Rattle.route.specs.F32.{f32}
+use Rattle.route.specs.Union.{UnionPlace, isOver, unionTurn}
+use Rattle.route.specs.Inner.Unions.{UnionKept}
+use Rattle.bm25.specs.declared.Scoring.{Scoring}
+use Rattle.ordering.specs.declared.TermScorer.{TermScorer}
+use Rattle.notefile.specs.Header.{documents}
+use Rattle.reports.specs.Inner.Turns.{Went}
+use Rattle.term_scorer.specs.Inner.Slots.{Held, Sixteen}
+use Rattle.block_wand_union.specs.Inner.Seats.{Seated, Terms, alive, placeIn, slotScorer, stageOf, termAt, terms}
+use Rattle.block_wand_union.specs.declared.Stage.{Stage}
+use Rattle.block_wand_union.specs.declared.Union.{Union}
+use Rattle.block_wand_union.specs.declared.Walked.{Walked}
+
+-- the route's end
+abbrev pub unionEnded : UnionPlace Float → Bool
+unionEnded p = isOver (p .stage)
+
+module _ (file : List ℕ) (lists : List (List ℕ)) where
+  -- the route's place: the stage, and the scorers of the first slots in their order
+  abbrev pub placeOf : Scoring → Union → List ℕ → List (List ℕ) → UnionPlace Float
+  placeOf scoring u order places = record {
+    stage = stageOf (u .stage);
+    scorers = map (slotScorer file lists scoring places) (take (u .len) order);
+  }
+
+  -- a run stands in the tables, and can go on: each scorer is in a slot of its own, and the route keeps its place
+  pub record Stands (T : Terms) (u : Union) (order : List ℕ) (h : Held) : Type 0 where
+    pub few : u .len ≤ 16
+    pub room : Sixteen order
+    pub seated : Seated file lists T h (map (termAt file lists (T .scoring) (h .places)) (take (u .len) order))
+    pub kept : UnionKept 128 (documents file) f32 (placeOf (T .scoring) u order (h .places))
+
+  -- the same with the scorers by value: `walk` went from scorers l at a stage
+  pub record Walks (T : Terms) (t : Float) (stage : Stage) (h : Held) (l : List TermScorer) (turns : ℕ) (h′ : Held)
+      (bounds′ : List Float) (r : Walked) : Type 0 where
+    pub few : r .scorers .len ≤ 16
+    pub seated : Seated file lists (terms (T .scoring) (T .caches) bounds′) h′ (alive (r .scorers))
+    pub kept : UnionKept 128 (documents file) f32 (placeIn file lists (T .scoring) (h′ .places) (r .stage) (alive (r .scorers)))
+    pub went : Went (unionTurn 128 f32) unionEnded t (placeIn file lists (T .scoring) (h .places) stage l) turns (r .taken)
+        (placeIn file lists (T .scoring) (h′ .places) (r .stage) (alive (r .scorers))) (r .event)
