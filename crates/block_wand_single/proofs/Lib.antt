@@ -1,1 +1,4 @@
 -- Laws of the single run that belong to no one function.
+pub mod Scorers
+pub mod Hunting
+pub mod Walking

@@ -13,6 +13,7 @@ ghost use mathlib.Core.Path.{_≡_};
 ghost use Prim.Native.Nat.{_≤_, _<_};
 ghost use Rattle.arrays.specs.Lent.{before, after};
 ghost use Rattle.notefile.specs.Header.{normReader};
+ghost use Rattle.postings.specs.Inner.Decoded.{ListIn};
 ghost use Rattle.slot_rows.specs.Inner.Rows.{partIn, PartRow};
 ghost use Rattle.term_scorer.specs.Inner.Slots.{held, StandingIn};
 ghost use Rattle.term_scorer.specs.Inner.Weights.{NormsIn};
@@ -30,7 +31,8 @@ fn score_postings(
     freqs: &[u32; 128],
     values: &mut [f32; 128],
 )
-    requires { ⌜ (similarity .norms ≡ normReader (now file)) × PartRow (now list) × NormsIn (partIn (now list)) (now cache) ⌝ }
+    requires { ⌜ (similarity .norms ≡ normReader (now file)) × PartRow (now list) × ListIn (now file) (partIn (now list))
+        × NormsIn (partIn (now list)) (now cache) ⌝ }
     ensures { λ _. ⌜ Scores (before file) (partIn (before list)) (similarity .scoring) (before docs) (before freqs) (after values) ⌝ }
 {
     let norms = similarity.norms;

@@ -14,7 +14,19 @@ ghost use Prim.Native.Nat.{_<_};
 ghost use Rattle.arrays.specs.Lent.{before, after};
 ghost use Rattle.term_scorer.specs.Inner.Slots.{held};
 ghost use Rattle.block_wand_single.specs.Inner.Stands.{Stands, Goes, Steps};
-ghost use Rattle.block_wand_single.specs.Inner.Places.{isDone};
+ghost use Rattle.block_wand_single.specs.Inner.Places.{isDone, onWalk};
+
+// Whether a block is walked.
+fn on_walk(phase: Phase) -> bool
+    ensures { λ r. ⌜ r ≡ onWalk phase ⌝ }
+{
+    match phase {
+        Phase::Walk => true,
+        Phase::Called => true,
+        Phase::Hunt => false,
+        Phase::Over => false,
+    }
+}
 
 // Whether the scan has returned.
 fn is_over(phase: Phase) -> bool
@@ -50,35 +62,26 @@ fn stride(
         ⌜ Steps (before file) similarity (before lists) (before caches) threshold turns single old r new (after floats) ⌝ }
 {
     let phase = single.phase;
-    if let Phase::Hunt = phase {
-        let single = hunt(
+    if on_walk(phase) {
+        return walk(
             file,
-            similarity,
             single,
             lists,
-            caches,
             threshold,
+            turns,
             places,
             docs,
-            freqs,
-            floats,
+            &floats[SCORES],
         );
-        return Gone {
-            single,
-            taken: 1,
-            event: Event::Paused,
-        };
     }
-    walk(
-        file,
+    let single = hunt(
+        file, similarity, single, lists, caches, threshold, places, docs, freqs, floats,
+    );
+    Gone {
         single,
-        lists,
-        threshold,
-        turns,
-        places,
-        docs,
-        &floats[SCORES],
-    )
+        taken: 1,
+        event: Event::Paused,
+    }
 }
 
 // From where the scan stands to the next report, to its end, or through the turns that are allowed.

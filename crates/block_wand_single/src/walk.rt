@@ -10,10 +10,9 @@ use slot_rows::place::COUNT;
 use slot_rows::place::CUR;
 ghost use mathlib.Core.Path.{_≡_};
 ghost use mathlib.Core.List.{List};
-ghost use Prim.Native.Nat.{ℕ, min, _+_, _-_, _≤_, _<_};
+ghost use Prim.Native.Nat.{ℕ, min, _+_, _*_, _-_, _≤_, _<_};
 ghost use Rattle.arrays.specs.Lent.{before, after};
-ghost use Rattle.route.specs.Postings.{start};
-ghost use Rattle.term_scorer.specs.Inner.Slots.{cursorAt, held, partAt, SlotIn};
+ghost use Rattle.term_scorer.specs.Inner.Slots.{held, SlotIn};
 ghost use Rattle.block_wand_single.specs.Inner.Places.{startOf, ToPlace};
 ghost use Rattle.block_wand_single.specs.Inner.Walks.{FirstAbove, Walkable, Walks};
 
@@ -32,15 +31,12 @@ fn first_above(values: &[f32; 128], from: usize, n: usize, threshold: f32) -> us
     n
 }
 
-// How many postings the skip reader's block has.
-fn block_len(q: usize, lists: &[[usize; 8]; 16], places: &[[usize; 8]; 16]) -> usize
-    requires { let from = start 128 (cursorAt (now places) q .blk) in
-        ⌜ (q < 16) × (from ≤ partAt (now lists) q .count) ⌝ }
-    ensures { λ r.
-        let from = start 128 (cursorAt (before places) q .blk) in
-        ⌜ r ≡ min (partAt (before lists) q .count - from) 128 ⌝ }
+// How many postings a block has.
+fn block_len(count: usize, block: usize) -> usize
+    requires { ⌜ block * 128 ≤ count ⌝ }
+    ensures { λ r. ⌜ r ≡ min (count - block * 128) 128 ⌝ }
 {
-    let left = lists[q][COUNT] - places[q][BLOCK] * 128;
+    let left = count - block * 128;
     if left < 128 {
         return left;
     }
@@ -63,10 +59,22 @@ fn first_asked(phase: Phase, cur: usize) -> usize
     requires { ⌜ cur < 128 ⌝ }
     ensures { λ r. ⌜ r ≡ startOf phase cur ⌝ }
 {
-    if let Phase::Called = phase {
-        return cur + 1;
+    match phase {
+        Phase::Called => cur + 1,
+        Phase::Hunt => cur,
+        Phase::Walk => cur,
+        Phase::Over => cur,
     }
-    cur
+}
+
+// Where the scorer stands behind n postings: on the last of a full block, behind those of a tail.
+fn last_place(n: usize) -> usize
+    ensures { λ r. ⌜ r ≡ min n 127 ⌝ }
+{
+    if n < 127 {
+        return n;
+    }
+    127
 }
 
 // To place i of a block of n postings, or out of it behind the last.
@@ -90,11 +98,7 @@ fn to_place(
             phase: Phase::Walk,
         };
     }
-    let mut last = n;
-    if n == 128 {
-        last = 127;
-    }
-    places[q][CUR] = last;
+    places[q][CUR] = last_place(n);
     skip(file, lists, q, TERMINATED, places)
 }
 
@@ -115,7 +119,7 @@ pub fn walk(
 {
     let q = single.slot;
     let cur = places[q][CUR];
-    let n = block_len(q, lists, places);
+    let n = block_len(lists[q][COUNT], places[q][BLOCK]);
     let end = reach(cur, n, turns);
     let phase = single.phase;
     let from = first_asked(phase, cur);

@@ -82,9 +82,12 @@ module _ (file : List ℕ) (lists : List (List ℕ)) (q : ℕ) where
   pub record Skips (end : ℕ) (places places′ : List (List ℕ)) (r : Single) : Type 0 where
     pub moved : (docs freqs : List (List ℕ)) → SlotIn file lists (held places docs freqs) q
         → MovedTo file lists q (λ s. skipped (listAt s file lists q) (cursorAt places q) end) (held places docs freqs) (held places′ docs freqs) r
+    pub off : onWalk (r .phase) ≡ false
 
   -- what `to_place` leaves, whatever the frequencies
   pub record ToPlace (docs : List (List ℕ)) (n i : ℕ) (places places′ : List (List ℕ)) (r : Single) : Type 0 where
     pub moved : (freqs : List (List ℕ)) → SlotIn file lists (held places docs freqs) q
         → MovedTo file lists q (λ s. inBlock (listAt s file lists q) (cursorAt places q) (getD docs q []) n i)
         (held places docs freqs) (held places′ docs freqs) r
+    pub same-block : (freqs : List (List ℕ)) → SlotIn file lists (held places docs freqs) q → onWalk (r .phase) ≡ true
+        → cursorAt places′ q .dec ≡ cursorAt places q .dec
