@@ -2,3 +2,6 @@
 pub mod Scorers
 pub mod Hunting
 pub mod Walking
+pub mod BlockTurns
+pub mod Scanning
+pub mod Going

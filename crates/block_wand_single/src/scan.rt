@@ -14,7 +14,7 @@ ghost use Prim.Native.Nat.{_<_};
 ghost use Rattle.arrays.specs.Lent.{before, after};
 ghost use Rattle.term_scorer.specs.Inner.Slots.{held};
 ghost use Rattle.block_wand_single.specs.Inner.Stands.{Stands, Goes, Steps};
-ghost use Rattle.block_wand_single.specs.Inner.Places.{isDone, onWalk};
+ghost use Rattle.block_wand_single.specs.Inner.Places.{isDone, isReport, onWalk};
 
 // Whether a block is walked.
 fn on_walk(phase: Phase) -> bool
@@ -37,6 +37,17 @@ fn is_over(phase: Phase) -> bool
         Phase::Hunt => false,
         Phase::Walk => false,
         Phase::Called => false,
+    }
+}
+
+// Whether a report is due.
+fn is_report(event: Event) -> bool
+    ensures { λ r. ⌜ r ≡ isReport event ⌝ }
+{
+    match event {
+        Event::Report(_, _) => true,
+        Event::Over => false,
+        Event::Paused => false,
     }
 }
 
@@ -139,11 +150,11 @@ pub fn go(
         single = next.single;
         taken += next.taken;
         let event = next.event;
-        if let Event::Report(doc, score) = event {
+        if is_report(event) {
             return Gone {
                 single,
                 taken,
-                event: Event::Report(doc, score),
+                event,
             };
         }
     }

@@ -12,16 +12,18 @@ use Rattle.route.specs.Cursor.{Cursor, fresh}
 use Rattle.route.specs.Route.{Route}
 use Rattle.route.specs.Single as route
 use Rattle.bm25.specs.declared.Scoring.{Scoring}
+use Rattle.reports.specs.declared.Event.{Event}
+use Rattle.reports.specs.declared.Event.the-variants.{Over, Paused, Report}
 use Rattle.term_scorer.specs.Inner.Slots.{Held, cursorAt, held, listAt, SlotIn}
 use Rattle.block_wand_single.specs.declared.Phase.{Phase}
-use Rattle.block_wand_single.specs.declared.Phase.the-variants.{Hunt, Walk, Called, Over}
+use Rattle.block_wand_single.specs.declared.Phase.the-variants.{Hunt, Walk, Called, Over as Done}
 use Rattle.block_wand_single.specs.declared.Single.{Single}
 
 abbrev pub phaseOf : Phase → route.Phase
 phaseOf Hunt = route.hunt
 phaseOf Walk = route.walk
 phaseOf Called = route.called
-phaseOf Over = route.over
+phaseOf Done = route.over
 
 -- a scan's place is the route's: its scorer's cursor stands in the slot
 abbrev pub placeOf : Single → List (List ℕ) → route.SinglePlace
@@ -36,7 +38,13 @@ abbrev pub onWalk : Phase → Bool
 onWalk Hunt = false
 onWalk Walk = true
 onWalk Called = true
-onWalk Over = false
+onWalk Done = false
+
+-- a report is due
+abbrev pub isReport : Event → Bool
+isReport (Report doc score) = true
+isReport Over = false
+isReport Paused = false
 
 -- `block_wand_single_scorer` over a slot's list, whatever its position in a query
 abbrev pub singleRoute : Scoring → List ℕ → List (List ℕ) → ℕ → ℕ → Route Float
@@ -48,7 +56,7 @@ abbrev pub startOf : Phase → ℕ → ℕ
 startOf Hunt cur = cur
 startOf Walk cur = cur
 startOf Called cur = cur + 1
-startOf Over cur = cur
+startOf Done cur = cur
 
 -- place i of the block decoded last
 abbrev pub onPlace : Cursor → ℕ → Cursor

@@ -1,0 +1,157 @@
+-- `walk::walk` meets its contract: no posting that it passes is due, and the one that it reports is.
+use native.Mathlib.Omega.{arith}
+use borrow.Author.Needs.{needs}
+use Rattle.block_wand_single.proofs.Scanning.{cur-in, cur-inside, high, low, room, short, starts, walk-due, walk-on}
+use Rattle.block_wand_single.proofs.walk.walk.Statement.{statement}
+use Rattle.block_wand_single.proofs.walk.walk.Tie as tie
+
+mul-cur : tie.Need-mul-cur
+mul-cur c = search needs
+
+index-1-cur : tie.Need-index-1-cur
+index-1-cur c = search needs
+
+index-2-cur : tie.Need-index-2-cur
+index-2-cur c = search needs
+
+mul-block-len : tie.Need-mul-block-len
+mul-block-len c = search needs
+
+index-1-block-len : tie.Need-index-1-block-len
+index-1-block-len c = search needs
+
+index-2-block-len : tie.Need-index-2-block-len
+index-2-block-len c = search needs
+
+mul-block-len-2 : tie.Need-mul-block-len-2
+mul-block-len-2 c = search needs
+
+index-1-block-len-2 : tie.Need-index-1-block-len-2
+index-1-block-len-2 c = search needs
+
+index-2-block-len-2 : tie.Need-index-2-block-len-2
+index-2-block-len-2 c = search needs
+
+block-len-requires : tie.Need-block-len-requires
+block-len-requires c κs = let a = c .before .before .before .before in starts (a .pre .0 .tables)
+
+reach-requires : tie.Need-reach-requires
+reach-requires c κs = let a = c .before .before .before .before .before in omega (arith, cur-in (a .pre .0 .tables) (c .block-len .ensures))
+
+first-asked-requires : tie.Need-first-asked-requires
+first-asked-requires c κs = let a = c .before .before .before .before .before .before in cur-inside (a .pre .0 .tables)
+
+first-above-requires : tie.Need-first-above-requires
+first-above-requires c κs =
+    let r = c .before in
+    let b = r .before in
+    let a = b .before .before .before .before .before in
+    room (a .pre .0 .tables) (b .block-len .ensures) (a .args .threshold) (a .pre .1) (r .reach .ensures) (c .first-asked .ensures)
+
+to-place-requires : tie.Need-to-place-requires
+to-place-requires c κs =
+    let b = c .before .before .before .before .before in
+    let a = b .before .before .before .before .before in
+    let S = a .pre .0 .tables .stands .ready in
+    (S .small, short (a .pre .0 .tables) (b .block-len .ensures), (_, S .slot))
+
+sub-t37 : tie.Need-sub-t37
+sub-t37 c =
+    let f = c .before .before .before in
+    let p = f .before in
+    let r = p .before in
+    let b = r .before in
+    let a = b .before .before .before .before .before in
+    low (a .pre .0 .tables) (b .block-len .ensures) (a .args .threshold) (a .pre .1) (r .reach .ensures) (p .first-asked .ensures) (f .first-above .ensures)
+
+returns : tie.Need-returns
+returns c =
+    let t = c .before .before in
+    let f = t .before in
+    let p = f .before in
+    let r = p .before in
+    let b = r .before in
+    let a = b .before .before .before .before .before in
+    record {
+      steps = λ similarity caches freqs floats T.
+          walk-on T (b .block-len .ensures) (a .args .threshold) (a .pre .1) (r .reach .ensures) (p .first-asked .ensures) (f .first-above .ensures) (t .if1 .taken) (c .to-place .ensures);
+    }
+
+mul-places : tie.Need-mul-places
+mul-places c = search needs
+
+index-1-places : tie.Need-index-1-places
+index-1-places c = search needs
+
+index-2-places : tie.Need-index-2-places
+index-2-places c = search needs
+
+mul-doc : tie.Need-mul-doc
+mul-doc c = search needs
+
+mul-doc-2 : tie.Need-mul-doc-2
+mul-doc-2 c = ?
+
+index-1-doc : tie.Need-index-1-doc
+index-1-doc c = search needs
+
+index-2-doc : tie.Need-index-2-doc
+index-2-doc c = ?
+
+sub-t29 : tie.Need-sub-t29
+sub-t29 c = ?
+
+add-t34 : tie.Need-add-t34
+add-t34 c = ?
+
+mul-t24 : tie.Need-mul-t24
+mul-t24 c = ?
+
+element-copy-out-t51 : tie.Need-element-copy-out-t51
+element-copy-out-t51 c = ?
+
+returns-2 : tie.Need-returns-2
+returns-2 c =
+    let e = c .before .before in
+    let f = e .before in
+    let p = f .before in
+    let r = p .before in
+    let b = r .before in
+    let a = b .before .before .before .before .before in
+    record {
+      steps = λ similarity caches freqs floats T.
+          walk-due T (b .block-len .ensures) (a .args .threshold) (a .pre .1) (r .reach .ensures) (p .first-asked .ensures) (f .first-above .ensures) (e .if1 .left) ?;
+    }
+
+pub walk-spec : {M : Type 1} → statement M
+walk-spec =
+    tie.close
+    (tie.spec
+    mul-cur
+    index-1-cur
+    index-2-cur
+    mul-block-len
+    index-1-block-len
+    index-2-block-len
+    mul-block-len-2
+    index-1-block-len-2
+    index-2-block-len-2
+    block-len-requires
+    reach-requires
+    first-asked-requires
+    first-above-requires
+    to-place-requires
+    sub-t37
+    returns
+    mul-places
+    index-1-places
+    index-2-places
+    mul-doc
+    mul-doc-2
+    index-1-doc
+    index-2-doc
+    sub-t29
+    add-t34
+    mul-t24
+    element-copy-out-t51
+    returns-2)
