@@ -1,7 +1,10 @@
 -- `walk::walk` meets its contract: no posting that it passes is due, and the one that it reports is.
+use mathlib.Core.Path.{refl}
+use Prim.Native.Nat.{_<_}
 use native.Mathlib.Omega.{arith}
 use borrow.Author.Needs.{needs}
-use Rattle.block_wand_single.proofs.Scanning.{cur-in, cur-inside, high, low, room, short, starts, walk-due, walk-on}
+use Rattle.route.proofs.Cases.{lt-of-ne}
+use Rattle.block_wand_single.proofs.Scanning.{cur-in, cur-inside, low, room, short, starts, walk-due, walk-on}
 use Rattle.block_wand_single.proofs.walk.walk.Statement.{statement}
 use Rattle.block_wand_single.proofs.walk.walk.Tie as tie
 
@@ -89,26 +92,44 @@ index-2-places c = search needs
 mul-doc : tie.Need-mul-doc
 mul-doc c = search needs
 
+-- the place found is one of the block's
+found-in : (c : tie.Else1) → c .before .first-above .result < 128
+found-in c =
+    let f = c .before in
+    let p = f .before in
+    let r = p .before in
+    let b = r .before in
+    let a = b .before .before .before .before .before in
+    let h = room (a .pre .0 .tables) (b .block-len .ensures) (a .args .threshold) (a .pre .1) (r .reach .ensures) (p .first-asked .ensures) in
+    let e = lt-of-ne (f .first-above .ensures .high) (c .if1 .left) in
+    omega (arith, h .1)
+
 mul-doc-2 : tie.Need-mul-doc-2
-mul-doc-2 c = ?
+mul-doc-2 c = omega (arith, found-in c)
 
 index-1-doc : tie.Need-index-1-doc
 index-1-doc c = search needs
 
 index-2-doc : tie.Need-index-2-doc
-index-2-doc c = ?
+index-2-doc c = found-in c
 
 sub-t29 : tie.Need-sub-t29
-sub-t29 c = ?
+sub-t29 c =
+    let f = c .before .before in
+    let p = f .before in
+    let r = p .before in
+    let b = r .before in
+    let a = b .before .before .before .before .before in
+    low (a .pre .0 .tables) (b .block-len .ensures) (a .args .threshold) (a .pre .1) (r .reach .ensures) (p .first-asked .ensures) (f .first-above .ensures)
 
 add-t34 : tie.Need-add-t34
-add-t34 c = ?
+add-t34 c = omega (arith, found-in (c .before))
 
 mul-t24 : tie.Need-mul-t24
-mul-t24 c = ?
+mul-t24 c = omega (arith, found-in (c .before))
 
 element-copy-out-t51 : tie.Need-element-copy-out-t51
-element-copy-out-t51 c = ?
+element-copy-out-t51 c = found-in (c .before)
 
 returns-2 : tie.Need-returns-2
 returns-2 c =
@@ -120,7 +141,7 @@ returns-2 c =
     let a = b .before .before .before .before .before in
     record {
       steps = λ similarity caches freqs floats T.
-          walk-due T (b .block-len .ensures) (a .args .threshold) (a .pre .1) (r .reach .ensures) (p .first-asked .ensures) (f .first-above .ensures) (e .if1 .left) ?;
+          walk-due T (b .block-len .ensures) (a .args .threshold) (a .pre .1) (r .reach .ensures) (p .first-asked .ensures) (f .first-above .ensures) (e .if1 .left) refl;
     }
 
 pub walk-spec : {M : Type 1} → statement M
