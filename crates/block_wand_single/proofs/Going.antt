@@ -2,29 +2,33 @@
 use mathlib.Core.Path.{_≡_, refl, sym, ap, _∙_, subst}
 use mathlib.Core.Bool.{Bool, true, false, false≢true, true≢false}
 use mathlib.Core.List.{List, []}
-use mathlib.Core.Option.{none}
 use Prim.Native.Nat.{ℕ, suc, _+_, _-_, _≤_, _<_}
-use native.Mathlib.Numerals.{add-one}
 use native.Mathlib.Omega.{arith}
 use lib.ListN.{getD}
 use lib.Ieee.{Float}
+use Rattle.route.specs.F32.{f32}
+use Rattle.route.specs.Postings.{Postings}
 use Rattle.route.specs.Cursor.{Cursor, docHere, fresh}
 use Rattle.route.specs.Route.{Route, Turn}
 use Rattle.route.specs.Single as route
 use Rattle.route.specs.Inner.Singles.{SingleKept}
-use Rattle.bm25.specs.declared.Scoring.{Scoring}
-use Rattle.reports.specs.Inner.Turns.{afterTurns, Silent, Went}
+use Rattle.route.proofs.Single.Ends.{single-nears}
+use Rattle.notefile.specs.Header.{documents, normReader}
+use Rattle.reports.specs.Inner.Turns.{afterTurns, Went}
 use Rattle.reports.specs.declared.Event.{Event}
 use Rattle.reports.specs.declared.Event.the-variants.{Over, Paused, Report}
 use Rattle.reports.proofs.TurnLaws.{Quietly, and-then, at-end, at-pause, at-report, none-yet, one-more}
-use Rattle.term_scorer.specs.Inner.Slots.{Held, cursorAt, listAt}
+use Rattle.postings.specs.Inner.Decoded.{doc-is, docIn}
+use Rattle.term_scorer.specs.Inner.Slots.{Held, cursorAt, listAt, partAt, SlotIn}
+use Rattle.term_scorer.specs.Inner.Weights.{Weighed}
 use Rattle.term_scorer.specs.declared.score.Similarity.{Similarity}
 use Rattle.block_wand_single.specs.Inner.Places.{isDone, isReport, onWalk, phaseOf, placeOf, singleRoute}
-use Rattle.block_wand_single.specs.Inner.Stands.{Goes, Hunted, Ready, Stands, Steps, Strode}
+use Rattle.block_wand_single.specs.Inner.Stands.{FloatRows, Goes, Hunted, Stands, Steps, Strode}
 use Rattle.block_wand_single.specs.declared.Gone.{Gone}
 use Rattle.block_wand_single.specs.declared.Phase.{Phase}
 use Rattle.block_wand_single.specs.declared.Phase.the-variants.{Called, Hunt, Over as Done, Walk}
 use Rattle.block_wand_single.specs.declared.Single.{Single}
+use Rattle.block_wand_single.proofs.Scorers.{right, standing-in}
 
 -- a scan that has not returned and is on no walk hunts
 pub is-hunt : (phase : Phase) → onWalk phase ≡ false → isDone phase ≡ false → phase ≡ Hunt
@@ -64,6 +68,28 @@ module _ {file : List ℕ} {similarity : Similarity} {lists : List (List ℕ)} {
           let w = W file similarity lists x ord in
           subst (λ (z : Phase). Quietly (w .turn) (w .ended) t (record { phase = phaseOf z; cur = cursorAt (h .places) (x .slot); doc = x .doc }) 1 (placeOf r (h′ .places))) (sym e)
           (one-more (w .turn) (w .ended) t (none-yet (w .turn) (w .ended) t _) refl refl (H .next-is))
+
+  -- A SCAN BEGINS AT ITS ROUTE'S FIRST PLACE: its slot is open on the list's first posting, with no bound known.
+  pub single-begins : {q : ℕ} {h : Held} {floats : List (List Float)} {doc : ℕ} → similarity .norms ≡ normReader file → q < 16 → SlotIn file lists h q
+      → cursorAt (h .places) q ≡ fresh → getD (getD (h .places) q []) 7 0 ≡ 0 → Weighed lists caches q → FloatRows floats → doc ≡ docIn file (partAt lists q) 0
+      → Stands file similarity lists caches (record { slot = q; doc = doc; phase = Hunt }) h floats
+      × ((ord : ℕ) → placeOf (record { slot = q; doc = doc; phase = Hunt }) (h .places) ≡ singleRoute (similarity .scoring) file lists q ord .first)
+  single-begins {q} {h} {floats} {doc} norms small S c unknown W rows d = (
+    record {
+      ready = record { small = small; norms-are = norms; slot = S; weighed = W; rows = rows; bound = λ k. absurd (omega arith) };
+      scores = λ w. absurd (false≢true w);
+      kept = subst (λ (p : route.SinglePlace). SingleKept 128 l (p .phase) (p .cur) (p .doc)) (sym first)
+          (single-nears 128 (documents file) f32 l (right (standing-in S) (similarity .scoring)) 0 .begins);
+    },
+    λ ord. first,
+  )
+    where
+      l : Postings Float
+      l = listAt (similarity .scoring) file lists q
+
+      first : placeOf (record { slot = q; doc = doc; phase = Hunt }) (h .places) ≡ record { phase = route.hunt; cur = fresh; doc = docHere l fresh }
+      first = ap (λ (z : Cursor). record { phase = route.hunt; cur = z; doc = doc }) c
+          ∙ ap (λ (z : ℕ). record { phase = route.hunt; cur = fresh; doc = z }) (d ∙ sym (doc-is file (partAt lists q) (similarity .scoring) 0))
 
 -- ---- the loop
 
@@ -117,7 +143,7 @@ module _ {file : List ℕ} {similarity : Similarity} {lists : List (List ℕ)} {
     no-report : (ord : ℕ) (e : Event) → isReport e ≡ false → Strides ord e
         → (0 < r .taken) × (r .taken ≤ turns - taken) × Quietly (turn ord) (ended ord) t (placeOf y (h′ .places)) (r .taken) (placeOf (r .single) (h″ .places))
     no-report ord (Report d s) f v = absurd (true≢false f)
-    no-report ord Over f v = (v .0, v .1, record { place-is = v .2; silent = v .3 })
+    no-report ord Over f v = absurd v
     no-report ord Paused f v = (v .0, v .1, record { place-is = v .2; silent = v .3 })
 
     with-report : (ord : ℕ) (e : Event) → isReport e ≡ true → Strides ord e
@@ -131,7 +157,7 @@ module _ {file : List ℕ} {similarity : Similarity} {lists : List (List ℕ)} {
       where
         taken-by : (ord : ℕ) (e : Event) → Strides ord e → taken + r .taken ≤ turns
         taken-by ord (Report d s) v = omega (arith, v .few, G .few)
-        taken-by ord Over v = omega (arith, v .1, G .few)
+        taken-by ord Over v = absurd v
         taken-by ord Paused v = omega (arith, v .1, G .few)
 
     pub gone-report : isReport (r .event) ≡ true → Goes file similarity lists caches t turns x h (record { single = r .single; taken = taken + r .taken; event = r .event }) h″ floats′

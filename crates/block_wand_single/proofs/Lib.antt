@@ -1,7 +1,7 @@
 -- Laws of the single run that belong to no one function.
 pub mod Scorers
 pub mod Hunting
-pub mod Walking
+pub mod Seeking
 pub mod BlockTurns
-pub mod Scanning
+pub mod Walking
 pub mod Going

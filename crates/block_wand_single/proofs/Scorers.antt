@@ -2,7 +2,7 @@
 use mathlib.Core.Path.{_≡_, refl, sym, ap, _∙_, subst}
 use mathlib.Core.Bool.{true≢false}
 use mathlib.Core.List.{List, []}
-use Prim.Native.Nat.{ℕ, suc, min, _+_, _≤_, _<_}
+use Prim.Native.Nat.{ℕ, min, _+_, _≤_, _<_}
 use native.Mathlib.Numerals.{add-one}
 use native.Mathlib.Omega.{arith}
 use lib.Dec.{eqb}
@@ -13,25 +13,24 @@ use borrow.Author.Tests.{eq-eqb, eqb-false, eqb-true, le-ltb, lt-ltb, ne-eqb}
 use Rattle.route.specs.F32.{f32}
 use Rattle.route.specs.Postings.{Postings, TERMINATED, lastDoc}
 use Rattle.route.specs.Cursor.{Cursor, blockMax, seekBlockIn}
-use Rattle.route.specs.Single.{SinglePlace, leave, over, walk}
+use Rattle.route.specs.Single.{SinglePlace}
 use Rattle.route.specs.Inner.Lists.{ListOk}
 use Rattle.route.proofs.Cases.{on-test}
 use Rattle.route.proofs.Places.{last-cap}
 use Rattle.bm25.specs.declared.Scoring.{Scoring}
 use Rattle.bm25.specs.declared.Scoring.the-variants.{Unstepped}
 use Rattle.notefile.specs.Header.{documents}
-use Rattle.decoded.specs.Lists.{listOf}
 use Rattle.decoded.proofs.AcceptedLists.{list-ok}
-use Rattle.postings.specs.Inner.Decoded.{ListIn}
+use Rattle.postings.specs.Inner.Decoded.{docIn}
 use Rattle.postings.specs.Inner.Places.{cursorOf, Moved}
 use Rattle.postings.specs.declared.cursor.SegmentPostings.{SegmentPostings}
 use Rattle.postings.proofs.Readers.{end-is}
-use Rattle.slot_rows.specs.Inner.Rows.{cursorIn, partIn, postingsIn, MovedRow, PlaceIn, Standing}
+use Rattle.slot_rows.specs.Inner.Rows.{cursorIn, partIn, postingsIn, MovedRow, PlaceIn}
 use Rattle.slot_rows.proofs.Rows.{bound-in, last-is, moves-in}
 use Rattle.term_scorer.specs.Inner.Slots.{Held, cursorAt, held, lastAt, listAt, partAt, Shallowed, Sixteen, SlotIn, StandingIn}
 use Rattle.term_scorer.specs.Inner.Weights.{Bounded, FloatRow}
 use Rattle.term_scorer.specs.declared.score.Similarity.{Similarity}
-use Rattle.block_wand_single.specs.Inner.Places.{inBlock, onPlace, phaseOf, placeOf, skipped, MovedTo, Skips, ToPlace}
+use Rattle.block_wand_single.specs.Inner.Places.{onPlace, phaseOf, skipped, MovedTo, Skips, ToPlace}
 use Rattle.block_wand_single.specs.Inner.Stands.{FloatRows, Ready}
 use Rattle.block_wand_single.specs.declared.Phase.{Phase}
 use Rattle.block_wand_single.specs.declared.Phase.the-variants.{Hunt, Over, Walk}
@@ -86,7 +85,7 @@ module _ {file : List ℕ} {lists : List (List ℕ)} {q : ℕ} {h : Held} (S : S
 
   -- nothing moves
   stay : MovedRow file (partAt lists q) (λ _. cursorAt (h .places) q) (getD (h .places) q []) (getD (h .places) q []) (getD (h .docs) q []) (getD (h .freqs) q [])
-      (Rattle.postings.specs.Inner.Decoded.docIn file (partAt lists q) (cursorAt (h .places) q .at))
+      (docIn file (partAt lists q) (cursorAt (h .places) q .at))
   stay = record { place = S .place; cursor-is = λ _. refl; doc-is = refl; bound-is = λ k. (k, refl, refl) }
 
   -- its skip reader alone

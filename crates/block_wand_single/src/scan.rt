@@ -51,7 +51,7 @@ fn is_report(event: Event) -> bool
     }
 }
 
-// One turn of the hunt, or a walk over the block.
+// One turn of the hunt, or a walk over the block. Where no report is due it says Paused, also at the end.
 fn stride(
     file: &[u8],
     similarity: Similarity,
@@ -66,7 +66,8 @@ fn stride(
     floats: &mut Floats,
 ) -> Gone
     requires { let slots = held (now places) (now docs) (now freqs) in
-        ⌜ Stands (now file) similarity (now lists) (now caches) single slots (now floats) × (isDone (single .phase) ≡ false) × (0 < turns) ⌝ }
+        ⌜ Stands (now file) similarity (now lists) (now caches) single slots (now floats)
+        × (isDone (single .phase) ≡ false) × (0 < turns) ⌝ }
     ensures { λ r.
         let old = held (before places) (before docs) (before freqs) in
         let new = held (after places) (after docs) (after freqs) in
@@ -86,7 +87,16 @@ fn stride(
         );
     }
     let single = hunt(
-        file, similarity, single, lists, caches, threshold, places, docs, freqs, floats,
+        file,
+        similarity,
+        single,
+        lists,
+        caches,
+        threshold,
+        places,
+        docs,
+        freqs,
+        floats,
     );
     Gone {
         single,

@@ -87,7 +87,8 @@ fn to_place(
     places: &mut [[usize; 8]; 16],
     docs: &[[u32; 128]; 16],
 ) -> Single
-    requires { ⌜ (q < 16) × (n ≤ 128) × ((freqs : List (List ℕ)) × SlotIn (now file) (now lists) (held (now places) (now docs) freqs) q) ⌝ }
+    requires { ⌜ (q < 16) × (n ≤ 128)
+        × ((freqs : List (List ℕ)) × SlotIn (now file) (now lists) (held (now places) (now docs) freqs) q) ⌝ }
     ensures { λ r. ⌜ ToPlace (before file) (before lists) q (before docs) n i (before places) (after places) r ⌝ }
 {
     if i < n {
@@ -123,17 +124,20 @@ pub fn walk(
     let end = reach(cur, n, turns);
     let phase = single.phase;
     let from = first_asked(phase, cur);
-    let i = first_above(values, from, end, threshold);
-    if i == end {
-        let single = to_place(file, lists, q, i, n, places, docs);
+    let place = first_above(values, from, end, threshold);
+    let taken = place - cur;
+    if place == end {
+        let single = to_place(file, lists, q, place, n, places, docs);
         return Gone {
             single,
-            taken: i - cur,
+            taken,
             event: Event::Paused,
         };
     }
-    places[q][CUR] = i;
-    let doc = docs[q][i];
+    places[q][CUR] = place;
+    let reported = taken + 1;
+    let doc = docs[q][place];
+    let score = values[place];
     let single = Single {
         slot: q,
         doc,
@@ -141,7 +145,7 @@ pub fn walk(
     };
     Gone {
         single,
-        taken: i - cur + 1,
-        event: Event::Report(doc, values[i]),
+        taken: reported,
+        event: Event::Report(doc, score),
     }
 }

@@ -2,7 +2,7 @@
 use mathlib.Core.Path.{_≡_}
 use mathlib.Core.Bool.{Bool, true, false, cond}
 use mathlib.Core.List.{List, []}
-use Prim.Native.Nat.{ℕ, suc, min, _+_}
+use Prim.Native.Nat.{ℕ, min, _+_}
 use lib.Dec.{eqb, ltb}
 use lib.ListN.{getD}
 use lib.Ieee.{Float}
@@ -89,7 +89,8 @@ module _ (file : List ℕ) (lists : List (List ℕ)) (q : ℕ) where
   -- what `skip` leaves, whatever the slots have decoded
   pub record Skips (end : ℕ) (places places′ : List (List ℕ)) (r : Single) : Type 0 where
     pub moved : (docs freqs : List (List ℕ)) → SlotIn file lists (held places docs freqs) q
-        → MovedTo file lists q (λ s. skipped (listAt s file lists q) (cursorAt places q) end) (held places docs freqs) (held places′ docs freqs) r
+        → MovedTo file lists q (λ s. skipped (listAt s file lists q) (cursorAt places q) end)
+        (held places docs freqs) (held places′ docs freqs) r
     pub off : onWalk (r .phase) ≡ false
 
   -- what `to_place` leaves, whatever the frequencies

@@ -10,7 +10,7 @@ use Rattle.route.specs.F32.{f32}
 use Rattle.route.specs.Postings.{Postings, start}
 use Rattle.route.specs.Cursor.{seekIn}
 use Rattle.route.specs.Route.{Route}
-use Rattle.route.specs.Single.{SinglePlace, huntTurn, landed}
+use Rattle.route.specs.Single.{huntTurn, landed}
 use Rattle.route.specs.Inner.Singles.{SingleKept}
 use Rattle.bm25.specs.Scoring.{scored}
 use Rattle.bm25.specs.declared.Scoring.{Scoring}
@@ -55,7 +55,8 @@ module _ (file : List ℕ) (similarity : Similarity) (lists : List (List ℕ)) (
     pub ready : Ready (x .slot) h floats
     pub scores : onWalk (x .phase) ≡ true
         → BlockScores (listAt (similarity .scoring) file lists (x .slot)) (cursorAt (h .places) (x .slot) .dec) (getD floats 2 [])
-    pub kept : SingleKept 128 (listAt (similarity .scoring) file lists (x .slot)) (phaseOf (x .phase)) (cursorAt (h .places) (x .slot)) (x .doc)
+    pub kept : SingleKept 128 (listAt (similarity .scoring) file lists (x .slot))
+        (phaseOf (x .phase)) (cursorAt (h .places) (x .slot)) (x .doc)
 
   -- what `enter` leaves: a posting, with the scores of its block, or the end
   pub record Entered (x : Single) (before : Held) (r : Single) (after : Held) (floats : List (List Float)) : Type 0 where
@@ -75,11 +76,10 @@ module _ (file : List ℕ) (similarity : Similarity) (lists : List (List ℕ)) (
           huntTurn 128 f32 l t (cursorAt (before .places) (x .slot)) (x .doc) .next ≡ placeOf r (after .places)
 
     module _ (turns : ℕ) where
-      -- turns without a report, one at least, or up to a report
+      -- up to a report, or turns without one, and one at least: whether the scan is over is not asked
       abbrev pub Strode : (W : Route Float) → W .Place → ℕ → W .Place → Event → Type 0
       Strode W p taken q (Report doc score) = Went (W .turn) (W .ended) t p turns taken q (Report doc score)
-      Strode W p taken q Over =
-          (0 < taken) × (taken ≤ turns) × (q ≡ afterTurns (W .turn) (W .ended) t p taken) × Silent (W .turn) (W .ended) t p taken
+      Strode W p taken q Over = ⊥
       Strode W p taken q Paused =
           (0 < taken) × (taken ≤ turns) × (q ≡ afterTurns (W .turn) (W .ended) t p taken) × Silent (W .turn) (W .ended) t p taken
 

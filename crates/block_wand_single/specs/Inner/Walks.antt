@@ -21,7 +21,8 @@ pub record FirstAbove (values : List Float) (from n : ℕ) (t : Float) (r : ℕ)
 
 module _ (file : List ℕ) (lists : List (List ℕ)) (x : Single) (places docs : List (List ℕ)) (values : List Float) where
   -- the tables of a scan on a walk, of which the walk reads these
-  pub record Tables (similarity : Similarity) (caches : List (List Float)) (freqs : List (List ℕ)) (floats : List (List Float)) : Type 0 where
+  pub record Tables (similarity : Similarity) (caches : List (List Float)) (freqs : List (List ℕ))
+      (floats : List (List Float)) : Type 0 where
     pub walking : onWalk (x .phase) ≡ true
     pub row-is : getD floats 2 [] ≡ values
     pub stands : Stands file similarity lists caches x (held places docs freqs) floats

@@ -15,14 +15,16 @@ walk-requires : tie.Need-walk-requires
 walk-requires c κs =
     let t = c .before .before .before in
     let w = t .before in
-    let a = w .before .before in
-    (record {
-      similarity = a .args .similarity;
-      caches = a .args .caches .now;
-      freqs = a .args .freqs .now;
-      floats = a .args .floats .now;
-      tables = record { walking = sym (w .on-walk .ensures) ∙ t .if1 .taken; row-is = refl; stands = a .pre .0 };
-    }, a .pre .2)
+    let a = w .before .before in (
+      record {
+        similarity = a .args .similarity;
+        caches = a .args .caches .now;
+        freqs = a .args .freqs .now;
+        floats = a .args .floats .now;
+        tables = record { walking = sym (w .on-walk .ensures) ∙ t .if1 .taken; row-is = refl; stands = a .pre .0 };
+      },
+      a .pre .2,
+    )
 
 returns : tie.Need-returns
 returns c =

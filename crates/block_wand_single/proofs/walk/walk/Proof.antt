@@ -4,7 +4,7 @@ use Prim.Native.Nat.{_<_}
 use native.Mathlib.Omega.{arith}
 use borrow.Author.Needs.{needs}
 use Rattle.route.proofs.Cases.{lt-of-ne}
-use Rattle.block_wand_single.proofs.Scanning.{cur-in, cur-inside, low, room, short, starts, walk-due, walk-on}
+use Rattle.block_wand_single.proofs.Walking.{cur-in, cur-inside, low, room, short, starts, walk-due, walk-on}
 use Rattle.block_wand_single.proofs.walk.walk.Statement.{statement}
 use Rattle.block_wand_single.proofs.walk.walk.Tie as tie
 
@@ -51,21 +51,20 @@ first-above-requires c κs =
     let a = b .before .before .before .before .before in
     room (a .pre .0 .tables) (b .block-len .ensures) (a .args .threshold) (a .pre .1) (r .reach .ensures) (c .first-asked .ensures)
 
+sub-taken : tie.Need-sub-taken
+sub-taken c =
+    let p = c .before in
+    let r = p .before in
+    let b = r .before in
+    let a = b .before .before .before .before .before in
+    low (a .pre .0 .tables) (b .block-len .ensures) (a .args .threshold) (a .pre .1) (r .reach .ensures) (p .first-asked .ensures) (c .first-above .ensures)
+
 to-place-requires : tie.Need-to-place-requires
 to-place-requires c κs =
     let b = c .before .before .before .before .before in
     let a = b .before .before .before .before .before in
     let S = a .pre .0 .tables .stands .ready in
     (S .small, short (a .pre .0 .tables) (b .block-len .ensures), (_, S .slot))
-
-sub-t37 : tie.Need-sub-t37
-sub-t37 c =
-    let f = c .before .before .before in
-    let p = f .before in
-    let r = p .before in
-    let b = r .before in
-    let a = b .before .before .before .before .before in
-    low (a .pre .0 .tables) (b .block-len .ensures) (a .args .threshold) (a .pre .1) (r .reach .ensures) (p .first-asked .ensures) (f .first-above .ensures)
 
 returns : tie.Need-returns
 returns c =
@@ -89,9 +88,6 @@ index-1-places c = search needs
 index-2-places : tie.Need-index-2-places
 index-2-places c = search needs
 
-mul-doc : tie.Need-mul-doc
-mul-doc c = search needs
-
 -- the place found is one of the block's
 found-in : (c : tie.Else1) → c .before .first-above .result < 128
 found-in c =
@@ -104,6 +100,12 @@ found-in c =
     let e = lt-of-ne (f .first-above .ensures .high) (c .if1 .left) in
     omega (arith, h .1)
 
+add-reported : tie.Need-add-reported
+add-reported c = omega (arith, found-in c)
+
+mul-doc : tie.Need-mul-doc
+mul-doc c = search needs
+
 mul-doc-2 : tie.Need-mul-doc-2
 mul-doc-2 c = omega (arith, found-in c)
 
@@ -113,23 +115,11 @@ index-1-doc c = search needs
 index-2-doc : tie.Need-index-2-doc
 index-2-doc c = found-in c
 
-sub-t29 : tie.Need-sub-t29
-sub-t29 c =
-    let f = c .before .before in
-    let p = f .before in
-    let r = p .before in
-    let b = r .before in
-    let a = b .before .before .before .before .before in
-    low (a .pre .0 .tables) (b .block-len .ensures) (a .args .threshold) (a .pre .1) (r .reach .ensures) (p .first-asked .ensures) (f .first-above .ensures)
+mul-score : tie.Need-mul-score
+mul-score c = omega (arith, found-in (c .before))
 
-add-t34 : tie.Need-add-t34
-add-t34 c = omega (arith, found-in (c .before))
-
-mul-t24 : tie.Need-mul-t24
-mul-t24 c = omega (arith, found-in (c .before))
-
-element-copy-out-t51 : tie.Need-element-copy-out-t51
-element-copy-out-t51 c = found-in (c .before)
+element-copy-out-score : tie.Need-element-copy-out-score
+element-copy-out-score c = found-in (c .before)
 
 returns-2 : tie.Need-returns-2
 returns-2 c =
@@ -161,18 +151,17 @@ walk-spec =
     reach-requires
     first-asked-requires
     first-above-requires
+    sub-taken
     to-place-requires
-    sub-t37
     returns
     mul-places
     index-1-places
     index-2-places
+    add-reported
     mul-doc
     mul-doc-2
     index-1-doc
     index-2-doc
-    sub-t29
-    add-t34
-    mul-t24
-    element-copy-out-t51
+    mul-score
+    element-copy-out-score
     returns-2)
