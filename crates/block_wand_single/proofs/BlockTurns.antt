@@ -1,32 +1,31 @@
 -- The route's turns over one block: a walk from posting to posting, and what stands behind the last.
-use mathlib.Core.Path.{_≡_, sym, ap, _∙_, subst}
+use mathlib.Core.Path.{_≡_, refl, sym, ap, _∙_, subst}
 use mathlib.Core.Bool.{Bool, true, false, cond}
-use mathlib.Core.List.{List}
 use mathlib.Core.Logic.{inl, inr}
 use Prim.Native.Nat.{ℕ, zero, suc, pred, min, _+_, _-_, _≤_, _<_}
 use native.Mathlib.Nat.{add-suc, add-zero}
 use native.Mathlib.Omega.{arith}
-use lib.Dec.{ltb, eqb}
-use lib.ListN.{getD}
-use lib.Ieee.{Float, nan}
+use lib.Dec.{eqb, ltb}
+use lib.Ieee.{Float, lt}
 use borrow.Author.Tests.{lt-ltb, le-ltb, eq-eqb, ne-eqb}
 use Rattle.arrays.proofs.Order.{lt-or-ge}
 use Rattle.route.specs.F32.{f32}
-use Rattle.route.specs.Report.{Callback, dueAt, reported}
 use Rattle.route.specs.Postings.{Postings, TERMINATED, start, docAt, lastDoc}
-use Rattle.route.specs.Cursor.{Cursor, advanceIn}
-use Rattle.route.specs.Route.{Route, Turn, after, step}
-use Rattle.route.specs.Single.{Phase, walk, over, SinglePlace, landed, leave, singleTurn}
+use Rattle.route.specs.Cursor.{Cursor, advanceIn, fresh}
+use Rattle.route.specs.Route.{Route}
+use Rattle.route.specs.Single.{Phase, walk, called, over, SinglePlace, blockWandSingleScorer, landed, leave, passed}
 use Rattle.route.specs.Inner.Lists.{ListOk}
-use Rattle.route.proofs.Ending.{Nears}
 use Rattle.route.proofs.Places.{start-suc, start-le, docAt-in, docAt-out, last-in, last-out, last-place, le-last}
-use Rattle.block_wand_single.specs.Inner.Walks.{offered}
+use Rattle.reports.specs.Inner.Turns.{Went}
+use Rattle.reports.specs.declared.Event.the-variants.{Report}
+use Rattle.reports.proofs.TurnLaws.{Quietly, at-report, none-yet, one-more}
+use Rattle.block_wand_single.specs.Inner.Places.{skipped}
 
 -- by what a test shows
-pub on-true : {A : Type 0} {b : Bool} (x y : A) → b ≡ true → cond b x y ≡ x
+on-true : {A : Type 0} {b : Bool} (x y : A) → b ≡ true → cond b x y ≡ x
 on-true x y e = rw e
 
-pub on-false : {A : Type 0} {b : Bool} (x y : A) → b ≡ false → cond b x y ≡ y
+on-false : {A : Type 0} {b : Bool} (x y : A) → b ≡ false → cond b x y ≡ y
 on-false x y e = rw e
 
 module _ (l : Postings Float) {N : ℕ} (k : ListOk 128 N l) (b : ℕ) (within : b ≤ l .full) (loaded : Bool) (n : ℕ) (size : n ≡ min (l .len - start 128 b) 128) where
@@ -38,8 +37,8 @@ module _ (l : Postings Float) {N : ℕ} (k : ListOk 128 N l) (b : ℕ) (within :
   doc i = docAt l (start 128 b + i)
 
   -- behind its n postings: past a full block, or the end
-  abbrev pub behind : SinglePlace
-  behind = cond (ltb b (l .full)) (leave 128 f32 l (lastDoc l 128 b) (here 127)) (record { phase = over; cur = here n; doc = TERMINATED })
+  abbrev behind : SinglePlace
+  behind = skipped l (here (min n 127)) TERMINATED
 
   abbrev pub placeIn : ℕ → SinglePlace
   placeIn i = cond (ltb i n) (record { phase = walk; cur = here i; doc = doc i }) behind
@@ -83,6 +82,21 @@ module _ (l : Postings Float) {N : ℕ} (k : ListOk 128 N l) (b : ℕ) (within :
       let e : start 128 b + 127 ≡ pred (start 128 (suc b)) = omega arith in
       rw (e, lt-ltb (pred (start 128 (suc b))) (l .len) (p .0)) (sym (last-in 128 N l k b h))
 
+  -- behind a full block, and behind the tail
+  behind-full : b < l .full → behind ≡ leave 128 f32 l (lastDoc l 128 b) (here 127)
+  behind-full h =
+      let p = last-place 128 N l k b h .0 in
+      let f = full-size h in
+      let e : min n 127 ≡ 127 = omega arith in
+      ap (λ (z : ℕ). skipped l (here z) TERMINATED) e
+      ∙ on-false _ _ (ne-eqb (lastDoc l 128 b) TERMINATED (λ q. omega (arith, q, last-in 128 N l k b h, k .below _ p, k .few)))
+
+  behind-tail : l .full ≤ b → behind ≡ record { phase = over; cur = here n; doc = TERMINATED }
+  behind-tail h =
+      let t = tail-size h .0 in
+      let e : min n 127 ≡ n = omega arith in
+      ap (λ (z : ℕ). skipped l (here z) TERMINATED) e ∙ on-true _ _ (eq-eqb (lastDoc l 128 b) TERMINATED (last-out 128 N l k b h))
+
   -- advancing inside the block
   advances : (i : ℕ) → (i ≡ 127 → ⊥) → advanceIn l 128 (here i) ≡ here (suc i)
   advances i h =
@@ -90,7 +104,7 @@ module _ (l : Postings Float) {N : ℕ} (k : ListOk 128 N l) (b : ℕ) (within :
       rw (ne-eqb (start 128 b + i) (start 128 b + 127) (λ q. h (omega arith)), e)
 
   next : ℕ → SinglePlace
-  next i = cond (eqb (doc i) (lastDoc l 128 b)) (leave 128 f32 l (doc i) (here i)) (landed 128 f32 l (advanceIn l 128 (here i)))
+  next i = passed 128 f32 l (here i) (doc i)
 
   -- to the posting behind it
   next-in : (i : ℕ) → suc i < n → next i ≡ placeIn (suc i)
@@ -105,7 +119,7 @@ module _ (l : Postings Float) {N : ℕ} (k : ListOk 128 N l) (b : ℕ) (within :
   next-full : b < l .full → next 127 ≡ behind
   unfolding next
   next-full h =
-      on-true _ _ (eq-eqb (doc 127) (lastDoc l 128 b) (ends h)) ∙ ap (λ (z : ℕ). leave 128 f32 l z (here 127)) (ends h) ∙ sym (on-true _ _ (lt-ltb b (l .full) h))
+      on-true _ _ (eq-eqb (doc 127) (lastDoc l 128 b) (ends h)) ∙ ap (λ (z : ℕ). leave 128 f32 l z (here 127)) (ends h) ∙ sym (behind-full h)
 
   -- from the tail's last posting to the end
   next-tail : l .full ≤ b → (i : ℕ) → suc i ≡ n → next i ≡ behind
@@ -117,9 +131,11 @@ module _ (l : Postings Float) {N : ℕ} (k : ListOk 128 N l) (b : ℕ) (within :
       on-false _ _ (ne-eqb (doc i) (lastDoc l 128 b) (λ q. omega (arith, last-out 128 N l k b h))) ∙ ap (landed 128 f32 l) (advances i (λ q. omega arith))
       ∙ ap (λ (z : ℕ). record { phase = cond (eqb z TERMINATED) over walk; cur = here (suc i); doc = z }) o
       ∙ ap (λ (z : ℕ). record { phase = over; cur = here z; doc = TERMINATED }) e
-      ∙ sym (on-false _ _ (le-ltb b (l .full) h))
+      ∙ sym (behind-tail h)
 
-  next-is : (i : ℕ) → i < n → next i ≡ placeIn (suc i)
+  -- EACH POSTING IS FOLLOWED BY THE NEXT
+  next-is : (i : ℕ) → i < n → passed 128 f32 l (here i) (doc i) ≡ placeIn (suc i)
+  unfolding next
   next-is i h = elim (lt-or-ge (suc i) n) [
     | inl g ↦ next-in i g
     | inr g ↦ last-one g ∙ sym (on-false _ behind (le-ltb (suc i) n g))
@@ -131,33 +147,41 @@ module _ (l : Postings Float) {N : ℕ} (k : ListOk 128 N l) (b : ℕ) (within :
         | inr f ↦ next-tail f i (omega arith)
       ]
 
-  -- EACH TURN GOES TO THE NEXT POSTING
-  pub block-turn : (t : Float) (i : ℕ) → i < n → singleTurn 128 f32 l t (placeIn i) ≡ record { next = placeIn (suc i); due = dueAt f32 t (doc i) (l .score (start 128 b + i)) }
-  unfolding next
-  block-turn t i h =
-      ap (singleTurn 128 f32 l t) (on-true (record { phase = walk; cur = here i; doc = doc i }) behind (lt-ltb i n h))
-      ∙ ap (λ (z : SinglePlace). record { next = z; due = dueAt f32 t (doc i) (l .score (start 128 b + i)) }) (next-is i h)
+  pub on-place : (i : ℕ) → i < n → placeIn i ≡ record { phase = walk; cur = here i; doc = doc i }
+  on-place i h = on-true _ behind (lt-ltb i n h)
 
--- a walk over postings is one turn for each, whatever is reported
-module _ (W : Route Float) (K : Callback Float) (docs : List ℕ) (values : List Float) (from n : ℕ) (place : ℕ → W .Place)
-    (turns : (t : Float) (i : ℕ) → i < n → W .turn t (place i) ≡ record { next = place (suc i); due = dueAt f32 t (getD docs i 0) (getD values i nan) }) where
-  pub stretch : (r : K .State) (s : ℕ) → after K W r s .place ≡ place from → (m : ℕ) → from + m ≤ n
-      → after K W r (s + m) ≡ record { place = place (from + m); state = offered K docs values from m (after K W r s .state) }
-  stretch r s e zero h =
-      ap (after K W r) (add-zero s) ∙ ap (λ (z : W .Place). record { place = z; state = after K W r s .state }) (e ∙ ap place (sym (add-zero from)))
-  stretch r s e (suc m) h =
-      let st = offered K docs values from m (after K W r s .state) in
-      ap (after K W r) (add-suc s m) ∙ ap (step K W) (stretch r s e m (omega arith))
-      ∙ ap (λ (z : Turn (W .Place) Float). record { place = z .next; state = reported K (z .due) st }) (turns (K .threshold st) (from + m) (omega arith))
-      ∙ ap (λ (z : ℕ). record { place = place z; state = offered K docs values from (suc m) (after K W r s .state) }) (sym (add-suc from m))
+  -- ---- turns of the route
 
-  -- and each brings the run nearer to its end
-  pub stretch-near : {Kept : W .Place → Type 0} {cost : W .Place → ℕ} → Nears W Kept cost → ((i : ℕ) → i < n → W .ended (place i) ≡ false) → Kept (place from) → (m : ℕ) → from + m ≤ n
-      → Kept (place (from + m)) × (cost (place (from + m)) + m ≤ cost (place from))
-  stretch-near {Kept} {cost} N going k zero h = rw (add-zero from) (k, omega arith)
-  stretch-near {Kept} {cost} N going k (suc m) h =
-      let z = stretch-near N going k m (omega arith) in
-      let i = from + m in
-      let t = N .nears nan (place i) (going i (omega arith)) (z .0) in
-      let e : W .turn nan (place i) .next ≡ place (from + suc m) = ap (λ (v : Turn (W .Place) Float). v .next) (turns nan i (omega arith)) ∙ ap place (sym (add-suc from m)) in
-      (subst Kept e (t .0), subst (λ (v : W .Place). cost v + suc m ≤ cost (place from)) e (omega (arith, t .1, z .1)))
+  module _ (ord : ℕ) (t : Float) where
+    abbrev W : Route Float
+    W = blockWandSingleScorer 128 f32 (record { ord = ord; list = l; cur = fresh })
+
+    -- turns without a report
+    abbrev pub Passes : SinglePlace → ℕ → SinglePlace → Type 0
+    Passes = Quietly (W .turn) (W .ended) t
+
+    abbrev score : ℕ → Float
+    score i = l .score (start 128 b + i)
+
+    -- behind a report the scorer goes on
+    pub called-turn : (i : ℕ) → i < n → Passes (record { phase = called; cur = here i; doc = doc i }) 1 (placeIn (suc i))
+    called-turn i h = one-more (W .turn) (W .ended) t (none-yet (W .turn) (W .ended) t _) refl refl (next-is i h)
+
+    -- a posting that is not due is passed in one turn
+    quiet-turn : (i : ℕ) → i < n → lt t (score i) ≡ false → {p : SinglePlace} {m : ℕ} → Passes p m (placeIn i) → Passes p (suc m) (placeIn (suc i))
+    quiet-turn i h low {p} {m} Q =
+        one-more (W .turn) (W .ended) t (subst (Passes p m) (on-place i h) Q) refl (rw low)
+        (on-false (record { phase = called; cur = here i; doc = doc i }) (passed 128 f32 l (here i) (doc i)) low ∙ next-is i h)
+
+    pub stretch : {p : SinglePlace} {m from : ℕ} → Passes p m (placeIn from) → (j : ℕ) → from + j ≤ n → ((i : ℕ) → from ≤ i → i < from + j → lt t (score i) ≡ false)
+        → Passes p (m + j) (placeIn (from + j))
+    stretch {p} {m} {from} Q zero h low = rw (add-zero m, add-zero from) Q
+    stretch {p} {m} {from} Q (suc j) h low =
+        rw (add-suc m j, add-suc from j) (quiet-turn (from + j) (omega arith) (low (from + j) (omega arith) (omega arith)) (stretch Q j (omega arith) (λ i a b. low i a (omega arith))))
+
+    -- one that is due is reported, and the scorer stays on it
+    pub due-turn : (i : ℕ) → i < n → lt t (score i) ≡ true → {p : SinglePlace} {m turns : ℕ} → m < turns → Passes p m (placeIn i)
+        → Went (W .turn) (W .ended) t p turns (suc m) (record { phase = called; cur = here i; doc = doc i }) (Report (doc i) (score i))
+    due-turn i h above {p} {m} few Q =
+        at-report (W .turn) (W .ended) t (subst (Passes p m) (on-place i h) Q) few refl (rw above)
+        (on-true (record { phase = called; cur = here i; doc = doc i }) (passed 128 f32 l (here i) (doc i)) above)

@@ -1,143 +1,162 @@
--- The hunt: each turn of its loop is the route's, and so is the way into the block that it finds.
+-- The hunt: each turn of it is the route's, and so is the way into the block that it finds.
 use mathlib.Core.Path.{_≡_, refl, sym, ap, _∙_, subst}
-use mathlib.Core.Bool.{Bool, true, false, cond, true≢false}
-use mathlib.Core.List.{List}
-use Prim.Native.Nat.{ℕ, suc, _+_, _≤_, _<_}
-use native.Mathlib.Numerals.{add-one}
+use mathlib.Core.Bool.{true, false, cond, false≢true, true≢false}
+use mathlib.Core.List.{List, []}
+use Prim.Native.Nat.{ℕ, _≤_, _<_}
 use native.Mathlib.Omega.{arith}
 use lib.Dec.{eqb}
+use lib.ListN.{getD, length, length-set, set}
+use lib.Seq.{getD-set-same}
 use lib.Ieee.{Float, lt}
 use borrow.Author.Tests.{eq-eqb, ne-eqb}
 use Rattle.route.specs.F32.{f32}
-use Rattle.route.specs.Postings.{Postings, TERMINATED, lastDoc}
-use Rattle.route.specs.Cursor.{Cursor, seekBlockIn, seekIn, blockMax}
-use Rattle.route.specs.Route.{Turn, quiet}
-use Rattle.route.specs.Single.{Phase, hunt, walk, over, SinglePlace, landed, huntTurn}
-use Rattle.route.specs.Inner.Lists.{ListOk}
+use Rattle.route.specs.Postings.{Postings, TERMINATED}
+use Rattle.route.specs.Cursor.{Cursor, blockMax, docHere, seekIn}
+use Rattle.route.specs.Single as route
 use Rattle.route.specs.Inner.Singles.{SingleKept, singleCost}
-use Rattle.route.proofs.Places.{last-cap}
 use Rattle.route.proofs.Ending.{Nears}
+use Rattle.route.proofs.Places.{last-cap}
 use Rattle.route.proofs.Single.Ends.{single-nears}
 use Rattle.bm25.specs.declared.Scoring.{Scoring}
 use Rattle.notefile.specs.Header.{documents}
 use Rattle.notefile.specs.declared.part.Part.{Part}
-use Rattle.reports.specs.Inner.Runs.{goes}
-use Rattle.reports.proofs.RunLaws.{quietly-near}
 use Rattle.decoded.specs.Lists.{listOf}
-use Rattle.decoded.proofs.AcceptedLists.{list-ok}
-use Rattle.postings.specs.Inner.Decoded.{ListIn}
-use Rattle.postings.specs.Inner.Reader.{Stands}
-use Rattle.postings.specs.Inner.Places.{cursorOf, Placed, Moved, Shallow, Here}
-use Rattle.postings.specs.declared.cursor.SegmentPostings.{SegmentPostings}
-use Rattle.postings.proofs.Moves.{end-here}
-use Rattle.block_wand_single.specs.Inner.Scans.{placeOf, singleRoute, QuietTurns, Scores, Hunted, Approached}
-use Rattle.block_wand_single.specs.declared.hunt.Scan.{Scan}
+use Rattle.postings.specs.Inner.Decoded.{doc-is, docIn}
+use Rattle.postings.proofs.BlockBounds.{score-at}
+use Rattle.slot_rows.specs.Inner.Rows.{cursorIn, postingsIn, PlaceIn}
+use Rattle.slot_rows.proofs.Rows.{cur-inside, doc-in-array}
+use Rattle.term_scorer.specs.Inner.Slots.{Held, cursorAt, held, listAt, partAt, MovedSlot}
+use Rattle.term_scorer.specs.Inner.Weights.{Bounded}
+use Rattle.term_scorer.specs.declared.score.Similarity.{Similarity}
+use Rattle.block_wand_single.specs.Inner.Places.{onWalk, phaseOf, placeOf, singleRoute, skipped, MovedTo, Skips}
+use Rattle.block_wand_single.specs.Inner.Stands.{BlockScores, Entered, Hunted, Ready, Scores, Stands}
+use Rattle.block_wand_single.specs.declared.Phase.{Phase}
+use Rattle.block_wand_single.specs.declared.Phase.the-variants.{Hunt, Over, Walk}
+use Rattle.block_wand_single.specs.declared.Single.{Single}
+use Rattle.block_wand_single.proofs.Scorers.{bounded-cursor, moved-to, ready-bounded, ready-moved, ready-scored, right, standing-in}
 
--- a turn of the hunt by what its tests show
-module _ (l : Postings Float) (t : Float) (c : Cursor) (d : ℕ) where
-  hunt-lands : lt t (blockMax 128 f32 l c) ≡ true → huntTurn 128 f32 l t c d ≡ quiet (landed 128 f32 l (seekIn l 128 d c))
-  hunt-lands a = rw a
+-- the scores of decoded documents and frequencies are the route's
+block-scores : {file : List ℕ} {x : Part} (scoring : Scoring) {row docs freqs values : List _} → PlaceIn file x row docs freqs → Scores file x scoring docs freqs values
+    → BlockScores (listOf scoring file x) (cursorIn row .dec) values
+unfolding listOf cursorIn postingsIn
+block-scores scoring P S = record { at = λ i h l. S .at i h ∙ score-at scoring (P .placed .holds) i h l }
 
-  module _ (low : lt t (blockMax 128 f32 l c) ≡ false) {e : ℕ} (last : lastDoc l 128 (c .blk) ≡ e) where
-    hunt-over : e ≡ TERMINATED → huntTurn 128 f32 l t c d ≡ quiet (record { phase = over; cur = c; doc = d })
-    hunt-over h = rw (low, last, eq-eqb e TERMINATED h)
+module _ {file : List ℕ} {similarity : Similarity} {lists : List (List ℕ)} {caches : List (List Float)} where
+  -- ---- the way into a block
 
-    hunt-past : (e ≡ TERMINATED → ⊥) → huntTurn 128 f32 l t c d ≡ quiet (record { phase = hunt; cur = seekBlockIn l 128 (suc e) c; doc = suc e })
-    hunt-past h = rw (low, last, ne-eqb e TERMINATED h)
+  module _ (x : Single) {h : Held} {floats : List (List Float)} (R : Ready file similarity lists caches (x .slot) h floats) where
+    abbrev q : ℕ
+    q = x .slot
 
--- the blocks passed so far took quiet turns
-pub record Hunting (file : List ℕ) (x : Part) (scoring : Scoring) (t : Float) (from : SegmentPostings) (from-doc : ℕ) (docs freqs : List ℕ) (p : SegmentPostings) (doc : ℕ) : Type 0 where
-  pub quietly : QuietTurns scoring file x t (placeOf hunt from from-doc) (placeOf hunt p doc)
-  pub placed : Placed file x p docs freqs
+    abbrev row : List ℕ
+    row = getD (h .places) q []
 
-module _ {file : List ℕ} {x : Part} (L : ListIn file x) (scoring : Scoring) where
-  abbrev list : Postings Float
-  list = listOf scoring file x
+    -- what `slot::doc` and `slot::seek` ask
+    pub cur-small : getD row 6 0 < 128
+    cur-small = cur-inside file (getD lists q []) row (R .slot .list) (R .slot .place)
 
-  pub ok : ListOk 128 (documents file) list
-  ok = list-ok scoring file x (L .right) (L .few)
+    pub doc-there : {doc : ℕ} → doc ≡ getD (getD (h .docs) q []) (getD row 6 0) 0 → doc ≡ docIn file (partAt lists q) (cursorAt (h .places) q .at)
+    doc-there e = e ∙ sym (doc-in-array file (getD lists q []) row (R .slot .list) (R .slot .place))
 
-  -- what the route keeps on its way, and how near it is to its end
-  pub near : (ord : ℕ) → Nears (singleRoute scoring file x ord) (λ p. SingleKept 128 list (p .phase) (p .cur) (p .doc)) (λ p. singleCost 128 list (p .phase) (p .cur))
-  near ord = single-nears 128 (documents file) f32 list ok ord
+    module _ {h′ : Held} {doc : ℕ} (M : MovedSlot file lists q (λ s. seekIn (listAt s file lists q) 128 (x .doc) (cursorAt (h .places) q)) h h′ doc) where
+      abbrev To : Scoring → Cursor
+      To s = seekIn (listAt s file lists q) 128 (x .doc) (cursorAt (h .places) q)
 
-  -- no block ends above TERMINATED
-  pub last-small : (p : SegmentPostings) → Stands file x (p .«skip_reader») → p .«skip_reader» .«last_doc_in_block» ≤ 2147483647
-  last-small p S = subst (λ (z : ℕ). z ≤ 2147483647) (end-here file x L p S scoring) (last-cap 128 (documents file) list ok (p .«skip_reader» .block))
+      doc-lands : (s : Scoring) → doc ≡ docHere (listAt s file lists q) (To s)
+      doc-lands s = M .moved .doc-is ∙ ap (λ (z : Cursor). docIn file (partAt lists q) (z .at)) (M .moved .cursor-is s) ∙ sym (doc-is file (partAt lists q) s (To s .at))
 
-  module _ {t : Float} {from : SegmentPostings} {from-doc : ℕ} {docs freqs : List ℕ} where
-    module _ {p : SegmentPostings} {doc : ℕ} (H : Hunting file x scoring t from from-doc docs freqs p doc) {bound : Float} (b : bound ≡ blockMax 128 f32 list (cursorOf p)) where
-      abbrev last : ℕ
-      last = p .«skip_reader» .«last_doc_in_block»
+      lands : (phase : Phase) → phaseOf phase ≡ cond (eqb doc TERMINATED) route.over route.walk
+          → MovedTo file lists q (λ s. route.landed 128 f32 (listAt s file lists q) (To s)) h h′ (record { slot = q; doc = doc; phase = phase })
+      lands phase e =
+          let s = R .slot .sixteen in
+          moved-to (R .slot)
+          (ap length (M .places-only) ∙ length-set (h .places) q _ ∙ s .0, ap length (M .docs-only) ∙ length-set (h .docs) q _ ∙ s .1, ap length (M .freqs-only) ∙ length-set (h .freqs) q _ ∙ s .2)
+          (M .moved) phase doc
+          (λ s.
+          ap (λ (z : route.Phase). record { phase = z; cur = To s; doc = doc }) e
+          ∙ ap (λ (z : ℕ). record { phase = cond (eqb z TERMINATED) route.over route.walk; cur = To s; doc = z }) (doc-lands s))
 
-      last-is : lastDoc list 128 (cursorOf p .blk) ≡ last
-      unfolding cursorOf
-      last-is = end-here file x L p (H .placed .stands) scoring
+      pub entered-over : doc ≡ 2147483647 → Entered file similarity lists caches x h (record { slot = q; doc = doc; phase = Over }) h′ floats
+      entered-over e =
+          let L = lands Over (sym (rw (eq-eqb doc TERMINATED e))) in
+          record { slot-is = refl; place-is = L .place-is (similarity .scoring); ready = ready-moved R L; scores = λ w. absurd (false≢true w) }
 
-      pub hunt-found : lt t bound ≡ true → Hunted file x scoring t from from-doc docs freqs (record { postings = p; doc = doc; over = false })
-      hunt-found a = record { quietly = H .quietly; placed = H .placed; above = λ _. ap (lt t) (sym b) ∙ a }
+      pub entered : (doc ≡ 2147483647 → ⊥) → (values : List Float)
+          → Scores file (partAt lists q) (similarity .scoring) (getD (h′ .docs) q []) (getD (h′ .freqs) q []) values
+          → Entered file similarity lists caches x h (record { slot = q; doc = doc; phase = Walk }) h′ (set floats 2 values)
+      entered e values S =
+          let L = lands Walk (sym (rw (ne-eqb doc TERMINATED e))) in
+          let t = R .rows .three in
+          record {
+            slot-is = refl;
+            place-is = L .place-is (similarity .scoring);
+            ready = ready-scored (ready-moved R L) values (S .long);
+            scores = λ _. rw (getD-set-same floats 2 values [] (omega arith)) (block-scores (similarity .scoring) (M .moved .place) S);
+          }
 
-      module _ (a : lt t bound ≡ false) where
-        low : lt t (blockMax 128 f32 list (cursorOf p)) ≡ false
-        low = ap (lt t) (sym b) ∙ a
+  -- ---- a scan that stands
 
-        pub hunt-ended : last ≡ 2147483647 → Hunted file x scoring t from from-doc docs freqs (record { postings = p; doc = doc; over = true })
-        hunt-ended h = record { quietly = goes (H .quietly) refl (hunt-over list t (cursorOf p) doc low last-is h); placed = H .placed; above = λ e. absurd (true≢false e) }
+  -- what its route keeps on its way
+  pub keeps : {x : Single} {h : Held} {floats : List (List Float)} → Stands file similarity lists caches x h floats → (ord : ℕ)
+      → Nears (singleRoute (similarity .scoring) file lists (x .slot) ord)
+      (λ p. SingleKept 128 (listAt (similarity .scoring) file lists (x .slot)) (p .phase) (p .cur) (p .doc))
+      (λ p. singleCost 128 (listAt (similarity .scoring) file lists (x .slot)) (p .phase) (p .cur))
+  keeps {x} S ord =
+      single-nears 128 (documents file) f32 (listAt (similarity .scoring) file lists (x .slot)) (right (standing-in (S .ready .slot)) (similarity .scoring)) ord
 
-        module _ (h : last ≡ 2147483647 → ⊥) {r : SegmentPostings} (S : Shallow file x (λ s. seekBlockIn (listOf s file x) 128 (last + 1) (cursorOf p)) p r) where
-          next-is : huntTurn 128 f32 list t (cursorOf p) doc ≡ quiet (placeOf hunt r (last + 1))
-          next-is = hunt-past list t (cursorOf p) doc low last-is h ∙ sym (rw (S docs freqs (H .placed) .cursor-is scoring, add-one))
+  -- a scan stands if it does in the slot that it has
+  pub stands-in : {q : ℕ} (r : Single) {h : Held} {floats : List (List Float)} → r .slot ≡ q → Ready file similarity lists caches q h floats
+      → (onWalk (r .phase) ≡ true → BlockScores (listAt (similarity .scoring) file lists q) (cursorAt (h .places) q .dec) (getD floats 2 []))
+      → SingleKept 128 (listAt (similarity .scoring) file lists q) (phaseOf (r .phase)) (cursorAt (h .places) (r .slot)) (r .doc)
+      → Stands file similarity lists caches r h floats
+  stands-in r {h} {floats} e =
+      subst (λ (q : ℕ). Ready file similarity lists caches q h floats
+      → (onWalk (r .phase) ≡ true → BlockScores (listAt (similarity .scoring) file lists q) (cursorAt (h .places) q .dec) (getD floats 2 []))
+      → SingleKept 128 (listAt (similarity .scoring) file lists q) (phaseOf (r .phase)) (cursorAt (h .places) (r .slot)) (r .doc)
+      → Stands file similarity lists caches r h floats) e
+      (λ a b c. record { ready = a; scores = b; kept = c })
 
-          pub hunt-on : Hunting file x scoring t from from-doc docs freqs r (last + 1)
-          hunt-on = record { quietly = goes (H .quietly) refl next-is; placed = S docs freqs (H .placed) .placed }
+  -- ---- a turn of the hunt
 
-          pub hunt-nearer : SingleKept 128 list hunt (cursorOf from) from-doc → singleCost 128 list hunt (cursorOf r) < singleCost 128 list hunt (cursorOf p)
-          hunt-nearer k =
-              subst (λ (z : Turn SinglePlace Float). singleCost 128 list (z .next .phase) (z .next .cur) < singleCost 128 list hunt (cursorOf p)) next-is
-              (near 0 .nears t (placeOf hunt p doc) refl (quietly-near (singleRoute scoring file x 0) (near 0) k (H .quietly) .0) .1)
+  module _ (t : Float) {x : Single} {h : Held} {floats : List (List Float)} (S : Stands file similarity lists caches x h floats) (e : x .phase ≡ Hunt) where
+    abbrev l : Postings Float
+    l = listAt (similarity .scoring) file lists (x .slot)
 
-  -- ---- the way into the block
+    abbrev c : Cursor
+    c = cursorAt (h .places) (x .slot)
 
-  module _ {t : Float} {from : SegmentPostings} {from-doc : ℕ} {docs freqs : List ℕ} {found : Scan} (H : Hunted file x scoring t from from-doc docs freqs found) where
-    pub approach-over : found .over ≡ true → (values : List Float) → Approached file x scoring t from from-doc found docs freqs values
-    approach-over e values = record {
-      quietly = subst (λ (b : Bool). QuietTurns scoring file x t (placeOf hunt from from-doc) (placeOf (cond b over walk) (found .postings) (found .doc))) (sym e)
-          (subst (λ (b : Bool). QuietTurns scoring file x t (placeOf hunt from from-doc) (placeOf (cond b over hunt) (found .postings) (found .doc))) e (H .quietly));
-      placed = H .placed;
-      scores = λ f. absurd (true≢false (sym e ∙ f));
-    }
+    hunting : SingleKept 128 l route.hunt c (x .doc)
+    hunting = subst (λ (ph : Phase). SingleKept 128 l (phaseOf ph) c (x .doc)) e (S .kept)
 
-    module _ (e : found .over ≡ false) where
-      there : QuietTurns scoring file x t (placeOf hunt from from-doc) (placeOf hunt (found .postings) (found .doc))
-      there = subst (λ (b : Bool). QuietTurns scoring file x t (placeOf hunt from from-doc) (placeOf (cond b over hunt) (found .postings) (found .doc))) e (H .quietly)
+    -- what `enter` asks
+    pub doc-low : x .doc ≤ 2147483647
+    unfolding SingleKept
+    doc-low =
+        let d = hunting .2 in
+        omega (arith, last-cap 128 (documents file) l (right (standing-in (S .ready .slot)) (similarity .scoring)) (c .blk))
 
-      pub target-small : SingleKept 128 list hunt (cursorOf from) from-doc → found .doc ≤ 2147483647
-      unfolding SingleKept
-      target-small k =
-          let d = quietly-near (singleRoute scoring file x 0) (near 0) k there .0 .2 in
-          omega (arith, last-cap 128 (documents file) list ok (cursorOf (found .postings) .blk))
+    abbrev turned : route.SinglePlace
+    turned = route.huntTurn 128 f32 l t c (x .doc) .next
 
-      module _ {r : SegmentPostings} {docs′ freqs′ : List ℕ} (M : Moved file x (λ s. seekIn (listOf s file x) 128 (found .doc) (cursorOf (found .postings))) r docs′ freqs′)
-          {doc : ℕ} (D : Here r docs′ doc) where
-        lands-is : (ph : Phase) → cond (eqb doc TERMINATED) over walk ≡ ph → huntTurn 128 f32 list t (cursorOf (found .postings)) (found .doc) ≡ quiet (placeOf ph r doc)
-        lands-is ph p =
-            let c = M .cursor-is scoring in
-            let d = D file x freqs′ (M .placed) scoring in
-            hunt-lands list t (cursorOf (found .postings)) (found .doc) (H .above e) ∙ ap (λ (z : Cursor). quiet (landed 128 f32 list z)) (sym c)
-            ∙ ap (λ (z : ℕ). quiet (record { phase = cond (eqb z TERMINATED) over walk; cur = cursorOf r; doc = z })) (sym d)
-            ∙ ap (λ (z : Phase). quiet (placeOf z r doc)) p
+    still : {p : route.SinglePlace} → turned ≡ p → SingleKept 128 l (p .phase) (p .cur) (p .doc)
+    still n = subst (λ (p : route.SinglePlace). SingleKept 128 l (p .phase) (p .cur) (p .doc)) n (keeps S 0 .nears t (record { phase = route.hunt; cur = c; doc = x .doc }) refl hunting .0)
 
-        pub approach-ended : doc ≡ 2147483647 → (values : List Float) → Approached file x scoring t from from-doc (record { postings = r; doc = doc; over = true }) docs′ freqs′ values
-        approach-ended h values = record {
-          quietly = goes there refl (lands-is over (rw (eq-eqb doc TERMINATED h)));
-          placed = M .placed;
-          scores = λ f. absurd (true≢false f);
-        }
+    module _ {places′ : List (List ℕ)} {bounds : List Float} {b : Float} (B : Bounded (similarity .scoring) file lists (x .slot) (h .places) (getD floats 0 []) places′ bounds b) where
+      same : cursorAt places′ (x .slot) ≡ c
+      same = bounded-cursor (S .ready) B
 
-        pub approach-lands : (doc ≡ 2147483647 → ⊥) → {values : List Float} → Scores file x scoring docs′ freqs′ values
-            → Approached file x scoring t from from-doc (record { postings = r; doc = doc; over = false }) docs′ freqs′ values
-        approach-lands h S = record {
-          quietly = goes there refl (lands-is walk (rw (ne-eqb doc TERMINATED h)));
-          placed = M .placed;
-          scores = λ _. S;
-        }
+      pub hunt-enters : lt t b ≡ true → {r : Single} {h′ : Held} {floats′ : List (List Float)} → Entered file similarity lists caches x (held places′ (h .docs) (h .freqs)) r h′ floats′
+          → Hunted file similarity lists caches t x h r h′ floats′
+      hunt-enters a {r} {h′} E =
+          let above : lt t (blockMax 128 f32 l c) ≡ true = ap (lt t) (sym (B .bound-is)) ∙ a in
+          let n : turned ≡ placeOf r (h′ .places) = rw above (sym (E .place-is ∙ ap (λ (z : Cursor). route.landed 128 f32 l (seekIn l 128 (x .doc) z)) same)) in
+          record { slot-is = E .slot-is; stands = stands-in r (E .slot-is) (E .ready) (E .scores) (still n); next-is = n }
+
+      pub hunt-skips : lt t b ≡ false → {r : Single} {places″ : List (List ℕ)} → Skips file lists (x .slot) (x .doc) places′ places″ r
+          → Hunted file similarity lists caches t x h r (held places″ (h .docs) (h .freqs)) (set floats 0 bounds)
+      hunt-skips a {r} {places″} K =
+          let low : lt t (blockMax 128 f32 l c) ≡ false = ap (lt t) (sym (B .bound-is)) ∙ a in
+          let R = ready-bounded (S .ready) B in
+          let M = K .moved (h .docs) (h .freqs) (R .slot) in
+          let n : turned ≡ placeOf r places″ = rw low (sym (M .place-is (similarity .scoring) ∙ ap (λ (z : Cursor). skipped l z (x .doc)) same)) in
+          record { slot-is = M .slot-is; stands = stands-in r (M .slot-is) (ready-moved R M) (λ w. absurd (true≢false (sym w ∙ K .off))) (still n); next-is = n }

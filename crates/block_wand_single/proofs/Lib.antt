@@ -1,7 +1,7 @@
 -- Laws of the single run that belong to no one function.
-pub mod Walking
+pub mod Scorers
 pub mod Hunting
+pub mod Seeking
 pub mod BlockTurns
-pub mod Scanning
-pub mod OneBlock
-pub mod Running
+pub mod Walking
+pub mod Going

@@ -1,137 +1,283 @@
--- The two loops of a walk: over scores to the first above the threshold, and over reports.
+-- The walk over the block in a slot: its decoded documents and scores are the route's, so each posting that it passes is the route's turn.
 use mathlib.Core.Path.{_≡_, refl, sym, ap, _∙_, subst}
-use mathlib.Core.Bool.{true, false}
-use mathlib.Core.List.{List, [], _∷_, _++_}
+use mathlib.Core.Bool.{true, false, false≢true}
+use mathlib.Core.List.{List, []}
 use mathlib.Core.Logic.{inl, inr}
-use Prim.Native.Nat.{ℕ, zero, suc, _+_, _-_, _≤_, _<_}
-use native.Mathlib.Nat.{add-suc, add-zero}
+use Prim.Native.Nat.{ℕ, suc, min, _+_, _*_, _-_, _≤_, _<_}
+use native.Mathlib.Numerals.{add-one}
 use native.Mathlib.Omega.{arith}
-use lib.ListN.{length, getD, length-set, length-append}
+use lib.ListN.{getD, set}
 use lib.Ieee.{Float, nan, lt}
+use borrow.Author.Tests.{lt-ltb, le-ltb}
 use Rattle.arrays.proofs.Order.{lt-or-ge}
-use Rattle.route.specs.Report.{Report}
-use Rattle.route.proofs.Cases.{lt-of-ne}
-use Rattle.rule.specs.declared.Rule.{Rule}
-use Rattle.rule.specs.declared.Threshold.{Threshold}
-use Rattle.reports.specs.Rows.{rowsOf}
-use Rattle.reports.specs.Inner.Rows.{Kept, Reported, Begun}
-use Rattle.reports.specs.Inner.Runs.{callbackOf}
-use Rattle.reports.proofs.RowLaws.{threshold-is, one-more, documents-long as same-documents, scores-long as same-scores}
-use Rattle.block_wand_single.specs.Inner.Walks.{FirstAbove, offered, Walks}
+use Rattle.route.specs.Postings.{Postings, TERMINATED, start, docAt}
+use Rattle.route.specs.Cursor.{Cursor}
+use Rattle.route.specs.Route.{Route}
+use Rattle.route.specs.Single as route
+use Rattle.route.specs.Inner.Lists.{ListOk}
+use Rattle.route.specs.Inner.Singles.{SingleKept}
+use Rattle.route.proofs.Cases.{on-test}
+use Rattle.route.proofs.Cursor.{on-block}
+use Rattle.route.proofs.Places.{docAt-lt, start-le}
+use Rattle.notefile.specs.Header.{documents}
+use Rattle.reports.specs.Inner.Turns.{Went}
+use Rattle.reports.specs.declared.Event.the-variants.{Over, Paused, Report}
+use Rattle.reports.proofs.TurnLaws.{Quietly, at-end, at-pause, none-yet}
+use Rattle.reports.proofs.RunLaws.{went-near}
+use Rattle.decoded.specs.Lists.{listOf}
+use Rattle.postings.specs.Inner.Decoded.{doc-is}
+use Rattle.slot_rows.specs.Inner.Rows.{cursorIn, partIn, postingsIn}
+use Rattle.term_scorer.specs.Inner.Slots.{Held, cursorAt, held, listAt, partAt}
+use Rattle.term_scorer.specs.declared.score.Similarity.{Similarity}
+use Rattle.block_wand_single.specs.Inner.Places.{inBlock, onPlace, onWalk, phaseOf, placeOf, singleRoute, skipped, startOf, MovedTo, ToPlace}
+use Rattle.block_wand_single.specs.Inner.Stands.{Stands, Steps}
+use Rattle.block_wand_single.specs.Inner.Walks.{FirstAbove, Tables}
+use Rattle.block_wand_single.specs.declared.Phase.{Phase}
+use Rattle.block_wand_single.specs.declared.Phase.the-variants.{Called, Hunt, Over as Done, Walk}
+use Rattle.block_wand_single.specs.declared.Single.{Single}
+use Rattle.block_wand_single.proofs.Scorers.{put-cursor, put-to, ready-moved, right, standing-in}
+use Rattle.block_wand_single.proofs.Hunting.{cur-small, keeps, stands-in}
+use Rattle.block_wand_single.proofs.BlockTurns.{Passes, called-turn, doc, due-turn, here, inside, on-place, placeIn, stretch}
 
--- ---- the first score above
+-- behind a report the route keeps what it keeps on a walk
+on-a-walk : (l : Postings Float) (phase : Phase) (c : Cursor) (d : ℕ) → onWalk phase ≡ true → SingleKept 128 l (phaseOf phase) c d → SingleKept 128 l route.walk c d
+unfolding SingleKept
+on-a-walk l Hunt c d w k = absurd (false≢true w)
+on-a-walk l Walk c d w k = k
+on-a-walk l Called c d w k = k
+on-a-walk l Done c d w k = absurd (false≢true w)
 
-module _ (values : List Float) (from n : ℕ) (t : Float) where
-  -- none is above before place i
-  pub record Seeking (i : ℕ) : Type 0 where
-    pub low : from ≤ i
-    pub high : i ≤ n
-    pub quiet : (k : ℕ) → from ≤ k → k < i → lt t (getD values k nan) ≡ false
+module _ {file : List ℕ} {similarity : Similarity} {lists : List (List ℕ)} {caches : List (List Float)} where
+  -- what the route keeps is kept by turns without a report
+  pub kept-on : {x : Single} {h : Held} {floats : List (List Float)} → Stands file similarity lists caches x h floats → (t : Float) {m : ℕ} {p : route.SinglePlace}
+      → Quietly (singleRoute (similarity .scoring) file lists (x .slot) 0 .turn) (singleRoute (similarity .scoring) file lists (x .slot) 0 .ended) t (placeOf x (h .places)) m p
+      → SingleKept 128 (listAt (similarity .scoring) file lists (x .slot)) (p .phase) (p .cur) (p .doc)
+  kept-on {x} {h} S t {m} {p} Q =
+      let W = singleRoute (similarity .scoring) file lists (x .slot) 0 in
+      on-test (W .ended p)
+      (λ e. went-near W (keeps S 0) t (placeOf x (h .places)) Over (S .kept) (at-end (W .turn) (W .ended) t Q {turns = m} (omega arith) e) .0)
+      (λ e. went-near W (keeps S 0) t (placeOf x (h .places)) Paused (S .kept) (at-pause (W .turn) (W .ended) t Q e) .0)
 
-  pub seeking-begun : from ≤ n → Seeking from
-  seeking-begun h = record { low = omega arith; high = h; quiet = λ k l m. absurd (omega arith) }
+  module _ {x : Single} {places docs freqs : List (List ℕ)} {floats : List (List Float)} {values : List Float} (T : Tables file lists x places docs values similarity caches freqs floats) where
+    abbrev q : ℕ
+    q = x .slot
 
-  module _ {i : ℕ} (S : Seeking i) where
-    pub seeking-on : i < n → lt t (getD values i nan) ≡ false → Seeking (i + 1)
-    seeking-on h e = record { low = omega (arith, S .low); high = omega arith; quiet = more }
-      where
-        more : (k : ℕ) → from ≤ k → k < i + 1 → lt t (getD values k nan) ≡ false
-        more k l m = elim (lt-or-ge k i) [
-          | inl g ↦ S .quiet k l g
-          | inr g ↦ let z : k ≡ i = omega arith in rw z e
-        ]
+    abbrev l : Postings Float
+    l = listAt (similarity .scoring) file lists q
 
-    pub first-found : lt t (getD values i nan) ≡ true → FirstAbove values from n t i
-    first-found e = record { low = S .low; high = S .high; quiet = S .quiet; due = λ h. e }
+    abbrev c : Cursor
+    c = cursorAt places q
 
-    pub none-found : n ≤ i → FirstAbove values from n t n
-    none-found h = record { low = omega (arith, S .low, S .high); high = omega arith; quiet = λ k l m. S .quiet k l (omega arith); due = λ g. absurd (omega arith) }
+    abbrev row : List ℕ
+    row = getD places q []
 
--- ---- reports
+    abbrev cur : ℕ
+    cur = getD row 6 0
 
--- a posting that is not above the threshold leaves no report, and one that is leaves its own
-module _ (rule : Rule) (script : List Float) (docs : List ℕ) (values : List Float) (from : ℕ) (rs : List (Report Float)) where
-  abbrev so-far : ℕ → List (Report Float)
-  so-far m = offered (callbackOf rule script) docs values from m rs
+    ok : ListOk 128 (documents file) l
+    ok = right (standing-in (T .stands .ready .slot)) (similarity .scoring)
 
-  quiet-offers : (t : Float) (taken : ℕ) → t ≡ callbackOf rule script .threshold (so-far taken) → (m : ℕ)
-      → ((k : ℕ) → from + taken ≤ k → k < from + taken + m → lt t (getD values k nan) ≡ false) → so-far (taken + m) ≡ so-far taken
-  quiet-offers t taken e zero h = ap so-far (add-zero taken)
-  quiet-offers t taken e (suc m) h =
-      let q = h (from + (taken + m)) (omega arith) (omega arith) in
-      ap so-far (add-suc taken m) ∙ rw (quiet-offers t taken e m (λ k l g. h k l (omega arith)), sym e, q)
+    kept : SingleKept 128 l route.walk c (x .doc)
+    kept = on-a-walk l (x .phase) c (x .doc) (T .walking) (T .stands .kept)
 
-  due-offers : (t : Float) (taken : ℕ) → t ≡ callbackOf rule script .threshold (so-far taken) → (i : ℕ) → i ≡ from + taken → lt t (getD values i nan) ≡ true
-      → callbackOf rule script .call (getD docs i 0) (getD values i nan) (so-far taken) ≡ so-far (suc taken)
-  due-offers t taken e i ie h = sym (rw (sym ie, sym e, h))
+    -- the block that is walked is the skip reader's
+    on : c .dec ≡ c .blk
+    unfolding SingleKept
+    on = let d = kept .2 in on-block 128 (documents file) l ok c (x .doc) (kept .0) (kept .1) (omega (arith, kept .3)) (omega arith)
 
-module _ (rule : Rule) (script : List Float) (t : Threshold) (from n : ℕ) (docs : List ℕ) (values : List Float) (documents : List ℕ) (scores : List Float) where
-  -- the postings before place i were offered
-  pub record Reporting (i : ℕ) (h : Threshold) (documents′ : List ℕ) (scores′ : List Float) : Type 0 where
-    pub taken : ℕ
-    pub place-is : i ≡ from + taken
-    pub within : i ≤ n
-    pub documents-long : length documents′ ≡ length documents
-    pub scores-long : length scores′ ≡ length scores
-    pub begun : Begun rule script h documents scores
-    pub kept : (rs : List (Report Float)) (documents₀ : List ℕ) (scores₀ : List Float) → Kept rule script rs documents₀ scores₀ t documents scores
-        → Kept rule script (so-far rule script docs values from rs taken) documents₀ scores₀ h documents′ scores′
+    within : c .blk ≤ l .full
+    unfolding SingleKept
+    within = kept .0 .in-list
 
-  pub reporting-begun : from ≤ n → Begun rule script t documents scores → Reporting from t documents scores
-  reporting-begun h b = record { taken = 0; place-is = sym (add-zero from); within = h; documents-long = refl; scores-long = refl; begun = b; kept = λ rs d s k. k }
+    pub cur-inside : cur < 128
+    cur-inside = cur-small x (T .stands .ready)
 
-  module _ {i : ℕ} {h : Threshold} {documents′ : List ℕ} {scores′ : List Float} (R : Reporting i h documents′ scores′) where
-    -- on to the first posting above the threshold
-    pub reporting-reaches : {place : ℕ} → FirstAbove values i n (h .now) place → Reporting place h documents′ scores′
-    reporting-reaches {place} F =
-        let e = R .place-is in
-        let low = F .low in
-        let m : place ≡ from + (R .taken + (place - i)) = omega arith in
-        record {
-          taken = R .taken + (place - i);
-          place-is = m;
-          within = F .high;
-          documents-long = R .documents-long;
-          scores-long = R .scores-long;
-          begun = R .begun;
-          kept = λ rs d s k.
-              let K = R .kept rs d s k in
-              rw (quiet-offers rule script docs values from rs (h .now) (R .taken) (threshold-is K) (place - i) (λ j l g. F .quiet j (omega arith) (omega arith))) K;
-        }
+    -- the block starts inside the list
+    pub starts : getD row 0 0 * 128 ≤ getD (getD lists q []) 2 0
+    unfolding start cursorIn partIn listOf
+    starts = omega (arith, start-le 128 (c .blk) (l .full) within, ok .blocks)
 
-    -- a row is left
-    pub has-row : (h .reports ≡ rowsOf documents scores → ⊥) → (h .reports < length documents′) × (h .reports < length scores′)
-    has-row e =
-        let l = lt-of-ne (R .begun .fits) e in
-        (omega (arith, R .documents-long), omega (arith, R .scores-long))
+    module _ {n : ℕ} (en : n ≡ min (getD (getD lists q []) 2 0 - getD row 0 0 * 128) 128) where
+      pub short : n ≤ 128
+      short = omega arith
 
-    -- and its report
-    pub reporting-reports : i < n → (h .reports ≡ rowsOf documents scores → ⊥) → lt (h .now) (getD values i nan) ≡ true → {r : Threshold} {documents″ : List ℕ} {scores″ : List Float}
-        → Reported rule script h (getD docs i 0) (getD values i nan) documents′ scores′ r documents″ scores″ → Reporting (i + 1) r documents″ scores″
-    reporting-reports l room due {r} {documents″} {scores″} P =
-        let e = R .place-is in
-        let B = R .begun in
-        let f = P .follows (B .before) (B .follows) in
-        let b = B .fits in
-        let less : h .reports < rowsOf documents scores = lt-of-ne b room in
-        record {
-          taken = suc (R .taken);
-          place-is = omega arith;
-          within = omega arith;
-          documents-long = ap length (P .documents-are) ∙ length-set documents′ (h .reports) _ ∙ R .documents-long;
-          scores-long = ap length (P .scores-are) ∙ length-set scores′ (h .reports) _ ∙ R .scores-long;
-          begun = record { before = B .before ++ (getD values i nan ∷ []); follows = f; fits = omega (arith, f .reports-is, B .follows .reports-is, length-append (B .before) (getD values i nan ∷ [])) };
-          kept = λ rs d s k.
-              let K = R .kept rs d s k in
-              subst (λ (z : List (Report Float)). Kept rule script z d s r documents″ scores″)
-              (due-offers rule script docs values from rs (h .now) (R .taken) (threshold-is K) i e due)
-              (one-more K (omega (arith, same-documents (k .written), same-scores (k .written))) P);
-        }
+      size : n ≡ min (l .len - start 128 (c .blk)) 128
+      unfolding start cursorIn partIn listOf
+      size = en
 
-    -- at the block's end, or where a report has no row
-    pub walk-ends : i ≡ n → Walks rule script t from n docs values documents scores (record { threshold = h; place = i; full = false }) documents′ scores′
-    walk-ends e = record { taken = R .taken; place-is = R .place-is; within = R .within; kept = R .kept; stopped = e }
+      -- the route's place for place i of the block, and behind it
+      abbrev place : ℕ → route.SinglePlace
+      place i = placeIn l ok (c .blk) within (c .loaded) n size i
 
-    pub walk-full : (i ≡ n → ⊥) → lt (h .now) (getD values i nan) ≡ true → h .reports ≡ rowsOf documents scores
-        → Walks rule script t from n docs values documents scores (record { threshold = h; place = i; full = true }) documents′ scores′
-    walk-full e due full = record { taken = R .taken; place-is = R .place-is; within = R .within; kept = R .kept; stopped = (lt-of-ne (R .within) e, due, full) }
+      at-here : (i : ℕ) → here l ok (c .blk) within (c .loaded) n size i ≡ onPlace c i
+      at-here i = sym (rw on)
+
+      doc-at : (i : ℕ) → i < 128 → docAt l (start 128 (c .blk) + i) ≡ getD (getD docs q []) i 0
+      unfolding cursorIn postingsIn
+      doc-at i h =
+          ap (λ (z : ℕ). docAt l (start 128 z + i)) (sym on) ∙ doc-is file (partAt lists q) (similarity .scoring) (start 128 (c .dec) + i)
+          ∙ sym (T .stands .ready .slot .place .placed .holds .docs-are .at i h)
+
+      value-at : (i : ℕ) → i < n → l .score (start 128 (c .blk) + i) ≡ getD values i nan
+      value-at i h =
+          let m = inside l ok (c .blk) within (c .loaded) n size i h in
+          let j : start 128 (c .dec) + i < l .len = rw on m in
+          ap (λ (z : ℕ). l .score (start 128 z + i)) (sym on) ∙ sym (T .stands .scores (T .walking) .at i (omega arith) j) ∙ ap (λ (z : List Float). getD z i nan) (T .row-is)
+
+      in-block : (i : ℕ) → inBlock l c (getD docs q []) n i ≡ place i
+      in-block i = elim (lt-or-ge i n) [
+        | inl h ↦
+            rw (lt-ltb i n h) (ap (λ (z : Cursor). record { phase = route.walk; cur = z; doc = getD (getD docs q []) i 0 }) (sym (at-here i))
+            ∙ ap (λ (z : ℕ). record { phase = route.walk; cur = here l ok (c .blk) within (c .loaded) n size i; doc = z }) (sym (doc-at i (omega arith))))
+        | inr h ↦ rw (le-ltb i n h) (ap (λ (z : Cursor). skipped l z TERMINATED) (sym (at-here (min n 127))))
+      ]
+
+      -- the scan stands on a posting of the block
+      pub cur-in : cur < n
+      unfolding SingleKept cursorIn
+      cur-in =
+          let d = kept .2 in
+          let m = docAt-lt 128 (documents file) l ok (c .at) (omega (arith, kept .3)) in
+          let i = cur-inside in
+          omega (arith, size, ap (start 128) on)
+
+      cursor-is : c ≡ here l ok (c .blk) within (c .loaded) n size cur
+      unfolding cursorIn
+      cursor-is = sym (at-here cur)
+
+      doc-now : x .doc ≡ doc l ok (c .blk) within (c .loaded) n size cur
+      unfolding SingleKept
+      doc-now = kept .2 ∙ ap (λ (z : Cursor). docAt l (z .at)) cursor-is
+
+      -- on place i of the block, in a phase
+      abbrev on-posting : route.Phase → ℕ → route.SinglePlace
+      on-posting phase i = record { phase = phase; cur = here l ok (c .blk) within (c .loaded) n size i; doc = doc l ok (c .blk) within (c .loaded) n size i }
+
+      here-now : (phase : route.Phase) → record { phase = phase; cur = c; doc = x .doc } ≡ on-posting phase cur
+      here-now phase = ap (λ (z : ℕ). record { phase = phase; cur = c; doc = z }) doc-now
+          ∙ ap (λ (z : Cursor). record { phase = phase; cur = z; doc = doc l ok (c .blk) within (c .loaded) n size cur }) cursor-is
+
+      module _ (t : Float) where
+        module _ (ord : ℕ) where
+          abbrev W : Route Float
+          W = singleRoute (similarity .scoring) file lists q ord
+
+          abbrev Goes : route.SinglePlace → ℕ → route.SinglePlace → Type 0
+          Goes = Passes l ok (c .blk) within (c .loaded) n size ord t
+
+          -- up to the first posting that is asked
+          begins : (phase : Phase) → onWalk phase ≡ true → (from : ℕ) → from ≡ startOf phase cur → Goes (on-posting (phaseOf phase) cur) (from - cur) (place from)
+          begins Hunt w from e = absurd (false≢true w)
+          begins Walk w from e =
+              let z : from - cur ≡ 0 = omega arith in
+              rw z (subst (Goes (on-posting route.walk cur) 0) (sym (on-place l ok (c .blk) within (c .loaded) n size cur cur-in) ∙ ap place (sym e)) (none-yet (W .turn) (W .ended) t _))
+          begins Called w from e =
+              let z : from - cur ≡ 1 = omega arith in
+              let f : suc cur ≡ from = omega arith in
+              rw z (subst (λ (m : ℕ). Goes (on-posting route.called cur) 1 (place m)) f (called-turn l ok (c .blk) within (c .loaded) n size ord t cur cur-in))
+          begins Done w from e = absurd (false≢true w)
+
+        start-bounds : (phase : Phase) → onWalk phase ≡ true → (cur ≤ startOf phase cur) × (startOf phase cur ≤ cur + 1)
+        start-bounds Hunt w = (omega arith, omega arith)
+        start-bounds Walk w = (omega arith, omega arith)
+        start-bounds Called w = (omega arith, omega arith)
+        start-bounds Done w = (omega arith, omega arith)
+
+        module _ {turns : ℕ} (some : 0 < turns) {end : ℕ} (ee : end ≡ min n (cur + turns)) {from : ℕ} (ef : from ≡ startOf (x .phase) cur) where
+          -- what `first_above` asks
+          pub room : (from ≤ end) × (end ≤ 128)
+          room = (omega (arith, start-bounds (x .phase) (T .walking) .1, cur-in), omega (arith, short))
+
+          module _ {i : ℕ} (F : FirstAbove values from end t i) where
+            pub low : cur ≤ i
+            low = omega (arith, start-bounds (x .phase) (T .walking) .0, F .low)
+
+            pub high : (i ≤ n) × (i - cur ≤ turns)
+            high = (omega (arith, F .high), omega (arith, F .high))
+
+            -- the postings on the way take a turn each
+            reached : (ord : ℕ) → Goes ord (placeOf x places) (i - cur) (place i)
+            reached ord =
+                let a = start-bounds (x .phase) (T .walking) .0 in
+                let b = F .low in
+                let m : from - cur + (i - from) ≡ i - cur = omega arith in
+                let e : from + (i - from) ≡ i = omega arith in
+                subst (λ (z : ℕ). Goes ord (placeOf x places) z (place i)) m
+                (subst (λ (z : ℕ). Goes ord (placeOf x places) (from - cur + (i - from)) (place z)) e
+                (stretch l ok (c .blk) within (c .loaded) n size ord t (subst (λ (p : route.SinglePlace). Goes ord p (from - cur) (place from)) (sym (here-now (phaseOf (x .phase)))) (begins ord (x .phase) (T .walking) from ef)) (i - from) (omega (arith, high .0))
+                (λ k g h. ap (lt t) (value-at k (omega (arith, high .0))) ∙ F .quiet k g (omega arith))))
+
+            -- ---- none is due
+
+            module _ (e : i ≡ end) {r : Single} {places′ : List (List ℕ)} (P : ToPlace file lists q docs n i places places′ r) where
+              moved : MovedTo file lists q (λ s. inBlock (listAt s file lists q) c (getD docs q []) n i) (held places docs freqs) (held places′ docs freqs) r
+              moved = P .moved freqs (T .stands .ready .slot)
+
+              there : placeOf r places′ ≡ place i
+              there = moved .place-is (similarity .scoring) ∙ in-block i
+
+              passes : (ord : ℕ) → Goes ord (placeOf x places) (i - cur) (placeOf r places′)
+              passes ord = subst (Goes ord (placeOf x places) (i - cur)) (sym there) (reached ord)
+
+              pub walk-on : Steps file similarity lists caches t turns x (held places docs freqs) (record { single = r; taken = i - cur; event = Paused }) (held places′ docs freqs) floats
+              walk-on = record {
+                slot-is = moved .slot-is;
+                stands = stands-in r (moved .slot-is) (ready-moved (T .stands .ready) moved)
+                    (λ w. rw (P .same-block freqs (T .stands .ready .slot) w) (T .stands .scores (T .walking))) (kept-on (T .stands) t (passes 0));
+                strode = λ ord. let Q = passes ord in (omega (arith, cur-in), high .1, Q .place-is, Q .silent);
+              }
+
+            -- ---- one is
+
+            module _ (e : i ≡ end → ⊥) {d : ℕ} (ed : d ≡ getD (getD docs q []) i 0) where
+              in-n : i < n
+              in-n = elim (lt-or-ge i end) [
+                | inl h ↦ omega arith
+                | inr h ↦ absurd (e (omega (arith, F .high)))
+              ]
+
+              before-end : i < end
+              before-end = elim (lt-or-ge i end) [
+                | inl h ↦ h
+                | inr h ↦ absurd (e (omega (arith, F .high)))
+              ]
+
+              small : i < 128
+              small = omega (arith, in-n, short)
+
+              abbrev put : Held
+              put = held (set places q (set row 6 i)) docs freqs
+
+              called-there : MovedTo file lists q (λ _. record { phase = route.called; cur = onPlace c i; doc = d }) (held places docs freqs) put (record { slot = q; doc = d; phase = Called })
+              called-there = put-to (T .stands .ready .slot) (T .stands .ready .small) i small Called d (λ _. refl)
+
+              arrived : placeOf (record { slot = q; doc = d; phase = Called }) (put .places)
+                  ≡ on-posting route.called i
+              arrived =
+                  called-there .place-is (similarity .scoring) ∙ ap (λ (z : Cursor). record { phase = route.called; cur = z; doc = d }) (sym (at-here i))
+                  ∙ ap (λ (z : ℕ). record { phase = route.called; cur = here l ok (c .blk) within (c .loaded) n size i; doc = z }) (ed ∙ sym (doc-at i small))
+
+              abbrev Told : ℕ → ℕ → Float → Type 0
+              Told ord doc score = Went (W ord .turn) (W ord .ended) t (placeOf x places) turns (suc (i - cur)) (on-posting route.called i) (Report doc score)
+
+              reports : (ord : ℕ) → Went (W ord .turn) (W ord .ended) t (placeOf x places) turns (i - cur + 1)
+                  (placeOf (record { slot = q; doc = d; phase = Called }) (put .places)) (Report d (getD values i nan))
+              reports ord =
+                  let above : lt t (l .score (start 128 (c .blk) + i)) ≡ true = ap (lt t) (value-at i in-n) ∙ F .due before-end in
+                  let few : i - cur < turns = omega (arith, before-end, low) in
+                  let w = due-turn l ok (c .blk) within (c .loaded) n size ord t i in-n above few (reached ord) in
+                  rw (add-one (i - cur), arrived)
+                  (subst (λ (z : ℕ). Told ord z (getD values i nan)) (doc-at i small ∙ sym ed)
+                  (subst (Told ord (doc l ok (c .blk) within (c .loaded) n size i)) (value-at i in-n) w))
+
+              pub walk-due : Steps file similarity lists caches t turns x (held places docs freqs)
+                  (record { single = record { slot = q; doc = d; phase = Called }; taken = i - cur + 1; event = Report d (getD values i nan) }) put floats
+              walk-due = record {
+                slot-is = refl;
+                stands = record {
+                  ready = ready-moved (T .stands .ready) called-there;
+                  scores = λ _. rw (ap (λ (z : Cursor). z .dec) (put-cursor (T .stands .ready .slot) (T .stands .ready .small) i small)) (T .stands .scores (T .walking));
+                  kept = went-near (W 0) (keeps (T .stands) 0) t (placeOf x places) (Report d (getD values i nan)) (T .stands .kept) (reports 0) .0;
+                };
+                strode = reports;
+              }

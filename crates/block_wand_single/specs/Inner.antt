@@ -1,5 +1,4 @@
 -- What the functions below the entry points keep and leave: invariants of the code, which a reader of 01 need not believe.
+pub mod Places
+pub mod Stands
 pub mod Walks
-pub mod Scans
-pub mod Blocks
-pub mod Stops

@@ -1,129 +1,163 @@
 // The hunt for a block whose bound is above the threshold, and the way into it.
-use bm25::Bm25Weight;
-use bm25::Scoring;
-use fieldnorm::FieldNormReader;
+use crate::Phase;
+use crate::Single;
 use notefile::block::TERMINATED;
-use notefile::part::Part;
-use postings::bound::block_max_score;
-use postings::cursor::SegmentPostings;
+use slot_rows::place::weight_of;
+use term_scorer::BOUNDS;
+use term_scorer::Floats;
+use term_scorer::SCORES;
+use term_scorer::score::Similarity;
+use term_scorer::score::block_max;
+use term_scorer::slot;
+ghost use mathlib.Core.Path.{_≡_};
+ghost use Prim.Native.Nat.{_≤_, _<_};
 ghost use Rattle.arrays.specs.Lent.{before, after};
-ghost use Rattle.route.specs.Single.{hunt};
-ghost use Rattle.route.specs.Inner.Singles.{SingleKept};
-ghost use Rattle.decoded.specs.Lists.{listOf};
-ghost use Rattle.postings.specs.Inner.Places.{Placed, cursorOf};
-ghost use Rattle.block_wand_single.specs.Inner.Scans.{TermIn, Scores, Hunted, Approached};
+ghost use Rattle.notefile.specs.Header.{normReader};
+ghost use Rattle.postings.specs.Inner.Decoded.{ListIn};
+ghost use Rattle.slot_rows.specs.Inner.Rows.{partIn, PartRow};
+ghost use Rattle.term_scorer.specs.Inner.Slots.{held, StandingIn};
+ghost use Rattle.term_scorer.specs.Inner.Weights.{NormsIn};
+ghost use Rattle.block_wand_single.specs.Inner.Places.{Skips};
+ghost use Rattle.block_wand_single.specs.Inner.Stands.{Ready, Scores, Stands, Entered, Hunted};
+ghost use Rattle.block_wand_single.specs.declared.Phase.the-variants.{Hunt};
 
-// A scorer and the scan's `doc`, and whether the scan is over.
-pub struct Scan {
-    pub postings: SegmentPostings,
-    pub doc: u32,
-    pub over: bool,
-}
-
-// On to a block whose bound is above the threshold. Over where the last block has none.
-fn hunt(
-    file: &[u8],
-    norms: FieldNormReader,
-    x: Part,
-    w: Bm25Weight,
-    scoring: Scoring,
-    threshold: f32,
-    from: SegmentPostings,
-    from_doc: u32,
-    docs: &[u32; 128],
-    freqs: &[u32; 128],
-) -> Scan
-    requires { ⌜ TermIn (now file) norms x w × Placed (now file) x from (now docs) (now freqs)
-        × SingleKept 128 (listOf scoring (now file) x) hunt (cursorOf from) «from_doc» ⌝ }
-    ensures { λ r. ⌜ Hunted (before file) x scoring threshold from «from_doc» (before docs) (before freqs) r ⌝ }
-{
-    let mut postings = from;
-    let mut doc = from_doc;
-    loop {
-        let bound = block_max_score(file, norms, x, w, scoring, postings, docs, freqs);
-        if bound > threshold {
-            return Scan {
-                postings,
-                doc,
-                over: false,
-            };
-        }
-        let reader = postings.skip_reader;
-        let last = reader.last_doc_in_block;
-        if last == TERMINATED {
-            return Scan {
-                postings,
-                doc,
-                over: true,
-            };
-        }
-        doc = last + 1;
-        postings = postings.seek_block(file, x, doc);
-    }
-}
-
-// The scores of a decoded block.
+// The scores of a decoded block, made at once for the walk.
 fn score_postings(
     file: &[u8],
-    norms: FieldNormReader,
-    x: Part,
-    w: Bm25Weight,
-    scoring: Scoring,
+    similarity: Similarity,
+    list: &[usize; 8],
+    cache: &[f32; 256],
     docs: &[u32; 128],
     freqs: &[u32; 128],
     values: &mut [f32; 128],
 )
-    requires { ⌜ TermIn (now file) norms x w ⌝ }
-    ensures { λ _. ⌜ Scores (before file) x scoring (before docs) (before freqs) (after values) ⌝ }
+    requires { ⌜ (similarity .norms ≡ normReader (now file)) × PartRow (now list) × ListIn (now file) (partIn (now list))
+        × NormsIn (partIn (now list)) (now cache) ⌝ }
+    ensures { λ _. ⌜ Scores (before file) (partIn (before list)) (similarity .scoring) (before docs) (before freqs) (after values) ⌝ }
 {
-    bm25_block::score_block(
-        file,
-        norms,
-        &w.cache,
-        w.weight,
-        scoring,
-        docs,
-        freqs,
-        values,
-    );
+    let norms = similarity.norms;
+    let scoring = similarity.scoring;
+    let weight = weight_of(list);
+    bm25_block::score_block(file, norms, cache, weight, scoring, docs, freqs, values);
 }
 
-// Hunts, then goes to the block's first posting from `doc` on. Its scores are made at once for the walk.
-pub fn approach(
+// To the first posting of a block from `doc` on, with the scores of its block. Over where there is none.
+fn enter(
     file: &[u8],
-    norms: FieldNormReader,
-    x: Part,
-    w: Bm25Weight,
-    scoring: Scoring,
-    t: f32,
-    p: SegmentPostings,
-    d: u32,
-    docs: &mut [u32; 128],
-    freqs: &mut [u32; 128],
-    values: &mut [f32; 128],
-) -> Scan
-    requires { ⌜ TermIn (now file) norms x w × Placed (now file) x p (now docs) (now freqs)
-        × SingleKept 128 (listOf scoring (now file) x) hunt (cursorOf p) d ⌝ }
-    ensures { λ r. ⌜ Approached (before file) x scoring t p d r (after docs) (after freqs) (after values) ⌝ }
+    similarity: Similarity,
+    single: Single,
+    lists: &[[usize; 8]; 16],
+    caches: &[[f32; 256]; 16],
+    places: &mut [[usize; 8]; 16],
+    docs: &mut [[u32; 128]; 16],
+    freqs: &mut [[u32; 128]; 16],
+    floats: &mut Floats,
+) -> Single
+    requires { let slots = held (now places) (now docs) (now freqs) in
+        ⌜ Ready (now file) similarity (now lists) (now caches) (single .slot) slots (now floats) × (single .doc ≤ 2147483647) ⌝ }
+    ensures { λ r.
+        let old = held (before places) (before docs) (before freqs) in
+        let new = held (after places) (after docs) (after freqs) in
+        ⌜ Entered (before file) similarity (before lists) (before caches) single old r new (after floats) ⌝ }
 {
-    let found = hunt(file, norms, x, w, scoring, t, p, d, docs, freqs);
-    if found.over {
-        return found;
-    }
-    let there = found.postings;
-    let postings = there.seek(file, x, found.doc, docs, freqs);
-    let doc = postings.doc(docs);
+    let q = single.slot;
+    let here = slot::doc(q, places, docs);
+    let doc = slot::seek(file, lists, q, here, single.doc, places, docs, freqs);
     if doc == TERMINATED {
-        return Scan {
-            postings,
+        return Single {
+            slot: q,
             doc,
-            over: true,
+            phase: Phase::Over,
         };
     }
-    score_postings(file, norms, x, w, scoring, docs, freqs, values);
-    Scan {
-        postings,
+    score_postings(
+        file,
+        similarity,
+        &lists[q],
+        &caches[q],
+        &docs[q],
+        &freqs[q],
+        &mut floats[SCORES],
+    );
+    Single {
+        slot: q,
         doc,
-        over: false,
+        phase: Phase::Walk,
     }
+}
+
+// Past the block on which the skip reader stands. Over where it is the last, at document `end`.
+pub fn skip(
+    file: &[u8],
+    lists: &[[usize; 8]; 16],
+    q: usize,
+    end: u32,
+    places: &mut [[usize; 8]; 16],
+) -> Single
+    requires { ⌜ (q < 16) × StandingIn (now file) (now lists) (now places) q ⌝ }
+    ensures { λ r. ⌜ Skips (before file) (before lists) q end (before places) (after places) r ⌝ }
+{
+    let last = slot::last_doc_in_block(q, places);
+    if last == TERMINATED {
+        return Single {
+            slot: q,
+            doc: end,
+            phase: Phase::Over,
+        };
+    }
+    let doc = last + 1;
+    slot::seek_block(file, lists, q, doc, places);
+    Single {
+        slot: q,
+        doc,
+        phase: Phase::Hunt,
+    }
+}
+
+// One turn of the hunt: into the block if its bound is above the threshold, else past it.
+pub fn hunt(
+    file: &[u8],
+    similarity: Similarity,
+    single: Single,
+    lists: &[[usize; 8]; 16],
+    caches: &[[f32; 256]; 16],
+    threshold: f32,
+    places: &mut [[usize; 8]; 16],
+    docs: &mut [[u32; 128]; 16],
+    freqs: &mut [[u32; 128]; 16],
+    floats: &mut Floats,
+) -> Single
+    requires { let slots = held (now places) (now docs) (now freqs) in
+        ⌜ Stands (now file) similarity (now lists) (now caches) single slots (now floats) × (single .phase ≡ Hunt) ⌝ }
+    ensures { λ r.
+        let old = held (before places) (before docs) (before freqs) in
+        let new = held (after places) (after docs) (after freqs) in
+        ⌜ Hunted (before file) similarity (before lists) (before caches) threshold single old r new (after floats) ⌝ }
+{
+    let q = single.slot;
+    let bound = block_max(
+        file,
+        similarity,
+        lists,
+        caches,
+        q,
+        places,
+        docs,
+        freqs,
+        &mut floats[BOUNDS],
+    );
+    if bound > threshold {
+        return enter(
+            file,
+            similarity,
+            single,
+            lists,
+            caches,
+            places,
+            docs,
+            freqs,
+            floats,
+        );
+    }
+    skip(file, lists, q, single.doc, places)
 }

@@ -1,98 +1,171 @@
-// `block_wand_single_scorer`: block by block from the list's first posting to the end, or to a report that has no row.
-use crate::block::Scanned;
-use crate::block::scan_block;
-use bm25::Bm25Weight;
-use bm25::Scoring;
-use fieldnorm::FieldNormReader;
-use notefile::part::Part;
-use postings::cursor::SegmentPostings;
-use rule::Rule;
-use rule::Threshold;
+// The scan by turns: to the next report, to its end, or as far as the turns lead.
+use crate::Gone;
+use crate::Phase;
+use crate::Single;
+use crate::hunt::hunt;
+use crate::walk::walk;
+use reports::Event;
+use term_scorer::Floats;
+use term_scorer::SCORES;
+use term_scorer::score::Similarity;
 ghost use mathlib.Core.Path.{_≡_};
-ghost use Prim.Native.Nat.{ℕ};
+ghost use mathlib.Core.Bool.{false};
+ghost use Prim.Native.Nat.{_<_};
 ghost use Rattle.arrays.specs.Lent.{before, after};
-ghost use Rattle.rule.specs.Inner.Follows.{Keeps};
-ghost use Rattle.reports.specs.Inner.Runs.{Ran};
-ghost use Rattle.postings.specs.Inner.Reader.{Stands};
-ghost use Rattle.block_wand_single.specs.Inner.Scans.{TermIn, singleRoute, placeOf};
-ghost use Rattle.block_wand_single.specs.Inner.Stops.{endPhase, runOf};
+ghost use Rattle.term_scorer.specs.Inner.Slots.{held};
+ghost use Rattle.block_wand_single.specs.Inner.Stands.{Stands, Goes, Steps};
+ghost use Rattle.block_wand_single.specs.Inner.Places.{isDone, isReport, onWalk};
 
-// What a run leaves beside its rows: whether they were full when a report was due, how many are written, and where it stopped.
-pub struct SingleRun {
-    pub full: bool,
-    pub count: usize,
-    pub postings: SegmentPostings,
-    pub doc: u32,
-}
-
-// The run as it stopped.
-fn stopped(last: Scanned) -> SingleRun
-    ensures { λ r. ⌜ r ≡ runOf last ⌝ }
+// Whether a block is walked.
+fn on_walk(phase: Phase) -> bool
+    ensures { λ r. ⌜ r ≡ onWalk phase ⌝ }
 {
-    let scan = last.scan;
-    let threshold = last.threshold;
-    let postings = scan.postings;
-    SingleRun {
-        full: last.full,
-        count: threshold.reports,
-        postings,
-        doc: scan.doc,
+    match phase {
+        Phase::Walk => true,
+        Phase::Called => true,
+        Phase::Hunt => false,
+        Phase::Over => false,
     }
 }
 
-// A whole run over one list, by the route of the Rust's function of this name.
-pub fn block_wand_single_scorer(
-    file: &[u8],
-    norms: FieldNormReader,
-    x: Part,
-    w: Bm25Weight,
-    scoring: Scoring,
-    rule: Rule,
-    script: &[f32],
-    documents: &mut [u32],
-    scores: &mut [f32],
-) -> SingleRun
-    requires { ⌜ TermIn (now file) norms x w × Keeps rule ⌝ }
-    ensures { λ r.
-        let stopped = placeOf (endPhase (r .full)) (r .postings) (r .doc) in
-        ⌜ ((ord : ℕ)
-        → Ran (singleRoute scoring (before file) x ord) rule (before script) (before documents) (before scores)
-        (r .full) (r .count) (after documents) (after scores) stopped)
-        × Stands (before file) x (r .postings .«skip_reader») ⌝ }
+// Whether the scan has returned.
+fn is_over(phase: Phase) -> bool
+    ensures { λ r. ⌜ r ≡ isDone phase ⌝ }
 {
-    let mut docs = [0u32; 128];
-    let mut freqs = [0u32; 128];
-    let mut values = [0.0f32; 128];
-    let mut postings = SegmentPostings::open(file, x, &mut docs, &mut freqs);
-    let mut doc = postings.doc(&docs);
-    let mut threshold = Threshold::new(rule);
-    loop {
-        let next = scan_block(
+    match phase {
+        Phase::Over => true,
+        Phase::Hunt => false,
+        Phase::Walk => false,
+        Phase::Called => false,
+    }
+}
+
+// Whether a report is due.
+fn is_report(event: Event) -> bool
+    ensures { λ r. ⌜ r ≡ isReport event ⌝ }
+{
+    match event {
+        Event::Report(_, _) => true,
+        Event::Over => false,
+        Event::Paused => false,
+    }
+}
+
+// One turn of the hunt, or a walk over the block. Where no report is due it says Paused, also at the end.
+fn stride(
+    file: &[u8],
+    similarity: Similarity,
+    single: Single,
+    lists: &[[usize; 8]; 16],
+    caches: &[[f32; 256]; 16],
+    threshold: f32,
+    turns: usize,
+    places: &mut [[usize; 8]; 16],
+    docs: &mut [[u32; 128]; 16],
+    freqs: &mut [[u32; 128]; 16],
+    floats: &mut Floats,
+) -> Gone
+    requires { let slots = held (now places) (now docs) (now freqs) in
+        ⌜ Stands (now file) similarity (now lists) (now caches) single slots (now floats)
+        × (isDone (single .phase) ≡ false) × (0 < turns) ⌝ }
+    ensures { λ r.
+        let old = held (before places) (before docs) (before freqs) in
+        let new = held (after places) (after docs) (after freqs) in
+        ⌜ Steps (before file) similarity (before lists) (before caches) threshold turns single old r new (after floats) ⌝ }
+{
+    let phase = single.phase;
+    if on_walk(phase) {
+        return walk(
             file,
-            norms,
-            x,
-            w,
-            scoring,
-            rule,
-            script,
+            single,
+            lists,
             threshold,
-            postings,
-            doc,
-            &mut docs,
-            &mut freqs,
-            &mut values,
-            documents,
-            scores,
+            turns,
+            places,
+            docs,
+            &floats[SCORES],
         );
-        let scan = next.scan;
-        if next.full {
-            return stopped(next);
+    }
+    let single = hunt(
+        file,
+        similarity,
+        single,
+        lists,
+        caches,
+        threshold,
+        places,
+        docs,
+        freqs,
+        floats,
+    );
+    Gone {
+        single,
+        taken: 1,
+        event: Event::Paused,
+    }
+}
+
+// From where the scan stands to the next report, to its end, or through the turns that are allowed.
+pub fn go(
+    file: &[u8],
+    similarity: Similarity,
+    single: Single,
+    lists: &[[usize; 8]; 16],
+    caches: &[[f32; 256]; 16],
+    threshold: f32,
+    turns: usize,
+    places: &mut [[usize; 8]; 16],
+    docs: &mut [[u32; 128]; 16],
+    freqs: &mut [[u32; 128]; 16],
+    floats: &mut Floats,
+) -> Gone
+    requires { let slots = held (now places) (now docs) (now freqs) in
+        ⌜ Stands (now file) similarity (now lists) (now caches) single slots (now floats) ⌝ }
+    ensures { λ r.
+        let old = held (before places) (before docs) (before freqs) in
+        let new = held (after places) (after docs) (after freqs) in
+        ⌜ Goes (before file) similarity (before lists) (before caches) threshold turns single old r new (after floats) ⌝ }
+{
+    let mut single = single;
+    let mut taken = 0usize;
+    loop {
+        let phase = single.phase;
+        if is_over(phase) {
+            return Gone {
+                single,
+                taken,
+                event: Event::Over,
+            };
         }
-        if scan.over {
-            return stopped(next);
+        if taken == turns {
+            return Gone {
+                single,
+                taken,
+                event: Event::Paused,
+            };
         }
-        threshold = next.threshold;
-        postings = scan.postings;
-        doc = scan.doc;
+        let next = stride(
+            file,
+            similarity,
+            single,
+            lists,
+            caches,
+            threshold,
+            turns - taken,
+            places,
+            docs,
+            freqs,
+            floats,
+        );
+        single = next.single;
+        taken += next.taken;
+        let event = next.event;
+        if is_report(event) {
+            return Gone {
+                single,
+                taken,
+                event,
+            };
+        }
     }
 }

@@ -1,20 +1,20 @@
-// The walk of a decoded block: postings whose score is above the threshold are reported.
-use reports::report;
-use reports::rows;
-use rule::Rule;
-use rule::Threshold;
-ghost use Prim.Native.Nat.{_≤_};
+// The walk over a decoded block: up to a posting whose score is above the threshold, or out of the block.
+use crate::Gone;
+use crate::Phase;
+use crate::Single;
+use crate::hunt::skip;
+use notefile::block::TERMINATED;
+use reports::Event;
+use slot_rows::place::BLOCK;
+use slot_rows::place::COUNT;
+use slot_rows::place::CUR;
+ghost use mathlib.Core.Path.{_≡_};
+ghost use mathlib.Core.List.{List};
+ghost use Prim.Native.Nat.{ℕ, min, _+_, _*_, _-_, _≤_, _<_};
 ghost use Rattle.arrays.specs.Lent.{before, after};
-ghost use Rattle.rule.specs.Inner.Follows.{Keeps};
-ghost use Rattle.reports.specs.Inner.Rows.{Begun};
-ghost use Rattle.block_wand_single.specs.Inner.Walks.{FirstAbove, Walks};
-
-// The threshold after the walk, the place that it came to, and whether a report was due there with no row left.
-pub struct Walked {
-    pub threshold: Threshold,
-    pub place: usize,
-    pub full: bool,
-}
+ghost use Rattle.term_scorer.specs.Inner.Slots.{held, SlotIn};
+ghost use Rattle.block_wand_single.specs.Inner.Places.{startOf, ToPlace};
+ghost use Rattle.block_wand_single.specs.Inner.Walks.{FirstAbove, Walkable, Walks};
 
 // The first place whose score is above the threshold, or n where there is none.
 fn first_above(values: &[f32; 128], from: usize, n: usize, threshold: f32) -> usize
@@ -31,45 +31,121 @@ fn first_above(values: &[f32; 128], from: usize, n: usize, threshold: f32) -> us
     n
 }
 
-// Reports each posting above the threshold of the moment, up to place n or to a report that has no row.
-pub fn walk(
-    rule: Rule,
-    script: &[f32],
-    t: Threshold,
-    from: usize,
-    n: usize,
-    docs: &[u32; 128],
-    values: &[f32; 128],
-    documents: &mut [u32],
-    scores: &mut [f32],
-) -> Walked
-    requires { ⌜ Keeps rule × (from ≤ n) × (n ≤ 128) × Begun rule (now script) t (now documents) (now scores) ⌝ }
-    ensures { λ r.
-        ⌜ Walks rule (before script) t from n (before docs) (before values) (before documents) (before scores)
-        r (after documents) (after scores) ⌝ }
+// How many postings a block has.
+fn block_len(count: usize, block: usize) -> usize
+    requires { ⌜ block * 128 ≤ count ⌝ }
+    ensures { λ r. ⌜ r ≡ min (count - block * 128) 128 ⌝ }
 {
-    let room = rows(documents, scores);
-    let mut threshold = t;
-    let mut i = from;
-    loop {
-        let place = first_above(values, i, n, threshold.now);
-        if place == n {
-            return Walked {
-                threshold,
-                place,
-                full: false,
-            };
-        }
-        if threshold.reports == room {
-            return Walked {
-                threshold,
-                place,
-                full: true,
-            };
-        }
-        let doc = docs[place];
-        let score = values[place];
-        threshold = report(rule, script, threshold, doc, score, documents, scores);
-        i = place + 1;
+    let left = count - block * 128;
+    if left < 128 {
+        return left;
+    }
+    128
+}
+
+// How far the turns lead from a place: a turn for each posting, and no further than n.
+fn reach(cur: usize, n: usize, turns: usize) -> usize
+    requires { ⌜ cur ≤ n ⌝ }
+    ensures { λ r. ⌜ r ≡ min n (cur + turns) ⌝ }
+{
+    if turns < n - cur {
+        return cur + turns;
+    }
+    n
+}
+
+// The first posting that is asked: behind a report the next one.
+fn first_asked(phase: Phase, cur: usize) -> usize
+    requires { ⌜ cur < 128 ⌝ }
+    ensures { λ r. ⌜ r ≡ startOf phase cur ⌝ }
+{
+    match phase {
+        Phase::Called => cur + 1,
+        Phase::Hunt => cur,
+        Phase::Walk => cur,
+        Phase::Over => cur,
+    }
+}
+
+// Where the scorer stands behind n postings: on the last of a full block, behind those of a tail.
+fn last_place(n: usize) -> usize
+    ensures { λ r. ⌜ r ≡ min n 127 ⌝ }
+{
+    if n < 127 {
+        return n;
+    }
+    127
+}
+
+// To place i of a block of n postings, or out of it behind the last.
+fn to_place(
+    file: &[u8],
+    lists: &[[usize; 8]; 16],
+    q: usize,
+    i: usize,
+    n: usize,
+    places: &mut [[usize; 8]; 16],
+    docs: &[[u32; 128]; 16],
+) -> Single
+    requires { ⌜ (q < 16) × (n ≤ 128)
+        × ((freqs : List (List ℕ)) × SlotIn (now file) (now lists) (held (now places) (now docs) freqs) q) ⌝ }
+    ensures { λ r. ⌜ ToPlace (before file) (before lists) q (before docs) n i (before places) (after places) r ⌝ }
+{
+    if i < n {
+        places[q][CUR] = i;
+        return Single {
+            slot: q,
+            doc: docs[q][i],
+            phase: Phase::Walk,
+        };
+    }
+    places[q][CUR] = last_place(n);
+    skip(file, lists, q, TERMINATED, places)
+}
+
+// Over the block's postings, a turn for each: to the first that is due, out of the block, or as far as the turns lead.
+pub fn walk(
+    file: &[u8],
+    single: Single,
+    lists: &[[usize; 8]; 16],
+    threshold: f32,
+    turns: usize,
+    places: &mut [[usize; 8]; 16],
+    docs: &[[u32; 128]; 16],
+    values: &[f32; 128],
+) -> Gone
+    requires { ⌜ Walkable (now file) (now lists) single (now places) (now docs) (now values) × (0 < turns) ⌝ }
+    ensures { λ r.
+        ⌜ Walks (before file) (before lists) single (before places) (before docs) (before values) threshold turns r (after places) ⌝ }
+{
+    let q = single.slot;
+    let cur = places[q][CUR];
+    let n = block_len(lists[q][COUNT], places[q][BLOCK]);
+    let end = reach(cur, n, turns);
+    let phase = single.phase;
+    let from = first_asked(phase, cur);
+    let place = first_above(values, from, end, threshold);
+    let taken = place - cur;
+    if place == end {
+        let single = to_place(file, lists, q, place, n, places, docs);
+        return Gone {
+            single,
+            taken,
+            event: Event::Paused,
+        };
+    }
+    places[q][CUR] = place;
+    let reported = taken + 1;
+    let doc = docs[q][place];
+    let score = values[place];
+    let single = Single {
+        slot: q,
+        doc,
+        phase: Phase::Called,
+    };
+    Gone {
+        single,
+        taken: reported,
+        event: Event::Report(doc, score),
     }
 }

@@ -1,18 +1,16 @@
--- The walk of a decoded block: each posting is offered to the rule, up to the block's end or to a report that has no row.
+-- The walk over a decoded block.
 use mathlib.Core.Path.{_≡_}
-use mathlib.Core.Bool.{Bool, true, false}
-use mathlib.Core.List.{List}
-use Prim.Native.Nat.{ℕ, zero, suc, _+_, _≤_, _<_}
+use mathlib.Core.Bool.{true, false}
+use mathlib.Core.List.{List, []}
+use Prim.Native.Nat.{ℕ, _≤_, _<_}
 use lib.ListN.{getD}
 use lib.Ieee.{Float, nan, lt}
-use Rattle.route.specs.F32.{f32}
-use Rattle.route.specs.Report.{Report, Callback, offer}
-use Rattle.rule.specs.declared.Rule.{Rule}
-use Rattle.rule.specs.declared.Threshold.{Threshold}
-use Rattle.reports.specs.Rows.{rowsOf}
-use Rattle.reports.specs.Inner.Rows.{Kept}
-use Rattle.reports.specs.Inner.Runs.{callbackOf}
-use Rattle.block_wand_single.specs.declared.walk.Walked.{Walked}
+use Rattle.term_scorer.specs.Inner.Slots.{held}
+use Rattle.term_scorer.specs.declared.score.Similarity.{Similarity}
+use Rattle.block_wand_single.specs.Inner.Places.{onWalk}
+use Rattle.block_wand_single.specs.Inner.Stands.{Stands, Steps}
+use Rattle.block_wand_single.specs.declared.Gone.{Gone}
+use Rattle.block_wand_single.specs.declared.Single.{Single}
 
 -- the first score above the threshold, from a place on and below n
 pub record FirstAbove (values : List Float) (from n : ℕ) (t : Float) (r : ℕ) : Type 0 where
@@ -21,23 +19,24 @@ pub record FirstAbove (values : List Float) (from n : ℕ) (t : Float) (r : ℕ)
   pub quiet : (k : ℕ) → from ≤ k → k < r → lt t (getD values k nan) ≡ false
   pub due : r < n → lt t (getD values r nan) ≡ true
 
--- m postings from a place on, each offered to the callback
-abbrev pub offered : (K : Callback Float) → List ℕ → List Float → ℕ → ℕ → K .State → K .State
-offered K docs values from zero rs = rs
-offered K docs values from (suc m) rs = offer f32 K (getD docs (from + m) 0) (getD values (from + m) nan) (offered K docs values from m rs)
+module _ (file : List ℕ) (lists : List (List ℕ)) (x : Single) (places docs : List (List ℕ)) (values : List Float) where
+  -- the tables of a scan on a walk, of which the walk reads these
+  pub record Tables (similarity : Similarity) (caches : List (List Float)) (freqs : List (List ℕ))
+      (floats : List (List Float)) : Type 0 where
+    pub walking : onWalk (x .phase) ≡ true
+    pub row-is : getD floats 2 [] ≡ values
+    pub stands : Stands file similarity lists caches x (held places docs freqs) floats
 
--- where a walk may stop: at place n, or at a posting above the threshold with every row full
-abbrev pub WalkStopped : Bool → ℕ → List Float → ℕ → Threshold → ℕ → Type 0
-WalkStopped false n values rows t place = place ≡ n
-WalkStopped true n values rows t place = (place < n) × (lt (t .now) (getD values place nan) ≡ true) × (t .reports ≡ rows)
+  -- there are such tables
+  pub record Walkable : Type 0 where
+    pub similarity : Similarity
+    pub caches : List (List Float)
+    pub freqs : List (List ℕ)
+    pub floats : List (List Float)
+    pub tables : Tables similarity caches freqs floats
 
--- what `walk` leaves: the postings before its place were offered, whatever was reported before
-pub record Walks (rule : Rule) (script : List Float) (t : Threshold) (from n : ℕ) (docs : List ℕ) (values : List Float)
-    (documents : List ℕ) (scores : List Float) (r : Walked) (documents′ : List ℕ) (scores′ : List Float) : Type 0 where
-  pub taken : ℕ
-  pub place-is : r .place ≡ from + taken
-  pub within : r .place ≤ n
-  pub kept : (rs : List (Report Float)) (documents₀ : List ℕ) (scores₀ : List Float)
-      → Kept rule script rs documents₀ scores₀ t documents scores
-      → Kept rule script (offered (callbackOf rule script) docs values from taken rs) documents₀ scores₀ (r .threshold) documents′ scores′
-  pub stopped : WalkStopped (r .full) n values (rowsOf documents scores) (r .threshold) (r .place)
+  -- what `walk` leaves, whatever the others are
+  pub record Walks (t : Float) (turns : ℕ) (r : Gone) (places′ : List (List ℕ)) : Type 0 where
+    pub steps : (similarity : Similarity) (caches : List (List Float)) (freqs : List (List ℕ)) (floats : List (List Float))
+        → Tables similarity caches freqs floats
+        → Steps file similarity lists caches t turns x (held places docs freqs) r (held places′ docs freqs) floats

@@ -1,20 +1,31 @@
 -- `hunt::score_postings` meets its contract: norm codes and frequencies are those of the decoded block.
 use borrow.Author.Needs.{needs}
+use Rattle.notefile.specs.Inner.Given.{weightOf}
 use Rattle.postings.proofs.BlockBounds.{score-is}
+use Rattle.slot_rows.specs.Inner.Rows.{partIn}
+use Rattle.term_scorer.proofs.Scores.{weighed-by}
 use Rattle.block_wand_single.proofs.hunt.score_postings.Statement.{statement}
 use Rattle.block_wand_single.proofs.hunt.score_postings.Tie as tie
+
+weight-of-requires : tie.Need-weight-of-requires
+weight-of-requires c κs = search needs
 
 score-block-requires : tie.Need-score-block-requires
 score-block-requires c κs = search needs
 
 returns : tie.Need-returns
 returns c =
-    let b = c .before .before .before .before in
+    let w = c .before .before in
+    let b = w .before in
     let a = b .before in
+    let x = partIn (a .args .list .now) in
+    let cache = a .args .cache .now in
+    let weight = w .weight-of .result in
     record {
       long = c .score-block .ensures .long;
-      at = score-is (a .args .file .now) (a .args .x) (a .args .t4) (a .pre .weight) (λ k. b .shared-slice-known .given k .fits) (a .args .scoring) (a .pre .norms-are) (a .args .docs .now) (a .args .freqs .now) (c .score-block .ensures);
+      at = score-is (a .args .file .now) x (weightOf x weight cache) (weighed-by x cache (w .weight-of .ensures) (a .pre .3))
+          (λ k. b .shared-slice-known .given k .fits) (a .args .similarity .scoring) (a .pre .0) (a .args .docs .now) (a .args .freqs .now) (c .score-block .ensures);
     }
 
 pub score-postings-spec : {M : Type 1} → statement M
-score-postings-spec = tie.close (tie.spec score-block-requires returns)
+score-postings-spec = tie.close (tie.spec weight-of-requires score-block-requires returns)

@@ -2,7 +2,7 @@
 use Prim.Native.Nat.{_-_}
 use native.Mathlib.Omega.{arith}
 use borrow.Author.Needs.{needs}
-use Rattle.block_wand_single.proofs.Walking.{Seeking, seeking-begun, seeking-on, first-found, none-found}
+use Rattle.block_wand_single.proofs.Seeking.{Seeking, seeking-begun, seeking-on, first-found, none-found}
 use Rattle.block_wand_single.proofs.walk.first_above.Statement.{statement}
 use Rattle.block_wand_single.proofs.walk.first_above.Tie as tie
 

@@ -1,104 +1,167 @@
--- `walk::walk` meets its contract: each turn goes on to the next posting above the threshold, and reports it if there is a row.
-use mathlib.Core.Path.{sym, _∙_}
-use Prim.Native.Nat.{_-_}
+-- `walk::walk` meets its contract: no posting that it passes is due, and the one that it reports is.
+use mathlib.Core.Path.{refl}
+use Prim.Native.Nat.{_<_}
+use native.Mathlib.Omega.{arith}
 use borrow.Author.Needs.{needs}
 use Rattle.route.proofs.Cases.{lt-of-ne}
-use Rattle.block_wand_single.proofs.Walking.{Reporting, reporting-begun, reporting-reaches, reporting-reports, has-row, walk-ends, walk-full}
+use Rattle.block_wand_single.proofs.Walking.{cur-in, cur-inside, low, room, short, starts, walk-due, walk-on}
 use Rattle.block_wand_single.proofs.walk.walk.Statement.{statement}
 use Rattle.block_wand_single.proofs.walk.walk.Tie as tie
 
-abbrev Inv-loop : tie.InvT-loop
-Inv-loop rule script from n docs values documents₀ scores₀ room threshold₀ i₀ documents scores threshold i = Reporting rule script threshold₀ from n docs values documents₀ scores₀ i threshold documents scores
+mul-cur : tie.Need-mul-cur
+mul-cur c = search needs
 
-abbrev μ-loop : tie.MeasureT-loop
-μ-loop rule script from n docs values documents₀ scores₀ room threshold₀ i₀ documents scores threshold i = n - i
+index-1-cur : tie.Need-index-1-cur
+index-1-cur c = search needs
 
-rows-requires : tie.Need-rows-requires Inv-loop μ-loop
-rows-requires c κs = search needs
+index-2-cur : tie.Need-index-2-cur
+index-2-cur c = search needs
 
-loop-holds : tie.Need-loop-holds Inv-loop μ-loop
-loop-holds c = reporting-begun _ _ _ _ _ _ _ _ _ (c .before .before .before .before .before .before .pre .1) (c .before .before .before .before .before .before .pre .3)
+mul-block-len : tie.Need-mul-block-len
+mul-block-len c = search needs
 
-first-above-requires : tie.Need-first-above-requires Inv-loop μ-loop
-first-above-requires c κs = search needs
+index-1-block-len : tie.Need-index-1-block-len
+index-1-block-len c = search needs
 
-same-length : tie.Need-same-length Inv-loop μ-loop
-same-length c = search needs
+index-2-block-len : tie.Need-index-2-block-len
+index-2-block-len c = search needs
 
-same-length-2 : tie.Need-same-length-2 Inv-loop μ-loop
-same-length-2 c = search needs
+mul-block-len-2 : tie.Need-mul-block-len-2
+mul-block-len-2 c = search needs
 
-returns : tie.Need-returns Inv-loop μ-loop
-returns c = walk-ends _ _ _ _ _ _ _ _ _ (reporting-reaches _ _ _ _ _ _ _ _ _ (c .before .before .loop .inv) (c .before .first-above .ensures)) (c .if1 .taken)
+index-1-block-len-2 : tie.Need-index-1-block-len-2
+index-1-block-len-2 c = search needs
 
-same-length-3 : tie.Need-same-length-3 Inv-loop μ-loop
-same-length-3 c = search needs
+index-2-block-len-2 : tie.Need-index-2-block-len-2
+index-2-block-len-2 c = search needs
 
-same-length-4 : tie.Need-same-length-4 Inv-loop μ-loop
-same-length-4 c = search needs
+block-len-requires : tie.Need-block-len-requires
+block-len-requires c κs = let a = c .before .before .before .before in starts (a .pre .0 .tables)
 
-returns-2 : tie.Need-returns-2 Inv-loop μ-loop
-returns-2 c =
-    let f = c .before .before .before in
-    let R = reporting-reaches _ _ _ _ _ _ _ _ _ (f .before .loop .inv) (f .first-above .ensures) in
-    walk-full _ _ _ _ _ _ _ _ _ R (c .before .before .if1 .left)
-    (f .first-above .ensures .due (lt-of-ne (R .within) (c .before .before .if1 .left))) (c .if2 .taken ∙ f .before .before .rows .ensures)
+reach-requires : tie.Need-reach-requires
+reach-requires c κs = let a = c .before .before .before .before .before in omega (arith, cur-in (a .pre .0 .tables) (c .block-len .ensures))
 
-mul-doc : tie.Need-mul-doc Inv-loop μ-loop
+first-asked-requires : tie.Need-first-asked-requires
+first-asked-requires c κs = let a = c .before .before .before .before .before .before in cur-inside (a .pre .0 .tables)
+
+first-above-requires : tie.Need-first-above-requires
+first-above-requires c κs =
+    let r = c .before in
+    let b = r .before in
+    let a = b .before .before .before .before .before in
+    room (a .pre .0 .tables) (b .block-len .ensures) (a .args .threshold) (a .pre .1) (r .reach .ensures) (c .first-asked .ensures)
+
+sub-taken : tie.Need-sub-taken
+sub-taken c =
+    let p = c .before in
+    let r = p .before in
+    let b = r .before in
+    let a = b .before .before .before .before .before in
+    low (a .pre .0 .tables) (b .block-len .ensures) (a .args .threshold) (a .pre .1) (r .reach .ensures) (p .first-asked .ensures) (c .first-above .ensures)
+
+to-place-requires : tie.Need-to-place-requires
+to-place-requires c κs =
+    let b = c .before .before .before .before .before in
+    let a = b .before .before .before .before .before in
+    let S = a .pre .0 .tables .stands .ready in
+    (S .small, short (a .pre .0 .tables) (b .block-len .ensures), (_, S .slot))
+
+returns : tie.Need-returns
+returns c =
+    let t = c .before .before in
+    let f = t .before in
+    let p = f .before in
+    let r = p .before in
+    let b = r .before in
+    let a = b .before .before .before .before .before in
+    record {
+      steps = λ similarity caches freqs floats T.
+          walk-on T (b .block-len .ensures) (a .args .threshold) (a .pre .1) (r .reach .ensures) (p .first-asked .ensures) (f .first-above .ensures) (t .if1 .taken) (c .to-place .ensures);
+    }
+
+mul-places : tie.Need-mul-places
+mul-places c = search needs
+
+index-1-places : tie.Need-index-1-places
+index-1-places c = search needs
+
+index-2-places : tie.Need-index-2-places
+index-2-places c = search needs
+
+-- the place found is one of the block's
+found-in : (c : tie.Else1) → c .before .first-above .result < 128
+found-in c =
+    let f = c .before in
+    let p = f .before in
+    let r = p .before in
+    let b = r .before in
+    let a = b .before .before .before .before .before in
+    let h = room (a .pre .0 .tables) (b .block-len .ensures) (a .args .threshold) (a .pre .1) (r .reach .ensures) (p .first-asked .ensures) in
+    let e = lt-of-ne (f .first-above .ensures .high) (c .if1 .left) in
+    omega (arith, h .1)
+
+add-reported : tie.Need-add-reported
+add-reported c = omega (arith, found-in c)
+
+mul-doc : tie.Need-mul-doc
 mul-doc c = search needs
 
-element-copy-out-doc : tie.Need-element-copy-out-doc Inv-loop μ-loop
-element-copy-out-doc c = search needs
+mul-doc-2 : tie.Need-mul-doc-2
+mul-doc-2 c = omega (arith, found-in c)
 
-mul-score : tie.Need-mul-score Inv-loop μ-loop
-mul-score c = search needs
+index-1-doc : tie.Need-index-1-doc
+index-1-doc c = search needs
 
-element-copy-out-score : tie.Need-element-copy-out-score Inv-loop μ-loop
-element-copy-out-score c = search needs
+index-2-doc : tie.Need-index-2-doc
+index-2-doc c = found-in c
 
-report-requires : tie.Need-report-requires Inv-loop μ-loop
-report-requires c κs =
-    let e = c .before .before .before .before in
-    let a = e .before .before .before .before in
-    let r = has-row _ _ _ _ _ _ _ _ _ (a .loop .inv) (λ q. e .if2 .left (q ∙ sym (a .before .rows .ensures))) in
-    (a .before .before .before .before .before .before .before .pre .0, r .0, r .1)
+mul-score : tie.Need-mul-score
+mul-score c = omega (arith, found-in (c .before))
 
-add-i : tie.Need-add-i Inv-loop μ-loop
-add-i c = search needs
+element-copy-out-score : tie.Need-element-copy-out-score
+element-copy-out-score c = found-in (c .before)
 
-loop-less : tie.Need-loop-less Inv-loop μ-loop
-loop-less c = search needs
-
-loop-again : tie.Need-loop-again Inv-loop μ-loop
-loop-again c =
-    let p = c .before .before .before .before in
-    let e = p .before .before .before .before .before in
-    let f = e .before .before .before in
-    let a = f .before in
-    let R = reporting-reaches _ _ _ _ _ _ _ _ _ (a .loop .inv) (f .first-above .ensures) in
-    let l = lt-of-ne (R .within) (e .before .before .if1 .left) in
-    reporting-reports _ _ _ _ _ _ _ _ _ R l (λ q. e .if2 .left (q ∙ sym (a .before .rows .ensures))) (f .first-above .ensures .due l) (p .report .ensures)
+returns-2 : tie.Need-returns-2
+returns-2 c =
+    let e = c .before .before in
+    let f = e .before in
+    let p = f .before in
+    let r = p .before in
+    let b = r .before in
+    let a = b .before .before .before .before .before in
+    record {
+      steps = λ similarity caches freqs floats T.
+          walk-due T (b .block-len .ensures) (a .args .threshold) (a .pre .1) (r .reach .ensures) (p .first-asked .ensures) (f .first-above .ensures) (e .if1 .left) refl;
+    }
 
 pub walk-spec : {M : Type 1} → statement M
 walk-spec =
     tie.close
     (tie.spec
-    Inv-loop
-    μ-loop
-    rows-requires
-    loop-holds
+    mul-cur
+    index-1-cur
+    index-2-cur
+    mul-block-len
+    index-1-block-len
+    index-2-block-len
+    mul-block-len-2
+    index-1-block-len-2
+    index-2-block-len-2
+    block-len-requires
+    reach-requires
+    first-asked-requires
     first-above-requires
-    same-length
-    same-length-2
+    sub-taken
+    to-place-requires
     returns
-    same-length-3
-    same-length-4
-    returns-2
+    mul-places
+    index-1-places
+    index-2-places
+    add-reported
     mul-doc
-    element-copy-out-doc
+    mul-doc-2
+    index-1-doc
+    index-2-doc
     mul-score
     element-copy-out-score
-    report-requires
-    add-i
-    loop-less
-    loop-again)
+    returns-2)

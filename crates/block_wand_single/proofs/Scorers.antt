@@ -1,0 +1,253 @@
+-- The scan's scorer in its slot: where it stands, how it moves, and that it is ready again.
+use mathlib.Core.Path.{_≡_, refl, sym, ap, _∙_, subst}
+use mathlib.Core.Bool.{true≢false}
+use mathlib.Core.List.{List, []}
+use Prim.Native.Nat.{ℕ, min, _+_, _≤_, _<_}
+use native.Mathlib.Numerals.{add-one}
+use native.Mathlib.Omega.{arith}
+use lib.Dec.{eqb}
+use lib.ListN.{getD, length, length-set, set}
+use lib.Seq.{getD-set-other, getD-set-same}
+use lib.Ieee.{Float, nan}
+use borrow.Author.Tests.{eq-eqb, eqb-false, eqb-true, le-ltb, lt-ltb, ne-eqb}
+use Rattle.route.specs.F32.{f32}
+use Rattle.route.specs.Postings.{Postings, TERMINATED, lastDoc}
+use Rattle.route.specs.Cursor.{Cursor, blockMax, seekBlockIn}
+use Rattle.route.specs.Single.{SinglePlace}
+use Rattle.route.specs.Inner.Lists.{ListOk}
+use Rattle.route.proofs.Cases.{on-test}
+use Rattle.route.proofs.Places.{last-cap}
+use Rattle.bm25.specs.declared.Scoring.{Scoring}
+use Rattle.bm25.specs.declared.Scoring.the-variants.{Unstepped}
+use Rattle.notefile.specs.Header.{documents}
+use Rattle.decoded.proofs.AcceptedLists.{list-ok}
+use Rattle.postings.specs.Inner.Decoded.{docIn}
+use Rattle.postings.specs.Inner.Places.{cursorOf, Moved}
+use Rattle.postings.specs.declared.cursor.SegmentPostings.{SegmentPostings}
+use Rattle.postings.proofs.Readers.{end-is}
+use Rattle.slot_rows.specs.Inner.Rows.{cursorIn, partIn, postingsIn, MovedRow, PlaceIn}
+use Rattle.slot_rows.proofs.Rows.{bound-in, last-is, moves-in}
+use Rattle.term_scorer.specs.Inner.Slots.{Held, cursorAt, held, lastAt, listAt, partAt, Shallowed, Sixteen, SlotIn, StandingIn}
+use Rattle.term_scorer.specs.Inner.Weights.{Bounded, FloatRow}
+use Rattle.term_scorer.specs.declared.score.Similarity.{Similarity}
+use Rattle.block_wand_single.specs.Inner.Places.{onPlace, phaseOf, skipped, MovedTo, Skips, ToPlace}
+use Rattle.block_wand_single.specs.Inner.Stands.{FloatRows, Ready}
+use Rattle.block_wand_single.specs.declared.Phase.{Phase}
+use Rattle.block_wand_single.specs.declared.Phase.the-variants.{Hunt, Over, Walk}
+use Rattle.block_wand_single.specs.declared.Single.{Single}
+
+-- ---- the list and the last document of the skip reader's block
+
+module _ {file : List ℕ} {lists places : List (List ℕ)} {q : ℕ} (T : StandingIn file lists places q) (scoring : Scoring) where
+  pub right : ListOk 128 (documents file) (listAt scoring file lists q)
+  right = list-ok scoring file (partAt lists q) (T .list .right) (T .list .few)
+
+  pub last-here : lastDoc (listAt scoring file lists q) 128 (cursorAt places q .blk) ≡ lastAt places q
+  unfolding cursorIn
+  last-here = end-is file (partAt lists q) (T .list) scoring (getD (getD places q []) 0 0) ∙ sym (last-is file (partAt lists q) (getD places q []) (T .standing))
+
+  pub last-low : lastAt places q ≤ 2147483647
+  last-low = subst (λ (z : ℕ). z ≤ 2147483647) last-here (last-cap 128 (documents file) (listAt scoring file lists q) right (cursorAt places q .blk))
+
+pub standing-in : {file : List ℕ} {lists : List (List ℕ)} {q : ℕ} {h : Held} → SlotIn file lists h q → StandingIn file lists (h .places) q
+standing-in S = record { sixteen = S .sixteen .0; part-row = S .part-row; list = S .list; standing = S .place .standing }
+
+-- ---- moves
+
+module _ (file list : List ℕ) {row docs freqs : List ℕ} (P : PlaceIn file (partIn list) row docs freqs) (i : ℕ) (h : i < 128) where
+  abbrev p : SegmentPostings
+  p = postingsIn file (partIn list) row
+
+  there : Moved file (partIn list) (λ _. onPlace (cursorOf p) i)
+      (record { «skip_reader» = p .«skip_reader»; «block_loaded» = p .«block_loaded»; decoded = p .decoded; cur = i }) docs freqs
+  unfolding cursorOf
+  there = record {
+    cursor-is = λ _. refl;
+    placed = record { stands = P .placed .stands; low = P .placed .low; holds = P .placed .holds; inside = h; loaded-is = P .placed .loaded-is };
+  }
+
+  -- to another place of the block decoded last
+  put-in : MovedRow file (partIn list) (λ _. onPlace (cursorIn row) i) row (set row 6 i) docs freqs (getD docs i 0)
+  put-in = moves-in file list row (λ l c. onPlace c i) P i there refl
+
+module _ {file : List ℕ} {lists : List (List ℕ)} {q : ℕ} {h : Held} (S : SlotIn file lists h q) where
+  -- a move of the slot's row, and the scan with it
+  module _ {h′ : Held} (sixteen : Sixteen (h′ .places) × Sixteen (h′ .docs) × Sixteen (h′ .freqs)) {to : Scoring → Cursor} {d : ℕ}
+      (M : MovedRow file (partAt lists q) to (getD (h .places) q []) (getD (h′ .places) q []) (getD (h′ .docs) q []) (getD (h′ .freqs) q []) d) where
+    pub moved-to : (phase : Phase) (doc : ℕ) {place : Scoring → SinglePlace} → ((s : Scoring) → record { phase = phaseOf phase; cur = to s; doc = doc } ≡ place s)
+        → MovedTo file lists q place h h′ (record { slot = q; doc = doc; phase = phase })
+    moved-to phase doc e = record {
+      slot-is = refl;
+      place-is = λ s. ap (λ (z : Cursor). record { phase = phaseOf phase; cur = z; doc = doc }) (M .cursor-is s) ∙ e s;
+      slot = record { sixteen = sixteen; part-row = S .part-row; list = S .list; place = M .place };
+      bound-is = M .bound-is;
+    }
+
+  -- nothing moves
+  stay : MovedRow file (partAt lists q) (λ _. cursorAt (h .places) q) (getD (h .places) q []) (getD (h .places) q []) (getD (h .docs) q []) (getD (h .freqs) q [])
+      (docIn file (partAt lists q) (cursorAt (h .places) q .at))
+  stay = record { place = S .place; cursor-is = λ _. refl; doc-is = refl; bound-is = λ k. (k, refl, refl) }
+
+  -- its skip reader alone
+  module _ {to : Scoring → Cursor} {places′ : List (List ℕ)} (M : Shallowed file lists q to (h .places) places′) where
+    pub shallow-to : (phase : Phase) (doc : ℕ) {place : Scoring → SinglePlace} → ((s : Scoring) → record { phase = phaseOf phase; cur = to s; doc = doc } ≡ place s)
+        → MovedTo file lists q place h (held places′ (h .docs) (h .freqs)) (record { slot = q; doc = doc; phase = phase })
+    shallow-to phase doc e =
+        moved-to (ap length (M .only) ∙ length-set (h .places) q _ ∙ S .sixteen .0, S .sixteen .1, S .sixteen .2)
+        (M .moved (getD (h .docs) q []) (getD (h .freqs) q []) (S .place)) phase doc e
+
+  -- to another place of its block
+  module _ (small : q < 16) (i : ℕ) (hi : i < 128) where
+    abbrev put : Held
+    put = held (set (h .places) q (set (getD (h .places) q []) 6 i)) (h .docs) (h .freqs)
+
+    row-there : getD (put .places) q [] ≡ set (getD (h .places) q []) 6 i
+    row-there = let s = S .sixteen .0 in getD-set-same (h .places) q _ [] (omega arith)
+
+    put-sixteen : Sixteen (put .places) × Sixteen (h .docs) × Sixteen (h .freqs)
+    put-sixteen = (length-set (h .places) q _ ∙ S .sixteen .0, S .sixteen .1, S .sixteen .2)
+
+    put-row : MovedRow file (partAt lists q) (λ _. onPlace (cursorAt (h .places) q) i) (getD (h .places) q []) (getD (put .places) q []) (getD (h .docs) q []) (getD (h .freqs) q [])
+        (getD (getD (h .docs) q []) i 0)
+    put-row = rw row-there (put-in file (getD lists q []) (S .place) i hi)
+
+    pub put-to : (phase : Phase) (doc : ℕ) {place : Scoring → SinglePlace}
+        → ((s : Scoring) → record { phase = phaseOf phase; cur = onPlace (cursorAt (h .places) q) i; doc = doc } ≡ place s)
+        → MovedTo file lists q place h put (record { slot = q; doc = doc; phase = phase })
+    put-to phase doc e = moved-to put-sixteen put-row phase doc e
+
+    pub put-cursor : cursorAt (put .places) q ≡ onPlace (cursorAt (h .places) q) i
+    put-cursor = put-row .cursor-is Unstepped
+
+    pub put-slot : SlotIn file lists put q
+    put-slot = record { sixteen = put-sixteen; part-row = S .part-row; list = S .list; place = put-row .place }
+
+    -- and on from there
+    pub put-then : {h″ : Held} {place : Scoring → SinglePlace} {r : Single} → MovedTo file lists q place put h″ r → MovedTo file lists q place h h″ r
+    put-then M = record {
+      slot-is = M .slot-is;
+      place-is = M .place-is;
+      slot = M .slot;
+      bound-is = λ k.
+          let v = M .bound-is k in
+          let w = put-row .bound-is (v .0) in
+          (w .0, v .1 ∙ w .1, v .2 ∙ w .2);
+    }
+
+-- ---- past a block
+
+module _ {file : List ℕ} {lists places : List (List ℕ)} {q : ℕ} (T : StandingIn file lists places q) (end : ℕ) {last : ℕ} (e : last ≡ lastAt places q) where
+  last-is-route : (s : Scoring) → lastDoc (listAt s file lists q) 128 (cursorAt places q .blk) ≡ last
+  last-is-route s = last-here T s ∙ sym e
+
+  pub skip-over : last ≡ 2147483647 → Skips file lists q end places places (record { slot = q; doc = end; phase = Over })
+  skip-over h = record { moved = λ docs freqs S. moved-to S (S .sixteen) (stay S) Over end (λ s. sym (rw (last-is-route s, eq-eqb last TERMINATED h))); off = refl }
+
+  pub skip-past : (last ≡ 2147483647 → ⊥) → {places′ : List (List ℕ)}
+      → Shallowed file lists q (λ s. seekBlockIn (listAt s file lists q) 128 (last + 1) (cursorAt places q)) places places′
+      → Skips file lists q end places places′ (record { slot = q; doc = last + 1; phase = Hunt })
+  skip-past h M = record { moved = λ docs freqs S. shallow-to S M Hunt (last + 1) (λ s. sym (rw (last-is-route s, ne-eqb last TERMINATED h, add-one last))); off = refl }
+
+-- ---- to a place of a block, or out of it
+
+module _ {file : List ℕ} {lists places docs : List (List ℕ)} {q : ℕ} (small : q < 16) (n i : ℕ) (short : n ≤ 128) where
+  pub placed-in : i < n → ToPlace file lists q docs n i places (set places q (set (getD places q []) 6 i)) (record { slot = q; doc = getD (getD docs q []) i 0; phase = Walk })
+  placed-in h = record {
+    moved = λ freqs S. put-to S small i (omega arith) Walk (getD (getD docs q []) i 0) (λ s. sym (rw (lt-ltb i n h)));
+    same-block = λ freqs S _. ap (λ (z : Cursor). z .dec) (put-cursor S small i (omega arith));
+  }
+
+  pub placed-out : n ≤ i → {last : ℕ} → last ≡ min n 127 → {places′ : List (List ℕ)} {r : Single}
+      → Skips file lists q 2147483647 (set places q (set (getD places q []) 6 last)) places′ r → ToPlace file lists q docs n i places places′ r
+  placed-out h {last} e {places′} {r} K = record {
+    moved = λ freqs S.
+        let hl : last < 128 = omega arith in
+        let M = put-then S small last hl (K .moved docs freqs (put-slot S small last hl)) in
+        record {
+          slot-is = M .slot-is;
+          place-is = λ s.
+              M .place-is s ∙ ap (λ (z : Cursor). skipped (listAt s file lists q) z TERMINATED) (put-cursor S small last hl)
+              ∙ ap (λ (z : ℕ). skipped (listAt s file lists q) (onPlace (cursorAt places q) z) TERMINATED) e ∙ sym (rw (le-ltb i n h));
+          slot = M .slot;
+          bound-is = M .bound-is;
+        };
+    same-block = λ freqs S w. absurd (true≢false (sym w ∙ K .off));
+  }
+
+-- ---- ready again
+
+pub bound-same : (l : Postings Float) (c c′ : Cursor) → c′ .blk ≡ c .blk → c′ .loaded ≡ c .loaded → blockMax 128 f32 l c′ ≡ blockMax 128 f32 l c
+bound-same l c c′ e f = rw (e, f)
+
+-- a row of floats is written
+pub rows-set : {floats : List (List Float)} (r : ℕ) (row : List Float) → FloatRows floats → r < 3 → FloatRow row → FloatRows (set floats r row)
+rows-set {floats} r row F h l = record {
+  three = length-set floats r row ∙ F .three;
+  row = λ k hk.
+      let t = F .three in
+      on-test (eqb k r)
+      (λ e. subst (λ (z : ℕ). FloatRow (getD (set floats r row) z [])) (sym (eqb-true k r e)) (ap length (getD-set-same floats r row [] (omega arith)) ∙ l))
+      (λ e. ap length (getD-set-other floats r k row [] (eqb-false k r e)) ∙ F .row k hk);
+}
+
+module _ {file : List ℕ} {similarity : Similarity} {lists : List (List ℕ)} {caches : List (List Float)} {q : ℕ} {h : Held} {floats : List (List Float)}
+    (R : Ready file similarity lists caches q h floats) where
+  abbrev list : Postings Float
+  list = listAt (similarity .scoring) file lists q
+
+  -- behind a move
+  pub ready-moved : {place : Scoring → SinglePlace} {h′ : Held} {r : Single} → MovedTo file lists q place h h′ r → Ready file similarity lists caches q h′ floats
+  ready-moved {h′ = h′} M = record {
+    small = R .small;
+    norms-are = R .norms-are;
+    slot = M .slot;
+    weighed = R .weighed;
+    rows = R .rows;
+    bound = λ k. let w = M .bound-is k in R .bound (w .0) ∙ sym (bound-same list (cursorAt (h .places) q) (cursorAt (h′ .places) q) (w .1) (w .2));
+  }
+
+  -- with the scores of a block
+  pub ready-scored : (values : List Float) → FloatRow values → Ready file similarity lists caches q h (set floats 2 values)
+  ready-scored values l =
+      let other : getD (set floats 2 values) 0 [] ≡ getD floats 0 [] = getD-set-other floats 2 0 values [] (λ e. absurd (omega arith)) in
+      record {
+        small = R .small;
+        norms-are = R .norms-are;
+        slot = R .slot;
+        weighed = R .weighed;
+        rows = rows-set 2 values (R .rows) (omega arith) l;
+        bound = λ k. ap (λ (z : List Float). getD z q nan) other ∙ R .bound k;
+      }
+
+  -- with its block's bound
+  module _ {places′ : List (List ℕ)} {bounds : List Float} {b : Float} (B : Bounded (similarity .scoring) file lists q (h .places) (getD floats 0 []) places′ bounds b) where
+    flag-there : getD places′ q [] ≡ set (getD (h .places) q []) 7 (B .flag)
+    flag-there =
+        let s = R .slot .sixteen .0 in
+        let m = R .small in
+        ap (λ (z : List (List ℕ)). getD z q []) (B .places-are) ∙ getD-set-same (h .places) q (set (getD (h .places) q []) 7 (B .flag)) [] (omega arith)
+
+    pub bounded-cursor : cursorAt places′ q ≡ cursorAt (h .places) q
+    bounded-cursor = ap cursorIn flag-there ∙ bound-in file (partAt lists q) (B .flag) (R .slot .place) .1
+
+    pub ready-bounded : Ready file similarity lists caches q (held places′ (h .docs) (h .freqs)) (set floats 0 bounds)
+    ready-bounded =
+        let l = R .rows .row 0 (omega arith) in
+        let t = R .rows .three in
+        let m = R .small in
+        let row : getD (set floats 0 bounds) 0 [] ≡ bounds = getD-set-same floats 0 bounds [] (omega arith) in
+        record {
+          small = R .small;
+          norms-are = R .norms-are;
+          slot = record {
+            sixteen = (ap length (B .places-are) ∙ length-set (h .places) q _ ∙ R .slot .sixteen .0, R .slot .sixteen .1, R .slot .sixteen .2);
+            part-row = R .slot .part-row;
+            list = R .slot .list;
+            place = rw flag-there (bound-in file (partAt lists q) (B .flag) (R .slot .place) .0);
+          };
+          weighed = R .weighed;
+          rows = rows-set 0 bounds (R .rows) (omega arith) (ap length (B .bounds-are) ∙ length-set (getD floats 0 []) q b ∙ l);
+          bound = λ k.
+              ap (λ (z : List Float). getD z q nan) (row ∙ B .bounds-are) ∙ getD-set-same (getD floats 0 []) q b nan (omega arith) ∙ B .bound-is
+              ∙ ap (blockMax 128 f32 list) (sym bounded-cursor);
+        }

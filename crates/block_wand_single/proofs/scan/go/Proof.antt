@@ -1,0 +1,93 @@
+-- `scan::go` meets its contract: each stretch of turns is the route's, and so is why the last one ended.
+use mathlib.Core.Path.{sym, _∙_}
+use Prim.Native.Nat.{_-_}
+use native.Mathlib.Omega.{arith}
+use borrow.Author.Needs.{needs}
+use Rattle.route.proofs.Cases.{lt-of-ne}
+use Rattle.term_scorer.specs.Inner.Slots.{held}
+use Rattle.block_wand_single.proofs.Going.{Going, going-begun, going-less, going-on, gone-over, gone-report, gone-through, taken-fits}
+use Rattle.block_wand_single.proofs.scan.go.Statement.{statement}
+use Rattle.block_wand_single.proofs.scan.go.Tie as tie
+
+abbrev Inv-loop : tie.InvT-loop
+Inv-loop file similarity lists caches threshold turns places₀ docs₀ freqs₀ floats₀ single₀ taken₀ places docs freqs floats single taken =
+    Going file similarity lists caches threshold turns single₀ (held places₀ docs₀ freqs₀) taken single (held places docs freqs) floats
+
+abbrev μ-loop : tie.MeasureT-loop
+μ-loop file similarity lists caches threshold turns places₀ docs₀ freqs₀ floats₀ single₀ taken₀ places docs freqs floats single taken = turns - taken
+
+loop-holds : tie.Need-loop-holds Inv-loop μ-loop
+loop-holds c = going-begun _ _ (c .before .pre)
+
+is-over-requires : tie.Need-is-over-requires Inv-loop μ-loop
+is-over-requires c κs = search needs
+
+returns : tie.Need-returns Inv-loop μ-loop
+returns c =
+    let o = c .before in
+    gone-over (o .before .loop .inv) (sym (o .is-over .ensures) ∙ c .if1 .taken)
+
+returns-2 : tie.Need-returns-2 Inv-loop μ-loop
+returns-2 c =
+    let e = c .before in
+    let o = e .before in
+    gone-through (o .before .loop .inv) (sym (o .is-over .ensures) ∙ e .if1 .left) (c .if2 .taken)
+
+sub-stride : tie.Need-sub-stride Inv-loop μ-loop
+sub-stride c = c .before .before .before .loop .inv .few
+
+stride-requires : tie.Need-stride-requires Inv-loop μ-loop
+stride-requires c κs =
+    let f = c .before .before .before .before in
+    let e = f .before in
+    let o = e .before in
+    let G = o .before .loop .inv in
+    (G .stands, sym (o .is-over .ensures) ∙ e .if1 .left, let l = lt-of-ne (G .few) (f .if2 .left) in omega arith)
+
+add-taken : tie.Need-add-taken Inv-loop μ-loop
+add-taken c =
+    let s = c .before .before in
+    let l = s .before .before .before .before .before .before .before .before in
+    omega (arith, taken-fits (l .loop .inv) (s .stride .ensures))
+
+is-report-requires : tie.Need-is-report-requires Inv-loop μ-loop
+is-report-requires c κs = search needs
+
+returns-3 : tie.Need-returns-3 Inv-loop μ-loop
+returns-3 c =
+    let r = c .before in
+    let s = r .before .before .before in
+    let l = s .before .before .before .before .before .before .before .before in
+    gone-report (l .loop .inv) (s .stride .ensures) (sym (r .is-report .ensures) ∙ c .if3 .taken)
+
+loop-less : tie.Need-loop-less Inv-loop μ-loop
+loop-less c =
+    let r = c .before in
+    let s = r .before .before .before in
+    let l = s .before .before .before .before .before .before .before .before in
+    going-less (l .loop .inv) (s .stride .ensures) (sym (r .is-report .ensures) ∙ c .if3 .left)
+
+loop-again : tie.Need-loop-again Inv-loop μ-loop
+loop-again c =
+    let r = c .before in
+    let s = r .before .before .before in
+    let l = s .before .before .before .before .before .before .before .before in
+    going-on (l .loop .inv) (s .stride .ensures) (sym (r .is-report .ensures) ∙ c .if3 .left)
+
+pub go-spec : {M : Type 1} → statement M
+go-spec =
+    tie.close
+    (tie.spec
+    Inv-loop
+    μ-loop
+    loop-holds
+    is-over-requires
+    returns
+    returns-2
+    sub-stride
+    stride-requires
+    add-taken
+    is-report-requires
+    returns-3
+    loop-less
+    loop-again)

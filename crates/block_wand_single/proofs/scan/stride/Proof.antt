@@ -1,0 +1,53 @@
+-- `scan::stride` meets its contract: a turn of the hunt, or a walk, by the phase.
+use mathlib.Core.Path.{refl, sym, _∙_}
+use borrow.Author.Needs.{needs}
+use Rattle.block_wand_single.proofs.Going.{hunt-strides, is-hunt}
+use Rattle.block_wand_single.proofs.scan.stride.Statement.{statement}
+use Rattle.block_wand_single.proofs.scan.stride.Tie as tie
+
+on-walk-requires : tie.Need-on-walk-requires
+on-walk-requires c κs = search needs
+
+index-1-walk : tie.Need-index-1-walk
+index-1-walk c = search needs
+
+walk-requires : tie.Need-walk-requires
+walk-requires c κs =
+    let t = c .before .before .before in
+    let w = t .before in
+    let a = w .before .before in (
+      record {
+        similarity = a .args .similarity;
+        caches = a .args .caches .now;
+        freqs = a .args .freqs .now;
+        floats = a .args .floats .now;
+        tables = record { walking = sym (w .on-walk .ensures) ∙ t .if1 .taken; row-is = refl; stands = a .pre .0 };
+      },
+      a .pre .2,
+    )
+
+returns : tie.Need-returns
+returns c =
+    let t = c .before .before .before .before in
+    let w = t .before in
+    let a = w .before .before in
+    c .walk .ensures .steps (a .args .similarity) (a .args .caches .now) (a .args .freqs .now) (a .args .floats .now)
+    (record { walking = sym (w .on-walk .ensures) ∙ t .if1 .taken; row-is = refl; stands = a .pre .0 })
+
+hunt-requires : tie.Need-hunt-requires
+hunt-requires c κs =
+    let e = c .before .before .before .before in
+    let w = e .before in
+    let a = w .before .before in
+    (a .pre .0, is-hunt _ (sym (w .on-walk .ensures) ∙ e .if1 .left) (a .pre .1))
+
+returns-2 : tie.Need-returns-2
+returns-2 c =
+    let e = c .before .before .before .before .before in
+    let w = e .before in
+    let a = w .before .before in
+    hunt-strides (is-hunt _ (sym (w .on-walk .ensures) ∙ e .if1 .left) (a .pre .1)) (a .pre .2) (c .hunt .ensures)
+
+pub stride-spec : {M : Type 1} → statement M
+stride-spec =
+    tie.close (tie.spec on-walk-requires index-1-walk walk-requires returns hunt-requires returns-2)

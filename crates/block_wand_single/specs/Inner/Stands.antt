@@ -1,0 +1,100 @@
+-- Where a scan stands, with all that it needs to go on, and what its parts leave.
+use mathlib.Core.Path.{_≡_}
+use mathlib.Core.Bool.{true}
+use mathlib.Core.List.{List, []}
+use Prim.Native.Nat.{ℕ, _+_, _≤_, _<_}
+use lib.ListN.{length, getD}
+use lib.Ieee.{Float, nan}
+use Rattle.arrays.specs.Inner.Holds.{Holds}
+use Rattle.route.specs.F32.{f32}
+use Rattle.route.specs.Postings.{Postings, start}
+use Rattle.route.specs.Cursor.{seekIn}
+use Rattle.route.specs.Route.{Route}
+use Rattle.route.specs.Single.{huntTurn, landed}
+use Rattle.route.specs.Inner.Singles.{SingleKept}
+use Rattle.bm25.specs.Scoring.{scored}
+use Rattle.bm25.specs.declared.Scoring.{Scoring}
+use Rattle.notefile.specs.Header.{normReader}
+use Rattle.notefile.specs.Inner.Reads.{scoreAmong}
+use Rattle.notefile.specs.declared.part.Part.{Part}
+use Rattle.reports.specs.Inner.Turns.{afterTurns, Silent, Went}
+use Rattle.reports.specs.declared.Event.{Event}
+use Rattle.reports.specs.declared.Event.the-variants.{Over, Paused, Report}
+use Rattle.term_scorer.specs.Inner.Slots.{Held, cursorAt, listAt, SlotIn}
+use Rattle.term_scorer.specs.Inner.Weights.{BoundKept, FloatRow, Weighed}
+use Rattle.term_scorer.specs.declared.score.Similarity.{Similarity}
+use Rattle.block_wand_single.specs.Inner.Places.{onWalk, phaseOf, placeOf, singleRoute}
+use Rattle.block_wand_single.specs.declared.Gone.{Gone}
+use Rattle.block_wand_single.specs.declared.Single.{Single}
+
+-- each posting's score, by decoded documents and frequencies
+abbrev pub Scores : List ℕ → Part → Scoring → List ℕ → List ℕ → List Float → Type 0
+Scores file x scoring docs freqs values = Holds nan 128 (λ i. scored scoring (scoreAmong file x docs freqs i)) values
+
+-- the scores of block b of a list, which a walk over it reads
+pub record BlockScores (l : Postings Float) (b : ℕ) (values : List Float) : Type 0 where
+  pub at : (i : ℕ) → i < 128 → start 128 b + i < l .len → getD values i nan ≡ l .score (start 128 b + i)
+
+-- three rows of floats
+pub record FloatRows (floats : List (List Float)) : Type 0 where
+  pub three : length floats ≡ 3
+  pub row : (r : ℕ) → r < 3 → FloatRow (getD floats r [])
+
+module _ (file : List ℕ) (similarity : Similarity) (lists : List (List ℕ)) (caches : List (List Float)) where
+  -- slot q holds a scorer of the file, with its norms, and a block bound where one is known
+  pub record Ready (q : ℕ) (h : Held) (floats : List (List Float)) : Type 0 where
+    pub small : q < 16
+    pub norms-are : similarity .norms ≡ normReader file
+    pub slot : SlotIn file lists h q
+    pub weighed : Weighed lists caches q
+    pub rows : FloatRows floats
+    pub bound : BoundKept (similarity .scoring) file lists (h .places) (getD floats 0 []) q
+
+  -- A scan stands at its place of the route: on a walk the floats have the scores of the block decoded last.
+  pub record Stands (x : Single) (h : Held) (floats : List (List Float)) : Type 0 where
+    pub ready : Ready (x .slot) h floats
+    pub scores : onWalk (x .phase) ≡ true
+        → BlockScores (listAt (similarity .scoring) file lists (x .slot)) (cursorAt (h .places) (x .slot) .dec) (getD floats 2 [])
+    pub kept : SingleKept 128 (listAt (similarity .scoring) file lists (x .slot))
+        (phaseOf (x .phase)) (cursorAt (h .places) (x .slot)) (x .doc)
+
+  -- what `enter` leaves: a posting, with the scores of its block, or the end
+  pub record Entered (x : Single) (before : Held) (r : Single) (after : Held) (floats : List (List Float)) : Type 0 where
+    pub slot-is : r .slot ≡ x .slot
+    pub place-is : let l = listAt (similarity .scoring) file lists (x .slot) in
+        placeOf r (after .places) ≡ landed 128 f32 l (seekIn l 128 (x .doc) (cursorAt (before .places) (x .slot)))
+    pub ready : Ready (x .slot) after floats
+    pub scores : onWalk (r .phase) ≡ true
+        → BlockScores (listAt (similarity .scoring) file lists (x .slot)) (cursorAt (after .places) (x .slot) .dec) (getD floats 2 [])
+
+  module _ (t : Float) where
+    -- what `hunt` leaves: the route's next place
+    pub record Hunted (x : Single) (before : Held) (r : Single) (after : Held) (floats : List (List Float)) : Type 0 where
+      pub slot-is : r .slot ≡ x .slot
+      pub stands : Stands r after floats
+      pub next-is : let l = listAt (similarity .scoring) file lists (x .slot) in
+          huntTurn 128 f32 l t (cursorAt (before .places) (x .slot)) (x .doc) .next ≡ placeOf r (after .places)
+
+    module _ (turns : ℕ) where
+      -- up to a report, or turns without one, and one at least: whether the scan is over is not asked
+      abbrev pub Strode : (W : Route Float) → W .Place → ℕ → W .Place → Event → Type 0
+      Strode W p taken q (Report doc score) = Went (W .turn) (W .ended) t p turns taken q (Report doc score)
+      Strode W p taken q Over = ⊥
+      Strode W p taken q Paused =
+          (0 < taken) × (taken ≤ turns) × (q ≡ afterTurns (W .turn) (W .ended) t p taken) × Silent (W .turn) (W .ended) t p taken
+
+      -- what `stride` leaves
+      pub record Steps (x : Single) (before : Held) (r : Gone) (after : Held) (floats : List (List Float)) : Type 0 where
+        pub slot-is : r .single .slot ≡ x .slot
+        pub stands : Stands (r .single) after floats
+        pub strode : (ord : ℕ)
+            → Strode (singleRoute (similarity .scoring) file lists (x .slot) ord) (placeOf x (before .places))
+            (r .taken) (placeOf (r .single) (after .places)) (r .event)
+
+      -- What `go` leaves: the scan stands where the route does after so many turns, and can go on.
+      pub record Goes (x : Single) (before : Held) (r : Gone) (after : Held) (floats : List (List Float)) : Type 0 where
+        pub slot-is : r .single .slot ≡ x .slot
+        pub stands : Stands (r .single) after floats
+        pub went : (ord : ℕ) → let W = singleRoute (similarity .scoring) file lists (x .slot) ord in
+            Went (W .turn) (W .ended) t (placeOf x (before .places)) turns
+            (r .taken) (placeOf (r .single) (after .places)) (r .event)
