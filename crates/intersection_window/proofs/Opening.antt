@@ -185,10 +185,10 @@ module _ (x : Query) (O : InOrder x) (t : Float) (d : ℕ) (live : d < 214748364
               ready = record { seated = still-seated x S hq L; kept = still-kept x S hq L bounds₃ (gathered .ready .kept); long = gathered .ready .long };
               turned = (
                 turn-open t d ld ss live all secs-are ends sums (test-is ∙ a)
-                  ∙ ap (λ (z : ℕ). placeOf (stageOf z (map (blockMaxScore 128 f32) (secondariesIn x places₃))) (loadLeader 128 (seekBlock 128 d ld)) (secondariesIn x places₃)) block-is
-                  ∙ ap (λ (z : List Float). placeOf (stageOf (cursorAt (h′ .places) q .dec) z) (loadLeader 128 (seekBlock 128 d ld)) (secondariesIn x places₃)) (sym (gathered .bounds-are))
-                  ∙ ap (λ (z : Scorer Float). placeOf (stageOf (cursorAt (h′ .places) q .dec) (boundsOf x bounds₃)) z (secondariesIn x places₃)) loaded-is
-                  ∙ ap (λ (z : List (Scorer Float)). placeOf (stageOf (cursorAt (h′ .places) q .dec) (boundsOf x bounds₃)) (leaderIn x (h′ .places)) z) secs-then,
+                    ∙ ap (λ (z : ℕ). placeOf (stageOf z (map (blockMaxScore 128 f32) (secondariesIn x places₃))) (loadLeader 128 (seekBlock 128 d ld)) (secondariesIn x places₃)) block-is
+                    ∙ ap (λ (z : List Float). placeOf (stageOf (cursorAt (h′ .places) q .dec) z) (loadLeader 128 (seekBlock 128 d ld)) (secondariesIn x places₃)) (sym (gathered .bounds-are))
+                    ∙ ap (λ (z : Scorer Float). placeOf (stageOf (cursorAt (h′ .places) q .dec) (boundsOf x bounds₃)) z (secondariesIn x places₃)) loaded-is
+                    ∙ ap (λ (z : List (Scorer Float)). placeOf (stageOf (cursorAt (h′ .places) q .dec) (boundsOf x bounds₃)) (leaderIn x (h′ .places)) z) secs-then,
                 small,
               );
             }
