@@ -1,1 +1,4 @@
 -- Laws of the intersection's run that belong to no one function.
+pub mod Turning
+pub mod Going
+pub mod Beginning
