@@ -32,6 +32,18 @@ over-is x places floats (Within c) = refl
 over-is x places floats (Called c) = refl
 over-is x places floats Over = refl
 
+-- the same query, its number of scorers as another says it
+abbrev pub withLen : Query → ℕ → Query
+withLen x n = record {
+  norms = x .norms;
+  scoring = x .scoring;
+  file = x .file;
+  lists = x .lists;
+  caches = x .caches;
+  len = n;
+  order = x .order;
+}
+
 module _ (x : Query) (t : Float) (turns : ℕ) (v₀ : Intersection) (h₀ : Held) (floats₀ : List (List Float)) where
   abbrev from : InterPlace Float
   from = placeOf x v₀ (h₀ .places) floats₀
@@ -43,6 +55,9 @@ module _ (x : Query) (t : Float) (turns : ℕ) (v₀ : Intersection) (h₀ : Hel
 
   pub going : Stands x v₀ h₀ floats₀ → Going 0 v₀ h₀ floats₀
   going S = record { stands = S; few = omega arith; quiet = none-yet interTurn interEnded t from }
+
+  pub stands-here : {taken : ℕ} {v : Intersection} {h : Held} {floats : List (List Float)} → Going taken v h floats → Stands (withLen x (v .len)) v h floats
+  stands-here {v = v} {h = h} {floats = floats} G = subst (λ (n : ℕ). Stands (withLen x n) v h floats) (sym (G .stands .len-is)) (G .stands)
 
   abbrev Gone-to : Gone → Held → List (List Float) → Type 0
   Gone-to r h floats = Goes x t turns v₀ h₀ floats₀ r h floats
@@ -69,7 +84,10 @@ module _ (x : Query) (t : Float) (turns : ℕ) (v₀ : Intersection) (h₀ : Hel
         pub more : taken < turns
         more = lt-of-ne (G .few) n
 
-        module _ {r : Turned} {h′ : Held} {floats′ : List (List Float)} (T : TakesTurn x t v h floats r h′ floats′) where
+        module _ {r : Turned} {h′ : Held} {floats′ : List (List Float)} (T′ : TakesTurn (withLen x (v .len)) t v h floats r h′ floats′) where
+          T : TakesTurn x t v h floats r h′ floats′
+          T = subst (λ (n : ℕ). TakesTurn (withLen x n) t v h floats r h′ floats′) (G .stands .len-is) T′
+
           pub goes-on : r .due ≡ Nothing → Going (taken + 1) (r .intersection) h′ floats′
           goes-on d = record {
             stands = T .stands;

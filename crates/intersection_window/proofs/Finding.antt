@@ -11,6 +11,7 @@ use lib.Ieee.{Float}
 use borrow.Author.Tests.{le-ltb, lt-ltb, ltb-false, ltb-true}
 use Rattle.arrays.proofs.Order.{lt-or-ge}
 use Rattle.block_search.specs.Search.{countBelow}
+use Rattle.block_search.specs.Inner.Segments.{Sorted}
 use Rattle.block_search.proofs.Segments.{at-most, place-test}
 use Rattle.route.specs.F32.{f32}
 use Rattle.route.specs.Report.{Report}
@@ -57,8 +58,11 @@ module _ (scoring : Scoring) {file : List ℕ} {lists : List (List ℕ)} {h : He
   found : (d : ℕ) → findIn l d 128 (start 128 b) ≡ start 128 b + countBelow 128 docs d
   found d = find-is (S .list) decoded d scoring
 
+  pub block-sorted : Sorted docs
+  block-sorted = decoded-sorted (S .list) decoded
+
   pub few-below : (d : ℕ) → countBelow 128 docs d ≤ 128
-  few-below d = at-most docs (decoded-sorted (S .list) decoded) d
+  few-below d = at-most docs block-sorted d
 
   -- the candidates of a window from document d on
   pub first-candidates : (ts : Float) (d e : ℕ) {from : ℕ} → from ≡ countBelow 128 docs d → candidatesIn 128 f32 l ts b d e ≡ candidatesLeft l b ts e from
@@ -91,7 +95,7 @@ module _ (scoring : Scoring) {file : List ℕ} {lists : List (List ℕ)} {h : He
         doc-at = doc-there ∙ sym (doc-is file part scoring p)
 
         test-is : ltb doc (suc e) ≡ ltb i below
-        test-is = ap (λ (z : ℕ). ltb z (suc e)) ed ∙ place-test docs (decoded-sorted (S .list) decoded) (suc e) i hi
+        test-is = ap (λ (z : ℕ). ltb z (suc e)) ed ∙ place-test docs block-sorted (suc e) i hi
 
         pub window-ends : e < doc → candidatesLeft l b ts e i ≡ []
         window-ends k =

@@ -1,90 +1,107 @@
-use borrow.Author.Needs.{needs}
+-- `window_turn` meets its contract: a window is the route's, and an open one has its candidates and sums.
 use native.Mathlib.Omega.{arith}
 use borrow.Author.Needs.{needs}
+use Rattle.intersection_window.proofs.Seats.{slot-small}
+use Rattle.intersection_window.proofs.Finding.{block-sorted}
+use Rattle.block_wand_intersection.proofs.Turning.{ends-windows, low-end, rows-there, window-low, window-open, window-over}
 use Rattle.block_wand_intersection.proofs.turn.window_turn.Statement.{statement}
 use Rattle.block_wand_intersection.proofs.turn.window_turn.Tie as tie
-use Rattle.block_wand_intersection.proofs.turn.window_turn.Reads as reads
-use Rattle.block_wand_intersection.proofs.turn.window_turn.Lts as lts
-use Rattle.block_search.proofs.search_block.Reads as search-block-reads
-use Rattle.block_wand_intersection.proofs.turn.quiet.Reads as quiet-reads
-use Rattle.intersection_window.proofs.window.next_window.Reads as next-window-reads
-use Rattle.intersection_window.proofs.window.sum_rests.Reads as sum-rests-reads
 
--- src/turn.rt:138:9
+-- the places that the answers look back to
+abbrev start : tie.After-next-window → tie.Start
+start n = n .before .before .before .before .before .before .before
+
+abbrev opened : tie.After-sum-rests → tie.After-window2
+opened u = u .before .before .before
+
 quiet-requires : tie.Need-quiet-requires
 quiet-requires c κs = search needs
 
--- src/turn.rt:138:9
 returns : tie.Need-returns
-returns c = search needs
+returns c =
+    let a = c .before .before .before in
+    ends-windows _ (a .args .threshold) (a .pre .0) (a .pre .1) (c .before .if1 .taken) (c .quiet .ensures)
 
--- src/turn.rt:152:9
 index-1-next-window : tie.Need-index-1-next-window
 index-1-next-window c = search needs
 
--- src/turn.rt:140:9
 next-window-requires : tie.Need-next-window-requires
 next-window-requires c κs = search needs
 
--- src/turn.rt:155:39
 enum-told : tie.Need-enum-told
 enum-told c = search needs
 
--- src/turn.rt:155:25
 quiet-requires-2 : tie.Need-quiet-requires-2
 quiet-requires-2 c κs = search needs
 
--- src/turn.rt:156:21
 enum-known-window : tie.Need-enum-known-window
 enum-known-window c = search needs
 
--- src/turn.rt:156:45
 add-quiet : tie.Need-add-quiet
-add-quiet c = search needs
+add-quiet c =
+    let w = c .before in
+    let n = w .before .before in
+    let a = start n in
+    record { fits = omega (arith, low-end _ (a .args .threshold) (a .pre .0) (a .pre .1) (n .next-window .ensures) (w .window .given .1)) }
 
--- src/turn.rt:156:36
 quiet-requires-3 : tie.Need-quiet-requires-3
 quiet-requires-3 c κs = search needs
 
--- src/turn.rt:157:22
 enum-known-window-2 : tie.Need-enum-known-window-2
 enum-known-window-2 c = search needs
 
--- src/turn.rt:158:13
 sum-rests-requires : tie.Need-sum-rests-requires
-sum-rests-requires c κs = search needs
+sum-rests-requires c κs =
+    let n = c .before .before .before .before in
+    let a = start n in
+    let O = a .pre .0 .order in
+    (O .leader, O .few, O .long, (λ i h. slot-small O h), rows-there _ (a .args .threshold) (a .pre .0) (a .pre .1) (n .next-window .ensures))
 
--- src/turn.rt:159:26
 element-copy-out-leader : tie.Need-element-copy-out-leader
 element-copy-out-leader c = search needs
 
--- src/turn.rt:160:37
 mul-search-block : tie.Need-mul-search-block
-mul-search-block c = search needs
+mul-search-block c =
+    let O = start (opened (c .before) .before .before) .pre .0 .order in
+    omega (arith, slot-small O (O .leader))
 
--- src/turn.rt:160:37
 index-1-search-block : tie.Need-index-1-search-block
-index-1-search-block c = search needs
+index-1-search-block c =
+    let O = start (opened (c .before) .before .before) .pre .0 .order in
+    omega (arith, slot-small O (O .leader))
 
--- src/turn.rt:160:17
 search-block-requires : tie.Need-search-block-requires
-search-block-requires c κs = search needs
+search-block-requires c κs =
+    let n = opened (c .before .before) .before .before in
+    let a = start n in
+    let O = a .pre .0 .order in
+    block-sorted (a .args .similarity .scoring) (n .next-window .ensures .ready .seated .slot _ (O .below 0 (O .leader)))
 
--- src/turn.rt:166:13
 quiet-requires-4 : tie.Need-quiet-requires-4
 quiet-requires-4 c κs = search needs
 
--- src/turn.rt:114:1
 returns-2 : tie.Need-returns-2
-returns-2 c = search needs
+returns-2 c =
+    let m = c .before in
+    let n = m .before .before in
+    let a = start n in
+    window-over _ (a .args .threshold) (a .pre .0) (a .pre .1) (n .next-window .ensures) (m .enum-told .given .1) (c .quiet2 .ensures)
 
--- src/turn.rt:114:1
 returns-3 : tie.Need-returns-3
-returns-3 c = search needs
+returns-3 c =
+    let w = c .before .before in
+    let n = w .before .before in
+    let a = start n in
+    window-low _ (a .args .threshold) (a .pre .0) (a .pre .1) (n .next-window .ensures) (w .window .given .1) (c .quiet3 .ensures)
 
--- src/turn.rt:114:1
 returns-4 : tie.Need-returns-4
-returns-4 c = search needs
+returns-4 c =
+    let b = c .before in
+    let u = b .before .before .before in
+    let w = opened u in
+    let n = w .before .before in
+    let a = start n in
+    window-open _ (a .args .threshold) (a .pre .0) (a .pre .1) (n .next-window .ensures) (w .window2 .given .1) (u .sum-rests .ensures) (b .search-block .ensures) (c .quiet4 .ensures)
 
 pub window-turn-spec : {M : Type 1} → statement M
 window-turn-spec =
