@@ -13,7 +13,6 @@ use Rattle.route.specs.Ordering.{sortBy}
 use Rattle.route.specs.Score.{sum, sumFrom}
 use Rattle.route.specs.Cursor.{Cursor, fresh}
 use Rattle.route.specs.Scorer.{Scorer, docOf, scorersFrom, sizeHint}
-use Rattle.route.specs.Route.{Route}
 use Rattle.route.specs.Intersection.{early, leaderRoute}
 use Rattle.route.specs.Plain.{intersection}
 use Rattle.route.specs.Skipping.{ofTwo, route}
@@ -25,11 +24,11 @@ use Rattle.decoded.specs.Lists.{listOf}
 use Rattle.postings.specs.Inner.Decoded.{doc-is}
 use Rattle.slot_rows.specs.Inner.Rows.{partIn}
 use Rattle.term_scorer.specs.Inner.Slots.{Held, cursorAt, listsFrom, partAt, slotsFrom}
-use Rattle.intersection_window.specs.Inner.Scorers.{InOrder, Query, Ready, SlotsIn, leaderIn, listIn, placeAt, scorerAt, scorersBetween, secondariesIn, slotAt}
+use Rattle.intersection_window.specs.Inner.Scorers.{InOrder, Query, SlotsIn, leaderIn, listIn, placeAt, scorerAt, secondariesIn, slotAt}
 use Rattle.intersection_window.specs.Inner.Sizes.{BySize, sizeIn}
 use Rattle.intersection_window.proofs.Parts.{part-first, part-none}
-use Rattle.intersection_window.proofs.Seats.{cur-small, doc-here}
-use Rattle.block_wand_intersection.specs.Inner.Stands.{Stands, maxSum}
+use Rattle.intersection_window.proofs.Seats.{doc-here}
+use Rattle.block_wand_intersection.specs.Inner.Stands.{maxSum}
 use Rattle.block_wand_intersection.specs.Inner.Beginnings.{Begins, FreshSlots, Listed}
 use Rattle.block_wand_intersection.specs.declared.Intersection.{Intersection}
 use Rattle.block_wand_intersection.specs.declared.Stage.the-variants.{Early}

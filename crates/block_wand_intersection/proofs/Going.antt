@@ -9,7 +9,6 @@ use lib.Ieee.{Float}
 use Rattle.route.specs.Intersection.{InterPlace, isOver}
 use Rattle.route.proofs.Cases.{lt-of-ne}
 use Rattle.reports.specs.Inner.Turns.{Went}
-use Rattle.reports.specs.declared.Event.{Event}
 use Rattle.reports.specs.declared.Event.the-variants.{Over as Ended, Paused, Report}
 use Rattle.reports.proofs.TurnLaws.{Quietly, at-end, at-pause, at-report, none-yet, one-more}
 use Rattle.term_scorer.specs.Inner.Slots.{Held}
@@ -20,7 +19,6 @@ use Rattle.block_wand_intersection.specs.declared.Gone.{Gone}
 use Rattle.block_wand_intersection.specs.declared.Intersection.{Intersection}
 use Rattle.block_wand_intersection.specs.declared.Stage.{Stage}
 use Rattle.block_wand_intersection.specs.declared.Stage.the-variants.{Called, Early, Over, Window, Within}
-use Rattle.block_wand_intersection.specs.declared.turn.Due.{Due}
 use Rattle.block_wand_intersection.specs.declared.turn.Due.the-variants.{Nothing, Report as Reports}
 use Rattle.block_wand_intersection.specs.declared.turn.Turned.{Turned}
 

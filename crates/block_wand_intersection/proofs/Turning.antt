@@ -1,9 +1,9 @@
 -- One turn in the tables is one turn of the route: the exits, a window, a candidate.
-use mathlib.Core.Bool.{cond, false, true}
-use mathlib.Core.List.{List, [], _∷_}
+use mathlib.Core.Bool.{cond}
+use mathlib.Core.List.{List, []}
 use mathlib.Core.Option.{Option, none, some}
 use mathlib.Core.Path.{ap, refl, subst, sym, _∙_, _≡_}
-use Prim.Native.Nat.{suc, ℕ, _+_, _≤_}
+use Prim.Native.Nat.{ℕ, _+_, _≤_}
 use native.Mathlib.Numerals.{add-one}
 use native.Mathlib.Omega.{arith}
 use lib.ListN.{drop, getD, length, length-set, set, take}
@@ -22,7 +22,7 @@ use Rattle.route.proofs.Cases.{on-test}
 use Rattle.slot_rows.specs.Inner.Rows.{cursorIn}
 use Rattle.term_scorer.specs.Inner.Slots.{Held, cursorAt}
 use Rattle.intersection_window.specs.Inner.Scorers.{Query, Ready, leaderIn, listIn, placeAt, scorerAt, secondariesIn, slotAt}
-use Rattle.intersection_window.specs.Inner.Candidates.{Finds, FindsBy, Rests, Tries, behind, candidateOf, leftIn, reportOf}
+use Rattle.intersection_window.specs.Inner.Candidates.{Finds, FindsBy, Rests, Tries, behind, candidateOf, leftIn}
 use Rattle.intersection_window.specs.Inner.Windows.{FloatRows, Sums, Turns, Windowed, boundsOf, boundsRow, restsRow}
 use Rattle.intersection_window.specs.declared.candidate.Candidate.{Candidate}
 use Rattle.intersection_window.specs.declared.candidate.Candidate.the-variants.{Due as DueWith, Passed}
@@ -34,7 +34,7 @@ use Rattle.intersection_window.specs.declared.window.Window.{Window as Answer}
 use Rattle.intersection_window.specs.declared.window.Window.the-variants.{Low, Open as Opened, Over as RunOut}
 use Rattle.intersection_window.proofs.Gathering.{map-map}
 use Rattle.intersection_window.proofs.Finding.{few-below, first-candidates}
-use Rattle.block_wand_intersection.specs.Inner.Stands.{Open, StageKept, Stands, leftAt, maxSum, placeOf, stageOf}
+use Rattle.block_wand_intersection.specs.Inner.Stands.{Open, StageKept, Stands, leftAt, maxSum, stageOf}
 use Rattle.block_wand_intersection.specs.Inner.Turns.{TakesTurn, behindCandidate, interTurn, movedTo, quietly}
 use Rattle.block_wand_intersection.specs.declared.Intersection.{Intersection}
 use Rattle.block_wand_intersection.specs.declared.Stage.{Stage}

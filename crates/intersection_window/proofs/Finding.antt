@@ -29,7 +29,7 @@ use Rattle.postings.proofs.Blocks.{decoded-sorted}
 use Rattle.postings.proofs.Moves.{find-is}
 use Rattle.slot_rows.specs.Inner.Rows.{cursorIn, postingsIn}
 use Rattle.term_scorer.specs.Inner.Slots.{Held, SlotIn, cursorAt, listAt, partAt}
-use Rattle.intersection_window.specs.Inner.Candidates.{Finds, behind, candidatesLeft, leftIn}
+use Rattle.intersection_window.specs.Inner.Candidates.{Finds, candidatesLeft, leftIn}
 use Rattle.intersection_window.specs.declared.leader.Candidates.{Candidates}
 use Rattle.intersection_window.specs.declared.leader.Next.the-variants.{At, Nowhere}
 

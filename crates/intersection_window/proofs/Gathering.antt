@@ -9,16 +9,14 @@ use native.Mathlib.Omega.{arith}
 use lib.Dec.{ltb}
 use lib.ListN.{drop, getD, length, take}
 use lib.Ieee.{Float, nan}
-use borrow.Author.Tests.{le-ltb, ltb-false}
 use Rattle.arrays.proofs.Order.{lt-or-ge}
 use Rattle.route.specs.F32.{f32}
 use Rattle.route.specs.Score.{sumFrom}
-use Rattle.route.specs.Postings.{Postings, TERMINATED, lastDoc, start}
-use Rattle.route.specs.Cursor.{Cursor, seekBlockIn, skipTo}
+use Rattle.route.specs.Postings.{start}
+use Rattle.route.specs.Cursor.{Cursor, seekBlockIn}
 use Rattle.route.specs.Scorer.{Scorer, blockMaxScore, lastDocInBlock, seekBlock}
 use Rattle.route.specs.Union.{leastLastDoc}
 use Rattle.route.specs.Intersection.{allRemain, hasRemainingDocs, seekBlockAll}
-use Rattle.route.proofs.Cases.{on-test}
 use Rattle.decoded.specs.Lists.{listOf}
 use Rattle.slot_rows.specs.Inner.Rows.{cursorIn}
 use Rattle.term_scorer.specs.Inner.Slots.{Held, MovedSlot, cursorAt, held, lastAt, listAt, partAt}

@@ -52,12 +52,15 @@ behindCandidate v c p (DueWith score) = record { intersection = movedTo v (v .do
 
 module _ (x : Query) (t : Float) where
   -- one turn, from what stood before
-  pub record TakesTurn (v : Intersection) (h : Held) (floats : List (List Float)) (r : Turned) (h′ : Held) (floats′ : List (List Float)) : Type 0 where
+  pub record TakesTurn (v : Intersection) (h : Held) (floats : List (List Float))
+      (r : Turned) (h′ : Held) (floats′ : List (List Float)) : Type 0 where
     pub stands : Stands x (r .intersection) h′ floats′
     pub next-is : interTurn t (placeOf x v (h .places) floats) .next ≡ placeOf x (r .intersection) (h′ .places) floats′
     pub due-is : interTurn t (placeOf x v (h .places) floats) .due ≡ dueOf (r .due)
 
   -- `turns` turns at most: a run stands where the route does after those that were taken
-  pub record Goes (turns : ℕ) (v : Intersection) (h : Held) (floats : List (List Float)) (r : Gone) (h′ : Held) (floats′ : List (List Float)) : Type 0 where
+  pub record Goes (turns : ℕ) (v : Intersection) (h : Held) (floats : List (List Float))
+      (r : Gone) (h′ : Held) (floats′ : List (List Float)) : Type 0 where
     pub stands : Stands x (r .intersection) h′ floats′
-    pub went : Went interTurn interEnded t (placeOf x v (h .places) floats) turns (r .taken) (placeOf x (r .intersection) (h′ .places) floats′) (r .event)
+    pub went : Went interTurn interEnded t (placeOf x v (h .places) floats) turns (r .taken)
+        (placeOf x (r .intersection) (h′ .places) floats′) (r .event)
