@@ -1,4 +1,4 @@
 -- What the functions below the entry points keep and leave: invariants of the code, which a reader of 01 need not believe.
-pub mod Walks
-pub mod Steps
-pub mod Queries
+pub mod Stands
+pub mod Turns
+pub mod Beginnings

@@ -1,2 +1,2 @@
--- What the contracts of `block_wand_intersection` cite.
+-- What the contracts of the intersection's run cite.
 pub mod Inner

@@ -1,63 +1,108 @@
-// The intersection's skipping run: windows in which all block bounds hold, and in each the leader's candidates
-// against the secondaries.
-mod run;
-mod walk;
+// The intersection's skipping run, by turns: windows in which all block bounds hold, and in each the leader's candidates
+// against the secondaries. A run goes on from where it stands, and what it needs to do so stands in lent tables and a small struct.
+pub mod begin;
+mod turn;
 
-use bm25::Scoring;
-use fieldnorm::FieldNormReader;
-use intersection_window::order::by_size;
-use rule::Rule;
-use run::Ended;
-use run::run_in_order;
+use intersection_window::leader::Candidates;
+use reports::Event;
+use term_scorer::Floats;
+use term_scorer::score::Similarity;
+use turn::Due;
+use turn::is_over;
+use turn::turn;
+ghost use mathlib.Core.Path.{_≡_};
 ghost use Rattle.arrays.specs.Lent.{before, after};
-ghost use Rattle.rule.specs.Inner.Follows.{Keeps};
 ghost use Rattle.term_scorer.specs.Inner.Slots.{held};
-ghost use Rattle.block_wand_intersection.specs.Inner.Queries.{Answers, FreshLists};
+ghost use Rattle.intersection_window.specs.Inner.Scorers.{query};
+ghost use Rattle.block_wand_intersection.specs.Inner.Stands.{Stands};
+ghost use Rattle.block_wand_intersection.specs.Inner.Turns.{Goes};
 
-// `block_wand_intersection`, over n lists that are fresh in their slots: the rarest leads.
-pub fn block_wand_intersection(
+// At the early exit; at `while doc < TERMINATED`; at the candidates left of a window; behind a call of the callback; returned.
+pub enum Stage {
+    Early,
+    Window,
+    Within(Candidates),
+    Called(Candidates),
+    Over,
+}
+
+// How many scorers there are, where the window begins, `leader_max_score + secondaries_global_max_sum`, and the stage.
+pub struct Intersection {
+    pub len: usize,
+    pub doc: u32,
+    pub max_sum: f32,
+    pub stage: Stage,
+}
+
+// Where a run stands behind its turns, how many they were, and why it stands.
+pub struct Gone {
+    pub intersection: Intersection,
+    pub taken: usize,
+    pub event: Event,
+}
+
+fn standing(intersection: Intersection, taken: usize, event: Event) -> Gone
+    ensures { λ r. ⌜ r ≡ record { intersection = intersection; taken = taken; event = event } ⌝ }
+{
+    Gone {
+        intersection,
+        taken,
+        event,
+    }
+}
+
+// On by turns under one threshold: to the next report that is due, to the end, or through all turns that are allowed.
+pub fn go(
     file: &[u8],
-    norms: FieldNormReader,
-    weights: &[f32; 16],
-    caches: &[[f32; 256]; 16],
-    scoring: Scoring,
+    similarity: Similarity,
+    intersection: Intersection,
     lists: &[[usize; 8]; 16],
-    n: usize,
-    max_scores: &[f32; 16],
-    rule: Rule,
-    script: &[f32],
+    caches: &[[f32; 256]; 16],
+    threshold: f32,
+    turns: usize,
+    order: &[usize; 16],
     places: &mut [[usize; 8]; 16],
     docs: &mut [[u32; 128]; 16],
     freqs: &mut [[u32; 128]; 16],
-    bounds: &mut [f32; 16],
-    documents: &mut [u32],
-    scores: &mut [f32],
-) -> Ended
-    requires { let slots = held (now places) (now docs) (now freqs) in
-        ⌜ FreshLists scoring (now file) (now lists) n norms (now weights) (now caches) (now «max_scores») slots (now bounds)
-        × Keeps rule ⌝ }
+    floats: &mut Floats,
+) -> Gone
+    requires { let asked = query similarity (now file) (now lists) (now caches) (intersection .len) (now order) in
+        ⌜ Stands asked intersection (held (now places) (now docs) (now freqs)) (now floats) ⌝ }
     ensures { λ r.
-        ⌜ Answers scoring (before file) (before lists) n rule (before script) (before documents) (before scores)
-        r (after places) (after documents) (after scores) ⌝ }
+        let asked = query similarity (before file) (before lists) (before caches) (intersection .len) (before order) in
+        let old = held (before places) (before docs) (before freqs) in
+        let new = held (after places) (after docs) (after freqs) in
+        ⌜ Goes asked threshold turns intersection old (before floats) r new (after floats) ⌝ }
 {
-    let order = by_size(n, lists);
-    run_in_order(
-        file,
-        norms,
-        weights,
-        caches,
-        scoring,
-        lists,
-        n,
-        &order,
-        max_scores,
-        rule,
-        script,
-        places,
-        docs,
-        freqs,
-        bounds,
-        documents,
-        scores,
-    )
+    let mut v = intersection;
+    let mut taken = 0usize;
+    loop {
+        if is_over(v) {
+            return standing(v, taken, Event::Over);
+        }
+        if taken == turns {
+            return standing(v, taken, Event::Paused);
+        }
+        let turned = turn(
+            file,
+            similarity,
+            v,
+            lists,
+            caches,
+            threshold,
+            order,
+            places,
+            docs,
+            freqs,
+            floats,
+        );
+        let next = turned.intersection;
+        let due = turned.due;
+        v = next;
+        taken += 1;
+        match due {
+            Due::Report(doc, score) => return standing(v, taken, Event::Report(doc, score)),
+            Due::Nothing => {}
+        }
+    }
 }

@@ -9,16 +9,14 @@ use native.Mathlib.Omega.{arith}
 use lib.Dec.{ltb}
 use lib.ListN.{drop, getD, length, take}
 use lib.Ieee.{Float, nan}
-use borrow.Author.Tests.{le-ltb, ltb-false}
 use Rattle.arrays.proofs.Order.{lt-or-ge}
 use Rattle.route.specs.F32.{f32}
 use Rattle.route.specs.Score.{sumFrom}
-use Rattle.route.specs.Postings.{Postings, TERMINATED, lastDoc, start}
-use Rattle.route.specs.Cursor.{Cursor, seekBlockIn, skipTo}
+use Rattle.route.specs.Postings.{start}
+use Rattle.route.specs.Cursor.{Cursor, seekBlockIn}
 use Rattle.route.specs.Scorer.{Scorer, blockMaxScore, lastDocInBlock, seekBlock}
 use Rattle.route.specs.Union.{leastLastDoc}
 use Rattle.route.specs.Intersection.{allRemain, hasRemainingDocs, seekBlockAll}
-use Rattle.route.proofs.Cases.{on-test}
 use Rattle.decoded.specs.Lists.{listOf}
 use Rattle.slot_rows.specs.Inner.Rows.{cursorIn}
 use Rattle.term_scorer.specs.Inner.Slots.{Held, MovedSlot, cursorAt, held, lastAt, listAt, partAt}
@@ -44,21 +42,6 @@ least-min a b (c ∷ l) = let m : min a (min b c) ≡ min (min a b) c = omega ar
 least-is : (s : Scorer Float) (ss : List (Scorer Float)) → leastLastDoc 128 s ss ≡ leastOf (lastDocInBlock 128 s) (map (lastDocInBlock 128) ss)
 least-is s [] = refl
 least-is s (y ∷ ss) = ap (min (lastDocInBlock 128 s)) (least-is y ss) ∙ least-min (lastDocInBlock 128 s) (lastDocInBlock 128 y) (map (lastDocInBlock 128) ss)
-
--- the block that is sought ends at the document or after it
-module _ (l : Postings Float) (d : ℕ) (h : d ≤ TERMINATED) where
-  tail-covers : (b : ℕ) → l .full ≤ b → d ≤ lastDoc l 128 b
-  tail-covers b k = rw (le-ltb b (l .full) k) h
-
-  skip-covers : (n b : ℕ) → l .full ≤ b + n → d ≤ lastDoc l 128 (skipTo l 128 d n b)
-  skip-covers zero b k = tail-covers b (omega arith)
-  skip-covers (suc n) b k =
-      on-test (ltb (lastDoc l 128 b) d) (λ e. rw e (skip-covers n (suc b) (omega arith))) (λ e. rw e (ltb-false (lastDoc l 128 b) d e))
-
-  pub seek-covers : (c : Cursor) → d ≤ lastDoc l 128 (seekBlockIn l 128 d c .blk)
-  seek-covers c =
-      on-test (ltb (lastDoc l 128 (c .blk)) d) (λ e. rw e (skip-covers (l .full - c .blk) (c .blk) (omega arith)))
-      (λ e. rw e (ltb-false (lastDoc l 128 (c .blk)) d e))
 
 pub not-back : (b c : Bool) → not b ≡ c → b ≡ not c
 not-back true c e = ap not e
@@ -98,7 +81,6 @@ module _ (x : Query) (d leaderEnd : ℕ) (h₀ : Held) where
     pub remain : allRemain 128 d (secondariesIn x (h₀ .places)) ≡ allRemain 128 d (scorersBetween x (h₀ .places) i (x .len))
     pub ends : leastOf leaderEnd (map soughtLast (slots 1)) ≡ leastOf end (map soughtLast (slots i))
     pub sums : sumFrom f32 (f32 .nil) (map soughtBound (slots 1)) ≡ sumFrom f32 total (map soughtBound (slots i))
-    pub covers : d ≤ leaderEnd → d ≤ end
     pub small : end ≤ leaderEnd
 
   module _ (O : InOrder x) where
@@ -118,7 +100,6 @@ module _ (x : Query) (d leaderEnd : ℕ) (h₀ : Held) where
       remain = refl;
       ends = refl;
       sums = refl;
-      covers = λ e. e;
       small = omega arith;
     }
 
@@ -148,7 +129,6 @@ module _ (x : Query) (d leaderEnd : ℕ) (h₀ : Held) where
               bounds-are = bs;
               sum-is =
                   sym (ap (sumFrom f32 (f32 .nil)) (bs ∙ ap (map (blockMaxScore 128 f32)) same ∙ map-map (blockMaxScore 128 f32) sought (slots 1)) ∙ G .sums ∙ rw nb);
-              covers = G .covers;
               small = G .small;
             };
             run-out = λ f. absurd (true≢false f);
@@ -214,17 +194,17 @@ module _ (x : Query) (d leaderEnd : ℕ) (h₀ : Held) where
                   ∙ ap (λ (z : List (Scorer Float)). sought (slotAt x k) ∷ z) (from-place m (suc k) (omega arith) (omega arith))
                   ∙ sym (ap (seekBlockAll 128 d) (part-first (x .order) (scorerAt x (h₀ .places)) k (x .len) (omega arith) long) ∙ (let t = G .has k l (omega arith) in rw t))
 
-              ran-out : RunOut x d h₀ places₁
+              ran-out : RunOut x d h₀ places₁ bounds
               ran-out =
                   let l = G .low in
-                  record { leader = row-there 0 (O .leader) (λ z. omega arith) ∙ G .leader; secs-are = from-place (i - 1) 1 (omega arith) (omega arith) }
+                  record { ready = record { seated = seated-there; kept = kept-there; long = G .ready .long }; leader = row-there 0 (O .leader) (λ z. omega arith) ∙ G .leader; secs-are = from-place (i - 1) 1 (omega arith) (omega arith) }
 
             pub runs-out : not more ≡ true → Gathers x d leaderEnd h₀ places₁ bounds (record { remain = false; «window_end» = end; «block_max_sum» = total })
             runs-out e =
                 let t = test-is ∙ not-back more true e in
                 record { remain-is = sym (G .remain ∙ ap (allRemain 128 d) here ∙ rw t); gathered = λ f. absurd (true≢false (sym f)); run-out = λ _. ran-out t }
 
-            module _ (e : not more ≡ false) (cap : d ≤ 2147483647) {last end′ : ℕ} (el : last ≡ lastAt places₁ q) (ee : end′ ≡ min end last)
+            module _ (e : not more ≡ false) {last end′ : ℕ} (el : last ≡ lastAt places₁ q) (ee : end′ ≡ min end last)
                 {places₂ : List (List ℕ)} {bounds₂ : List Float} {b : Float} (B : Bounded (x .scoring) (x .file) (x .lists) q places₁ bounds places₂ bounds₂ b) where
               last-is : soughtLast q ≡ last
               last-is = ap (lastDocInBlock 128) (sym sought-is) ∙ last-here seated-there hq ∙ sym el
@@ -242,8 +222,6 @@ module _ (x : Query) (d leaderEnd : ℕ) (h₀ : Held) where
               pub goes-on : Gathering (i + 1) end′ (f32 .add total b) places₂ bounds₂
               goes-on =
                   let t = test-is ∙ not-back more false e in
-                  let cov = seek-covers (listIn x q) d cap (cursorAt (h₀ .places) q) in
-                  let ll : last ≡ lastDocInBlock 128 (sought q) = sym last-is in
                   record {
                     ready = known-ready x (O .few) seated-there hq B (G .ready .long) kept-there;
                     low = omega arith;
@@ -266,6 +244,5 @@ module _ (x : Query) (d leaderEnd : ℕ) (h₀ : Held) where
                     sums =
                         G .sums ∙ ap (sumFrom f32 total) (part-first (x .order) soughtBound i (x .len) hi long)
                         ∙ ap (λ (z : Float). sumFrom f32 (f32 .add total z) (map soughtBound (slots (suc i)))) (sym bound-is) ∙ (rw add-one);
-                    covers = λ z. let g = G .covers z in omega arith;
                     small = let g = G .small in omega arith;
                   }

@@ -5,5 +5,5 @@ pub mod Trying
 pub mod Gathering
 pub mod Opening
 pub mod Summing
-pub mod Hitting
+pub mod Finding
 pub mod Sorting

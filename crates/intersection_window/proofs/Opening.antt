@@ -19,11 +19,11 @@ use Rattle.slot_rows.specs.Inner.Rows.{cursorIn, firstOf}
 use Rattle.term_scorer.specs.Inner.Slots.{Held, MovedSlot, cursorAt, held, lastAt, listAt}
 use Rattle.term_scorer.specs.Inner.Weights.{Bounded}
 use Rattle.intersection_window.specs.Inner.Scorers.{BoundsKept, InOrder, Query, Ready, SlotsIn, leaderIn, listIn, scorerAt, secondariesIn, slotAt}
-use Rattle.intersection_window.specs.Inner.Windows.{Gathered, Gathers, Windowed, boundsOf}
+use Rattle.intersection_window.specs.Inner.Windows.{Gathered, Gathers, Turns, boundsOf}
 use Rattle.intersection_window.specs.declared.window.Secondaries.{Secondaries}
 use Rattle.intersection_window.specs.declared.window.Window.the-variants.{Low, Open, Over}
 use Rattle.intersection_window.proofs.Seats.{known-cursor, known-only, known-ready, last-here, last-low, moved-only, others-stay, scorer-is, still-kept, still-seated}
-use Rattle.intersection_window.proofs.Gathering.{not-back, seek-covers}
+use Rattle.intersection_window.proofs.Gathering.{not-back}
 
 all-sought : (d : ℕ) (ss : List (Scorer Float)) → allRemain 128 d ss ≡ true → seekBlockAll 128 d ss ≡ map (seekBlock 128 d) ss
 all-sought d [] e = refl
@@ -101,13 +101,17 @@ module _ (x : Query) (O : InOrder x) (t : Float) (d : ℕ) (live : d < 214748364
         remain-is : allRemain 128 d ss ≡ r .remain
         remain-is = sym (G .remain-is ∙ ap (allRemain 128 d) secs-stay)
 
-        pub window-over : not (r .remain) ≡ true → Windowed x t d h Over (held places₃ (h .docs) (h .freqs)) bounds₃
+        pub window-over : not (r .remain) ≡ true → Turns x t d h Over (held places₃ (h .docs) (h .freqs)) bounds₃
         window-over e =
             let none = not-back (r .remain) true e in
             let U = G .run-out none in
-            turn-over t d ld ss live (remain-is ∙ none)
-            ∙ ap (λ (z : Scorer Float). record { stage = over; doc = d; leader = z; secs = seekBlockAll 128 d ss }) (sym (leader-still (U .leader)))
-            ∙ ap (λ (z : List (Scorer Float)). record { stage = over; doc = d; leader = leaderIn x places₃; secs = z }) (sym (U .secs-are ∙ ap (seekBlockAll 128 d) secs-stay))
+            record {
+              ready = U .ready;
+              turned =
+                  turn-over t d ld ss live (remain-is ∙ none)
+                  ∙ ap (λ (z : Scorer Float). record { stage = over; doc = d; leader = z; secs = seekBlockAll 128 d ss }) (sym (leader-still (U .leader)))
+                  ∙ ap (λ (z : List (Scorer Float)). record { stage = over; doc = d; leader = leaderIn x places₃; secs = z }) (sym (U .secs-are ∙ ap (seekBlockAll 128 d) secs-stay));
+            }
 
         module _ (e : not (r .remain) ≡ false) where
           pub gathered : Gathered x d last (held places₂ (h .docs) (h .freqs)) places₃ bounds₃ r
@@ -140,20 +144,17 @@ module _ (x : Query) (O : InOrder x) (t : Float) (d : ℕ) (live : d < 214748364
           test-is : f32 .above (f32 .add (blockMaxScore 128 f32 (seekBlock 128 d ld)) total) t ≡ f32 .above (f32 .add b total) t
           test-is = ap (λ (z : Float). f32 .above (f32 .add z total) t) bound-is
 
-          covers : d ≤ end
-          covers = gathered .covers (let c = seek-covers (listIn x q) d (omega arith) (cursorAt (h .places) q) in omega (arith, last-is))
-
           small : end ≤ 2147483647
           small = omega (arith, gathered .small, el, last-low (ready-there .seated) hq)
 
-          pub window-low : f32 .above (f32 .add b total) t ≡ false → Windowed x t d h (Low end) (held places₃ (h .docs) (h .freqs)) bounds₃
+          pub window-low : f32 .above (f32 .add b total) t ≡ false → Turns x t d h (Low end) (held places₃ (h .docs) (h .freqs)) bounds₃
           window-low a = record {
             ready = gathered .ready;
-            turn-is =
-                turn-low t d ld ss live all secs-are ends sums (test-is ∙ a)
-                ∙ ap (λ (z : Scorer Float). record { stage = window; doc = suc end; leader = z; secs = secondariesIn x places₃ }) (sym leader-then);
-            covers = covers;
-            small = small;
+            turned = (
+              turn-low t d ld ss live all secs-are ends sums (test-is ∙ a)
+                  ∙ ap (λ (z : Scorer Float). record { stage = window; doc = suc end; leader = z; secs = secondariesIn x places₃ }) (sym leader-then),
+              small,
+            );
           }
 
           module _ (a : f32 .above (f32 .add b total) t ≡ true) {h′ : Held} {first : ℕ}
@@ -164,8 +165,8 @@ module _ (x : Query) (O : InOrder x) (t : Float) (d : ℕ) (live : d < 214748364
             cursor-is : cursorAt (h′ .places) q ≡ firstOf (cursorAt places₃ q)
             cursor-is = L .moved .cursor-is (x .scoring)
 
-            block-is : seekBlock 128 d ld .cur .blk ≡ cursorAt (h′ .places) q .blk
-            block-is = ap (λ (z : Scorer Float). z .cur .blk) (sym leader-then) ∙ sym (ap (λ (c : Cursor). c .blk) cursor-is)
+            block-is : seekBlock 128 d ld .cur .blk ≡ cursorAt (h′ .places) q .dec
+            block-is = ap (λ (z : Scorer Float). z .cur .blk) (sym leader-then) ∙ sym (ap (λ (c : Cursor). c .dec) cursor-is)
 
             loaded-is : loadLeader 128 (seekBlock 128 d ld) ≡ leaderIn x (h′ .places)
             loaded-is = ap (loadLeader 128) (sym leader-then) ∙ sym (scorer-is x S hq L)
@@ -179,16 +180,15 @@ module _ (x : Query) (O : InOrder x) (t : Float) (d : ℕ) (live : d < 214748364
             abbrev placeOf : Stage Float → Scorer Float → List (Scorer Float) → InterPlace Float
             placeOf stage leader secs = record { stage = stage; doc = d; leader = leader; secs = secs }
 
-            pub window-open : Windowed x t d h (Open end total) h′ bounds₃
+            pub window-open : Turns x t d h (Open end total) h′ bounds₃
             window-open = record {
               ready = record { seated = still-seated x S hq L; kept = still-kept x S hq L bounds₃ (gathered .ready .kept); long = gathered .ready .long };
-              turn-is =
-                  turn-open t d ld ss live all secs-are ends sums (test-is ∙ a)
-                  ∙ ap (λ (z : ℕ). placeOf (stageOf z (map (blockMaxScore 128 f32) (secondariesIn x places₃))) (loadLeader 128 (seekBlock 128 d ld)) (secondariesIn x places₃)) block-is
-                  ∙ ap (λ (z : List Float). placeOf (stageOf (cursorAt (h′ .places) q .blk) z) (loadLeader 128 (seekBlock 128 d ld)) (secondariesIn x places₃)) (sym (gathered .bounds-are))
-                  ∙ ap (λ (z : Scorer Float). placeOf (stageOf (cursorAt (h′ .places) q .blk) (boundsOf x bounds₃)) z (secondariesIn x places₃)) loaded-is
-                  ∙ ap (λ (z : List (Scorer Float)). placeOf (stageOf (cursorAt (h′ .places) q .blk) (boundsOf x bounds₃)) (leaderIn x (h′ .places)) z) secs-then;
-              loaded = ap (λ (c : Cursor). c .dec) cursor-is ∙ sym (ap (λ (c : Cursor). c .blk) cursor-is);
-              covers = covers;
-              small = small;
+              turned = (
+                turn-open t d ld ss live all secs-are ends sums (test-is ∙ a)
+                    ∙ ap (λ (z : ℕ). placeOf (stageOf z (map (blockMaxScore 128 f32) (secondariesIn x places₃))) (loadLeader 128 (seekBlock 128 d ld)) (secondariesIn x places₃)) block-is
+                    ∙ ap (λ (z : List Float). placeOf (stageOf (cursorAt (h′ .places) q .dec) z) (loadLeader 128 (seekBlock 128 d ld)) (secondariesIn x places₃)) (sym (gathered .bounds-are))
+                    ∙ ap (λ (z : Scorer Float). placeOf (stageOf (cursorAt (h′ .places) q .dec) (boundsOf x bounds₃)) z (secondariesIn x places₃)) loaded-is
+                    ∙ ap (λ (z : List (Scorer Float)). placeOf (stageOf (cursorAt (h′ .places) q .dec) (boundsOf x bounds₃)) (leaderIn x (h′ .places)) z) secs-then,
+                small,
+              );
             }

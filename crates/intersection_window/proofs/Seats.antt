@@ -23,7 +23,7 @@ use Rattle.postings.proofs.Readers.{end-is}
 use Rattle.slot_rows.specs.Inner.Rows.{PlaceIn, cursorIn}
 use Rattle.slot_rows.proofs.Rows.{bound-in, cur-inside, doc-in-array, last-is, last-small}
 use Rattle.term_scorer.specs.Inner.Slots.{Held, MovedSlot, Shallowed, Sixteen, SlotIn, StandingIn, cursorAt, held, lastAt, partAt}
-use Rattle.term_scorer.specs.Inner.Weights.{Bounded, BoundKept}
+use Rattle.term_scorer.specs.Inner.Weights.{Bounded, BoundKept, FloatRow}
 use Rattle.intersection_window.specs.Inner.Scorers.{InOrder, Query, Ready, SlotsIn, StillKept, BoundsKept, Unmoved, listIn, scorerAt, scorersBetween, slotAt}
 use Rattle.intersection_window.proofs.Parts.{part-same}
 
@@ -145,21 +145,21 @@ module _ (x : Query) (few : x .len ≤ 16) {h : Held} (S : SlotsIn x h) {q : ℕ
   abbrev h′ : Held
   h′ = held places′ (h .docs) (h .freqs)
 
-  row-there : getD places′ q [] ≡ set (getD (h .places) q []) 7 1
-  row-there = let s = S .sixteen .0 in ap (λ (z : List (List ℕ)). getD z q []) (B .places-are) ∙ getD-set-same (h .places) q (set (getD (h .places) q []) 7 1) [] (omega arith)
+  row-there : getD places′ q [] ≡ set (getD (h .places) q []) 7 (B .flag)
+  row-there = let s = S .sixteen .0 in ap (λ (z : List (List ℕ)). getD z q []) (B .places-are) ∙ getD-set-same (h .places) q (set (getD (h .places) q []) 7 (B .flag)) [] (omega arith)
 
   pub known-only : Only q h h′
   known-only r n = record { place = other (h .places) places′ q r _ (B .places-are) n; docs = refl; freqs = refl }
 
   pub known-cursor : cursorAt places′ q ≡ cursorAt (h .places) q
-  known-cursor = ap cursorIn row-there ∙ bound-in (x .file) (partAt (x .lists) q) (S .slot q hq .place) .1
+  known-cursor = ap cursorIn row-there ∙ bound-in (x .file) (partAt (x .lists) q) (B .flag) (S .slot q hq .place) .1
 
   known-seated : SlotsIn x h′
   known-seated =
       seated-by x S hq (ap length (B .places-are) ∙ length-set (h .places) q _ ∙ S .sixteen .0, S .sixteen .1, S .sixteen .2) known-only
-      (rw row-there (bound-in (x .file) (partAt (x .lists) q) (S .slot q hq .place) .0))
+      (rw row-there (bound-in (x .file) (partAt (x .lists) q) (B .flag) (S .slot q hq .place) .0))
 
-  module _ (long : Sixteen bounds) where
+  module _ (long : FloatRow bounds) where
     pub known-bound : getD bounds′ q nan ≡ blockMax 128 f32 (listIn x q) (cursorAt (h .places) q)
     known-bound = ap (λ (z : List Float). getD z q nan) (B .bounds-are) ∙ getD-set-same bounds q b nan (omega arith) ∙ B .bound-is
 

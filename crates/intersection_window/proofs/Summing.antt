@@ -1,10 +1,10 @@
--- `sum_suffixes`' loop: the sums behind the secondaries from place i on are written.
-use mathlib.Core.List.{List, map}
+-- `sum_rests`' loop: the sums behind the secondaries from place i on are written.
+use mathlib.Core.List.{List, [], map}
 use mathlib.Core.Logic.{inl, inr}
 use mathlib.Core.Path.{ap, refl, sym, _∙_, _≡_}
 use Prim.Native.Nat.{suc, ℕ, _+_, _-_, _<_, _≤_}
 use native.Mathlib.Omega.{arith}
-use lib.ListN.{drop, getD, length-set, set, take}
+use lib.ListN.{drop, getD, length, length-set, set, take}
 use lib.Seq.{drop-drop, getD-set-other, getD-set-same}
 use lib.Ieee.{Float, nan}
 use Rattle.arrays.proofs.Order.{lt-or-ge}
@@ -12,61 +12,80 @@ use Rattle.route.specs.F32.{f32}
 use Rattle.route.specs.Score.{sumBack}
 use Rattle.ordering.proofs.Places.{map-drop}
 use Rattle.term_scorer.specs.Inner.Slots.{Sixteen}
-use Rattle.intersection_window.specs.Inner.Windows.{boundsAlong}
-use Rattle.intersection_window.specs.Inner.Candidates.{SameOutside, Suffixes}
+use Rattle.intersection_window.specs.Inner.Windows.{FloatRows, Sums, boundsRow, restsRow}
 use Rattle.intersection_window.proofs.Parts.{part-first, part-none}
 
-module _ (n : ℕ) (order : List ℕ) (bounds suffix₀ : List Float) where
+module _ (n : ℕ) (order : List ℕ) (floats₀ : List (List Float)) where
   abbrev boundAt : ℕ → Float
-  boundAt q = getD bounds q nan
+  boundAt q = getD (boundsRow floats₀) q nan
 
   -- the sum of the bounds from place i on
   abbrev sumAt : ℕ → Float
   sumAt i = sumBack f32 (map boundAt (drop i (take n order)))
 
-  pub record Summing (i : ℕ) (running : Float) (suffix : List Float) : Type 0 where
+  pub record Summing (i : ℕ) (running : Float) (floats : List (List Float)) : Type 0 where
     pub low : 1 ≤ i
     pub high : i ≤ n
     pub running-is : running ≡ sumAt i
-    pub written : (k : ℕ) → i ≤ k → k < n → getD suffix k nan ≡ sumAt (suc k)
-    pub long : Sixteen suffix
-    pub same : SameOutside n suffix₀ suffix
+    pub written : (k : ℕ) → i ≤ k → k < n → getD (restsRow floats) k nan ≡ sumAt (suc k)
+    pub same : boundsRow floats ≡ boundsRow floats₀
+    pub rows : FloatRows floats
 
-  pub begun : 0 < n → Sixteen suffix₀ → Summing n (f32 .nil) suffix₀
-  begun h l = record {
+  pub begun : 0 < n → FloatRows floats₀ → Summing n (f32 .nil) floats₀
+  begun h r = record {
     low = h;
     high = omega arith;
     running-is = sym (ap (sumBack f32) (part-none order boundAt n n (omega arith)));
     written = λ k u v. absurd (omega arith);
-    long = l;
-    same = λ k u. refl;
+    same = refl;
+    rows = r;
   }
 
-  module _ (few : n ≤ 16) (ordered : Sixteen order) {i : ℕ} {running : Float} {suffix : List Float} (S : Summing i running suffix) where
-    pub goes-on : 1 < i → Summing (i - 1) (f32 .add running (boundAt (getD order (i - 1) 0))) (set suffix (i - 1) running)
+  module _ (few : n ≤ 16) (ordered : Sixteen order) {i : ℕ} {running : Float} {floats : List (List Float)} (S : Summing i running floats) where
+    abbrev next : List (List Float)
+    next = set floats 1 (set (restsRow floats) (i - 1) running)
+
+    rests-then : restsRow next ≡ set (restsRow floats) (i - 1) running
+    rests-then = getD-set-same floats 1 (set (restsRow floats) (i - 1) running) [] (omega (arith, S .rows .three))
+
+    bounds-then : boundsRow next ≡ boundsRow floats
+    bounds-then = getD-set-other floats 1 0 (set (restsRow floats) (i - 1) running) [] (λ z. omega arith)
+
+    pub goes-on : 1 < i → Summing (i - 1) (f32 .add running (getD (boundsRow next) (getD order (i - 1) 0) nan)) next
     goes-on h =
         let j = i - 1 in
         let up = S .high in
-        let l = S .long in
+        let l = S .rows .rests in
         let e : suc j ≡ i = omega arith in
         let at : running ≡ sumAt (suc j) = S .running-is ∙ ap sumAt (sym e) in
+        let b : boundsRow next ≡ boundsRow floats₀ = bounds-then ∙ S .same in
         record {
           low = omega arith;
           high = omega arith;
-          running-is = ap (λ (z : Float). f32 .add z (boundAt (getD order j 0))) at ∙ sym (ap (sumBack f32) (part-first order boundAt j n (omega arith) (omega arith)));
-          written = λ k u v. elim (lt-or-ge j k) [
-            | inl w ↦ getD-set-other suffix j k running nan (λ z. omega arith) ∙ S .written k (omega arith) v
-            | inr w ↦
-                let z : k ≡ j = omega arith in
-                rw z (getD-set-same suffix j running nan (omega arith) ∙ at)
-          ];
-          long = length-set suffix j running ∙ l;
-          same = λ k u. getD-set-other suffix j k running nan (λ (z : k ≡ j). let m = u (omega arith) in omega arith) ∙ S .same k u;
+          running-is =
+              ap (λ (z : Float). f32 .add z (getD (boundsRow next) (getD order j 0) nan)) at ∙ ap (λ (z : List Float). f32 .add (sumAt (suc j)) (getD z (getD order j 0) nan)) b
+              ∙ sym (ap (sumBack f32) (part-first order boundAt j n (omega arith) (omega arith)));
+          written = λ k u v.
+              ap (λ (z : List Float). getD z k nan) rests-then
+              ∙ elim (lt-or-ge j k) [
+                | inl w ↦ getD-set-other (restsRow floats) j k running nan (λ z. omega arith) ∙ S .written k (omega arith) v
+                | inr w ↦
+                    let z : k ≡ j = omega arith in
+                    rw z (getD-set-same (restsRow floats) j running nan (omega arith) ∙ at)
+              ];
+          same = b;
+          rows = record {
+            three = length-set floats 1 (set (restsRow floats) j running) ∙ S .rows .three;
+            bounds = ap length bounds-then ∙ S .rows .bounds;
+            rests = ap length rests-then ∙ length-set (restsRow floats) j running ∙ l;
+          };
         }
 
-    pub ended : i ≤ 1 → Suffixes n (boundsAlong n order bounds) suffix × Sixteen suffix × SameOutside n suffix₀ suffix
-    ended h = (
-      (λ k u v. let e : suc k ≡ 1 + k = omega arith in S .written k (omega arith) v ∙ ap sumAt e ∙ ap (sumBack f32) (sym (sym (map-drop boundAt k (drop 1 (take n order))) ∙ ap (map boundAt) (drop-drop k 1 (take n order))))),
-      S .long,
-      S .same,
-    )
+    pub ended : i ≤ 1 → Sums n order floats₀ floats
+    ended h = record {
+      rests = λ k u v.
+          let e : suc k ≡ 1 + k = omega arith in
+          S .written k (omega arith) v ∙ ap sumAt e ∙ ap (sumBack f32) (sym (sym (map-drop boundAt k (drop 1 (take n order))) ∙ ap (map boundAt) (drop-drop k 1 (take n order))));
+      bounds = S .same;
+      rows = S .rows;
+    }

@@ -19,7 +19,7 @@ use Rattle.route.specs.Intersection.{Tried, dropped, pushSec, tailOf, tryCandid
 use Rattle.postings.specs.Inner.Decoded.{doc-is, docIn}
 use Rattle.term_scorer.specs.Inner.Slots.{Held, MovedSlot, cursorAt, listAt, partAt}
 use Rattle.intersection_window.specs.Inner.Scorers.{InOrder, Query, SlotsIn, StillKept, Unmoved, scorerAt, scorersBetween, secondariesIn, slotAt}
-use Rattle.intersection_window.specs.Inner.Candidates.{Suffixes, Tries, candidateOf}
+use Rattle.intersection_window.specs.Inner.Candidates.{Rests, Tries, candidateOf}
 use Rattle.intersection_window.specs.declared.candidate.Candidate.{Candidate}
 use Rattle.intersection_window.specs.declared.candidate.Candidate.the-variants.{Due, Passed}
 use Rattle.intersection_window.proofs.Parts.{part-first, part-last, part-none, part-split}
@@ -55,7 +55,7 @@ module _ (c : ℕ) (t tot : Float) (s : Scorer Float) (ss : List (Scorer Float))
 abbrev behind : List (Scorer Float) → Tried Float → Tried Float
 behind pre z = record { secs = pre ++ z .secs; found = z .found }
 
-module _ (x : Query) (c : ℕ) (score t : Float) (suffix : List Float) (h₀ : Held) where
+module _ (x : Query) (c : ℕ) (score t : Float) (rests : List Float) (h₀ : Held) where
   -- what the route makes of the secondaries from place i on
   abbrev left : ℕ → Float → Held → List Float → Tried Float
   left i total h bs = tryCandidate 128 f32 c t total (scorersBetween x (h .places) i (x .len)) (drop i (f32 .nil ∷ bs))
@@ -66,7 +66,7 @@ module _ (x : Query) (c : ℕ) (score t : Float) (suffix : List Float) (h₀ : H
     pub bounds : StillKept x (h₀ .places) (h .places)
     pub low : 1 ≤ i
     pub high : i ≤ x .len
-    pub whole : (bs : List Float) → Suffixes (x .len) bs suffix
+    pub whole : (bs : List Float) → Rests (x .len) bs rests
         → tryCandidate 128 f32 c t score (secondariesIn x (h₀ .places)) bs ≡ behind (scorersBetween x (h .places) 1 i) (left i total h bs)
 
   module _ (O : InOrder x) where
@@ -87,7 +87,7 @@ module _ (x : Query) (c : ℕ) (score t : Float) (suffix : List Float) (h₀ : H
       -- what is left has answered: the secondaries before place i are those of h still
       answers : {h′ : Held} → SlotsIn x h′ → Unmoved (slotAt x 0) h h′ → StillKept x (h .places) (h′ .places)
           → scorersBetween x (h′ .places) 1 i ≡ scorersBetween x (h .places) 1 i → {r : Candidate} (o : Option Float) → r ≡ candidateOf t o
-          → ((bs : List Float) → Suffixes (x .len) bs suffix → left i total h bs ≡ record { secs = scorersBetween x (h′ .places) i (x .len); found = o }) → Tries x c score t suffix h₀ h′ r
+          → ((bs : List Float) → Rests (x .len) bs rests → left i total h bs ≡ record { secs = scorersBetween x (h′ .places) i (x .len); found = o }) → Tries x c score t rests h₀ h′ r
       answers {h′} S u k p {r} o e a = record {
         seated = S;
         leader = unmoved-trans (T .leader) u;
@@ -101,16 +101,16 @@ module _ (x : Query) (c : ℕ) (score t : Float) (suffix : List Float) (h₀ : H
 
       -- all secondaries have it
       module _ (end : x .len ≤ i) where
-        all-have : {r : Candidate} → r ≡ candidateOf t (some total) → Tries x c score t suffix h₀ h r
+        all-have : {r : Candidate} → r ≡ candidateOf t (some total) → Tries x c score t rests h₀ h r
         all-have e =
             let nothing = part-none (x .order) (scorerAt x (h .places)) i (x .len) end in
             answers (T .seated) (unmoved (slotAt x 0) h) (λ bounds B. B) refl (some total) e
             (λ bs s. rw nothing)
 
-        pub due : f32 .above total t ≡ true → Tries x c score t suffix h₀ h (Due total)
+        pub due : f32 .above total t ≡ true → Tries x c score t rests h₀ h (Due total)
         due b = all-have (rw b)
 
-        pub not-above : f32 .above total t ≡ false → Tries x c score t suffix h₀ h Passed
+        pub not-above : f32 .above total t ≡ false → Tries x c score t rests h₀ h Passed
         not-above b = all-have (rw b)
 
       module _ (hi : i < x .len) where
@@ -133,7 +133,7 @@ module _ (x : Query) (c : ℕ) (score t : Float) (suffix : List Float) (h₀ : H
           doc-of : docOf s ≡ doc
           doc-of = doc-is (x .file) (partAt (x .lists) q) (x .scoring) (cursorAt (h .places) q .at) ∙ sym ed
 
-          pub past : c < doc → Tries x c score t suffix h₀ h Passed
+          pub past : c < doc → Tries x c score t rests h₀ h Passed
           past l =
               answers (T .seated) (unmoved (slotAt x 0) h) (λ bounds B. B) refl none refl
               (λ bs _. left-is bs ∙ try-past c t total s rest (drop i (f32 .nil ∷ bs)) (ap (ltb c) doc-of ∙ lt-ltb c doc l) ∙ ap dropped (sym here))
@@ -171,12 +171,12 @@ module _ (x : Query) (c : ℕ) (score t : Float) (suffix : List Float) (h₀ : H
                 part-first (x .order) (scorerAt x (h′ .places)) i (x .len) hi long ∙ ap (λ (z : List (Scorer Float)). s′ ∷ z) rest-stays
                 ∙ ap (λ (z : Scorer Float). z ∷ rest) sought-is
 
-            drops : ((bs : List Float) → Suffixes (x .len) bs suffix → tryCandidate 128 f32 c t total (s ∷ rest) (drop i (f32 .nil ∷ bs)) ≡ dropped (seek 128 c s ∷ rest))
-                → Tries x c score t suffix h₀ h′ Passed
+            drops : ((bs : List Float) → Rests (x .len) bs rests → tryCandidate 128 f32 c t total (s ∷ rest) (drop i (f32 .nil ∷ bs)) ≡ dropped (seek 128 c s ∷ rest))
+                → Tries x c score t rests h₀ h′ Passed
             drops a =
                 answers seated-there leader-there (still-kept x (T .seated) hq M) front-stays none refl (λ bs k. left-is bs ∙ a bs k ∙ ap dropped (sym there))
 
-            pub missed : (sought ≡ c → ⊥) → Tries x c score t suffix h₀ h′ Passed
+            pub missed : (sought ≡ c → ⊥) → Tries x c score t rests h₀ h′ Passed
             missed n = drops (λ bs _. try-missed c t total s rest (drop i (f32 .nil ∷ bs)) stays-low (ap (λ (z : ℕ). eqb z c) doc-there ∙ ne-eqb sought c n))
 
             module _ (e : sought ≡ c) {v : Float} (ev : v ≡ listAt (x .scoring) (x .file) (x .lists) q .score (cursorAt (h′ .places) q .at)) where
@@ -186,20 +186,20 @@ module _ (x : Query) (c : ℕ) (score t : Float) (suffix : List Float) (h₀ : H
               score-is : scoreHere (seek 128 c s) ≡ v
               score-is = ap scoreHere (sym sought-is) ∙ sym ev
 
-              bound-is : (bs : List Float) → Suffixes (x .len) bs suffix → sumBack f32 (tailOf (drop i (f32 .nil ∷ bs))) ≡ getD suffix i nan
+              bound-is : (bs : List Float) → Rests (x .len) bs rests → sumBack f32 (tailOf (drop i (f32 .nil ∷ bs))) ≡ getD rests i nan
               bound-is bs k = ap (sumBack f32) (tail-drop i (f32 .nil ∷ bs)) ∙ sym (k i (T .low) hi)
 
-              test-is : (bs : List Float) → Suffixes (x .len) bs suffix
+              test-is : (bs : List Float) → Rests (x .len) bs rests
                   → f32 .above (f32 .add (f32 .add total (scoreHere (seek 128 c s))) (sumBack f32 (tailOf (drop i (f32 .nil ∷ bs))))) t
-                  ≡ f32 .above (f32 .add (f32 .add total v) (getD suffix i nan)) t
+                  ≡ f32 .above (f32 .add (f32 .add total v) (getD rests i nan)) t
               test-is bs k =
                   ap (λ (z : Float). f32 .above (f32 .add (f32 .add total z) (sumBack f32 (tailOf (drop i (f32 .nil ∷ bs))))) t) score-is
                   ∙ ap (λ (z : Float). f32 .above (f32 .add (f32 .add total v) z) t) (bound-is bs k)
 
-              pub too-low : f32 .above (f32 .add (f32 .add total v) (getD suffix i nan)) t ≡ false → Tries x c score t suffix h₀ h′ Passed
+              pub too-low : f32 .above (f32 .add (f32 .add total v) (getD rests i nan)) t ≡ false → Tries x c score t rests h₀ h′ Passed
               too-low b = drops (λ bs k. try-low c t total s rest (drop i (f32 .nil ∷ bs)) stays-low on (test-is bs k ∙ b))
 
-              pub goes-on : f32 .above (f32 .add (f32 .add total v) (getD suffix i nan)) t ≡ true → Trying (i + 1) (f32 .add total v) h′
+              pub goes-on : f32 .above (f32 .add (f32 .add total v) (getD rests i nan)) t ≡ true → Trying (i + 1) (f32 .add total v) h′
               goes-on b =
                   let front : scorersBetween x (h′ .places) 1 (suc i) ≡ scorersBetween x (h .places) 1 i ++ (seek 128 c s ∷ []) =
                   part-last (x .order) (scorerAt x (h′ .places)) 1 i (T .low) (omega (arith, long)) ∙ ap (λ (z : List (Scorer Float)). z ++ (s′ ∷ [])) front-stays

@@ -1,13 +1,18 @@
 // A candidate of the leader against the secondaries, one after the other.
-use bm25::Scoring;
-use fieldnorm::FieldNormReader;
 use term_scorer::score;
+use term_scorer::score::Similarity;
 use term_scorer::slot;
 ghost use Prim.Native.Nat.{_<_};
 ghost use Rattle.arrays.specs.Lent.{before, after};
 ghost use Rattle.term_scorer.specs.Inner.Slots.{held};
-ghost use Rattle.intersection_window.specs.Inner.Scorers.{query, InOrder, SlotsIn, WeightsIn};
+ghost use Rattle.intersection_window.specs.Inner.Scorers.{query, InOrder, SlotsIn};
 ghost use Rattle.intersection_window.specs.Inner.Candidates.{Tries};
+
+// A posting of the leader, by its document and its score.
+pub struct Posting {
+    pub doc: u32,
+    pub score: f32,
+}
 
 // Due with its score, or passed: a secondary lacks it, or it cannot exceed the threshold.
 pub enum Candidate {
@@ -19,31 +24,29 @@ pub enum Candidate {
 // The total goes on as long as the bounds of the rest may lift it above the threshold.
 pub fn try_candidate(
     file: &[u8],
-    norms: FieldNormReader,
-    weights: &[f32; 16],
-    caches: &[[f32; 256]; 16],
-    scoring: Scoring,
+    similarity: Similarity,
     lists: &[[usize; 8]; 16],
+    caches: &[[f32; 256]; 16],
     n: usize,
     order: &[usize; 16],
-    suffix: &[f32; 16],
-    candidate_doc: u32,
-    leader_score: f32,
+    rests: &[f32; 128],
+    candidate: Posting,
     threshold: f32,
     places: &mut [[usize; 8]; 16],
     docs: &mut [[u32; 128]; 16],
     freqs: &mut [[u32; 128]; 16],
 ) -> Candidate
-    requires { let asked = query scoring (now file) (now lists) n (now order) in
+    requires { let asked = query similarity (now file) (now lists) (now caches) n (now order) in
         let slots = held (now places) (now docs) (now freqs) in
-        ⌜ InOrder asked × WeightsIn asked norms (now weights) (now caches) × SlotsIn asked slots × («candidate_doc» < 2147483647) ⌝ }
+        ⌜ InOrder asked × SlotsIn asked slots × (candidate .doc < 2147483647) ⌝ }
     ensures { λ r.
-        let asked = query scoring (before file) (before lists) n (before order) in
+        let asked = query similarity (before file) (before lists) (before caches) n (before order) in
         let old = held (before places) (before docs) (before freqs) in
         let new = held (after places) (after docs) (after freqs) in
-        ⌜ Tries asked «candidate_doc» «leader_score» threshold (before suffix) old new r ⌝ }
+        ⌜ Tries asked (candidate .doc) (candidate .score) threshold (before rests) old new r ⌝ }
 {
-    let mut total_score = leader_score;
+    let candidate_doc = candidate.doc;
+    let mut total_score = candidate.score;
     let mut i = 1usize;
     while i < n {
         let q = order[i];
@@ -57,11 +60,9 @@ pub fn try_candidate(
         }
         let score = score::score(
             file,
-            norms,
-            weights,
-            caches,
-            scoring,
+            similarity,
             lists,
+            caches,
             q,
             candidate_doc,
             places,
@@ -69,7 +70,7 @@ pub fn try_candidate(
             freqs,
         );
         total_score = total_score + score;
-        if total_score + suffix[i] > threshold {
+        if total_score + rests[i] > threshold {
             i += 1;
         } else {
             return Candidate::Passed;

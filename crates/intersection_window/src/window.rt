@@ -1,16 +1,17 @@
 // A window: all skip readers on the blocks that may hold a document, and the bounds of these blocks against the threshold.
-use bm25::Scoring;
-use fieldnorm::FieldNormReader;
+use term_scorer::BOUNDS;
+use term_scorer::Floats;
+use term_scorer::RESTS;
 use term_scorer::score;
+use term_scorer::score::Similarity;
 use term_scorer::slot;
 ghost use mathlib.Core.Path.{_≡_};
-ghost use Prim.Native.Nat.{ℕ, min, _≤_, _<_};
-ghost use lib.ListN.{getD};
+ghost use Prim.Native.Nat.{min, _≤_, _<_};
 ghost use Rattle.arrays.specs.Lent.{before, after};
 ghost use Rattle.term_scorer.specs.Inner.Slots.{held, Sixteen};
-ghost use Rattle.intersection_window.specs.Inner.Scorers.{query, InOrder, Ready, WeightsIn};
-ghost use Rattle.intersection_window.specs.Inner.Windows.{boundsAlong, Gathers, Turns};
-ghost use Rattle.intersection_window.specs.Inner.Candidates.{SameOutside, Suffixes};
+ghost use Rattle.intersection_window.specs.Inner.Scorers.{query, InOrder, Ready};
+ghost use Rattle.intersection_window.specs.Inner.Sizes.{InSlots};
+ghost use Rattle.intersection_window.specs.Inner.Windows.{Gathers, Sums, Turns, FloatRows};
 
 // Whether every secondary has documents left, where the first of all present blocks ends, and the secondaries' bounds summed.
 pub struct Secondaries {
@@ -36,11 +37,9 @@ fn least(a: u32, b: u32) -> u32
 // The secondaries go on to the blocks that may hold doc, up to the first that has none.
 fn gather(
     file: &[u8],
-    norms: FieldNormReader,
-    weights: &[f32; 16],
-    caches: &[[f32; 256]; 16],
-    scoring: Scoring,
+    similarity: Similarity,
     lists: &[[usize; 8]; 16],
+    caches: &[[f32; 256]; 16],
     n: usize,
     order: &[usize; 16],
     doc: u32,
@@ -48,13 +47,13 @@ fn gather(
     places: &mut [[usize; 8]; 16],
     docs: &[[u32; 128]; 16],
     freqs: &[[u32; 128]; 16],
-    bounds: &mut [f32; 16],
+    bounds: &mut [f32; 128],
 ) -> Secondaries
-    requires { let asked = query scoring (now file) (now lists) n (now order) in
+    requires { let asked = query similarity (now file) (now lists) (now caches) n (now order) in
         let slots = held (now places) (now docs) (now freqs) in
-        ⌜ InOrder asked × WeightsIn asked norms (now weights) (now caches) × Ready asked slots (now bounds) × (doc ≤ 2147483647) ⌝ }
+        ⌜ InOrder asked × Ready asked slots (now bounds) × (doc ≤ 2147483647) ⌝ }
     ensures { λ r.
-        let asked = query scoring (before file) (before lists) n (before order) in
+        let asked = query similarity (before file) (before lists) (before caches) n (before order) in
         let old = held (before places) (before docs) (before freqs) in
         ⌜ Gathers asked doc «leader_end» old (after places) (after bounds) r ⌝ }
 {
@@ -72,13 +71,11 @@ fn gather(
             };
         }
         window_end = least(window_end, slot::last_doc_in_block(q, places));
-        let bound = score::known_block_max(
+        let bound = score::block_max(
             file,
-            norms,
-            weights,
-            caches,
-            scoring,
+            similarity,
             lists,
+            caches,
             q,
             places,
             docs,
@@ -98,11 +95,9 @@ fn gather(
 // The window from doc on: over where a list has run out, else too low or open, the leader's block loaded.
 pub fn next_window(
     file: &[u8],
-    norms: FieldNormReader,
-    weights: &[f32; 16],
-    caches: &[[f32; 256]; 16],
-    scoring: Scoring,
+    similarity: Similarity,
     lists: &[[usize; 8]; 16],
+    caches: &[[f32; 256]; 16],
     n: usize,
     order: &[usize; 16],
     doc: u32,
@@ -110,13 +105,13 @@ pub fn next_window(
     places: &mut [[usize; 8]; 16],
     docs: &mut [[u32; 128]; 16],
     freqs: &mut [[u32; 128]; 16],
-    bounds: &mut [f32; 16],
+    bounds: &mut [f32; 128],
 ) -> Window
-    requires { let asked = query scoring (now file) (now lists) n (now order) in
+    requires { let asked = query similarity (now file) (now lists) (now caches) n (now order) in
         let slots = held (now places) (now docs) (now freqs) in
-        ⌜ InOrder asked × WeightsIn asked norms (now weights) (now caches) × Ready asked slots (now bounds) × (doc < 2147483647) ⌝ }
+        ⌜ InOrder asked × Ready asked slots (now bounds) × (doc < 2147483647) ⌝ }
     ensures { λ r.
-        let asked = query scoring (before file) (before lists) n (before order) in
+        let asked = query similarity (before file) (before lists) (before caches) n (before order) in
         let old = held (before places) (before docs) (before freqs) in
         let new = held (after places) (after docs) (after freqs) in
         ⌜ Turns asked threshold doc old r new (after bounds) ⌝ }
@@ -125,11 +120,9 @@ pub fn next_window(
     slot::seek_block(file, lists, leader, doc, places);
     let leader_block_max = score::block_max(
         file,
-        norms,
-        weights,
-        caches,
-        scoring,
+        similarity,
         lists,
+        caches,
         leader,
         places,
         docs,
@@ -139,11 +132,9 @@ pub fn next_window(
     let leader_end = slot::last_doc_in_block(leader, places);
     let found = gather(
         file,
-        norms,
-        weights,
-        caches,
-        scoring,
+        similarity,
         lists,
+        caches,
         n,
         order,
         doc,
@@ -164,18 +155,16 @@ pub fn next_window(
 }
 
 // Behind each secondary the sum of the bounds that follow, added from the last on.
-pub fn sum_suffixes(n: usize, order: &[usize; 16], bounds: &[f32; 16], suffix: &mut [f32; 16])
-    requires { ⌜ (0 < n) × (n ≤ 16) × Sixteen (now order) × ((i : ℕ) → i < n → getD (now order) i 0 < 16) × Sixteen (now suffix) ⌝ }
-    ensures { λ _.
-        ⌜ Suffixes n (boundsAlong n (before order) (before bounds)) (after suffix) × Sixteen (after suffix)
-        × SameOutside n (before suffix) (after suffix) ⌝ }
+pub fn sum_rests(n: usize, order: &[usize; 16], floats: &mut Floats)
+    requires { ⌜ (0 < n) × (n ≤ 16) × Sixteen (now order) × InSlots n (now order) × FloatRows (now floats) ⌝ }
+    ensures { λ _. ⌜ Sums n (before order) (before floats) (after floats) ⌝ }
 {
     let mut running = 0.0f32;
     let mut i = n;
     while 1 < i {
         i -= 1;
-        suffix[i] = running;
+        floats[RESTS][i] = running;
         let q = order[i];
-        running = running + bounds[q];
+        running = running + floats[BOUNDS][q];
     }
 }

@@ -11,18 +11,29 @@ use Rattle.route.specs.Intersection.{Stage, InterPlace}
 use Rattle.bm25.specs.declared.Scoring.{Scoring}
 use Rattle.notefile.specs.Header.{normReader}
 use Rattle.term_scorer.specs.Inner.Slots.{Held, Sixteen, SlotIn, cursorAt, listAt}
-use Rattle.term_scorer.specs.Inner.Weights.{Weighed, BoundKept}
+use Rattle.term_scorer.specs.Inner.Weights.{Weighed, BoundKept, FloatRow}
+use Rattle.term_scorer.specs.declared.score.Similarity.{Similarity}
 
--- what a run has of its query and does not change: the lists by slot, how many, and the slots in the scorers' order
+-- what a run has of its query and does not change: the lists by slot with their norms, how many, and the slots in the scorers' order
 pub record Query : Type 0 where
+  pub norms : FieldNormReader
   pub scoring : Scoring
   pub file : List ℕ
   pub lists : List (List ℕ)
+  pub caches : List (List Float)
   pub len : ℕ
   pub order : List ℕ
 
-abbrev pub query : Scoring → List ℕ → List (List ℕ) → ℕ → List ℕ → Query
-query scoring file lists len order = record { scoring = scoring; file = file; lists = lists; len = len; order = order }
+abbrev pub query : Similarity → List ℕ → List (List ℕ) → List (List Float) → ℕ → List ℕ → Query
+query similarity file lists caches len order = record {
+  norms = similarity .norms;
+  scoring = similarity .scoring;
+  file = file;
+  lists = lists;
+  caches = caches;
+  len = len;
+  order = order;
+}
 
 -- the slot of the scorer at a place of the order
 abbrev pub slotAt : Query → ℕ → ℕ
@@ -51,18 +62,15 @@ module _ (x : Query) where
   abbrev pub placeAt : List (List ℕ) → Stage Float → ℕ → InterPlace Float
   placeAt places stage d = record { stage = stage; doc = d; leader = leaderIn places; secs = secondariesIn places }
 
-  -- each of the slots stands at one place of the order
+  -- each of the slots stands at one place of the order, with its list's norms
   pub record InOrder : Type 0 where
     pub long : Sixteen (x .order)
     pub few : x .len ≤ 16
     pub leader : 0 < x .len
     pub below : (i : ℕ) → i < x .len → slotAt x i < x .len
     pub apart : (i j : ℕ) → i < x .len → j < x .len → slotAt x i ≡ slotAt x j → i ≡ j
-
-  -- each slot has its list's weight and norms
-  pub record WeightsIn (norms : FieldNormReader) (weights : List Float) (caches : List (List Float)) : Type 0 where
-    pub norms-are : norms ≡ normReader (x .file)
-    pub weighed : (q : ℕ) → q < x .len → Weighed (x .lists) weights caches q
+    pub norms-are : x .norms ≡ normReader (x .file)
+    pub weighed : (q : ℕ) → q < x .len → Weighed (x .lists) (x .caches) q
 
   -- each slot's scorer stands in its list
   pub record SlotsIn (h : Held) : Type 0 where
@@ -81,7 +89,7 @@ module _ (x : Query) where
 pub record Ready (x : Query) (h : Held) (bounds : List Float) : Type 0 where
   pub seated : SlotsIn x h
   pub kept : BoundsKept x (h .places) bounds
-  pub long : Sixteen bounds
+  pub long : FloatRow bounds
 
 -- what stands in slot q is as it was
 pub record Unmoved (q : ℕ) (h h′ : Held) : Type 0 where

@@ -12,11 +12,11 @@ use Rattle.intersection_window.proofs.candidate.try_candidate.Statement
 use Rattle.intersection_window.proofs.candidate.try_candidate.Tie as tie
 
 abbrev Inv-loop : tie.InvT-loop
-Inv-loop file norms weights caches scoring lists n order suffix candidate-doc leader-score threshold places₀ docs₀ freqs₀ total-score₀ i₀ places docs freqs total-score i =
-    Trying (query scoring file lists n order) candidate-doc leader-score threshold suffix (held places₀ docs₀ freqs₀) i total-score (held places docs freqs)
+Inv-loop file similarity lists caches n order rests threshold places₀ docs₀ freqs₀ candidate-doc total-score₀ i₀ places docs freqs total-score i =
+    Trying (query similarity file lists caches n order) candidate-doc total-score₀ threshold rests (held places₀ docs₀ freqs₀) i total-score (held places docs freqs)
 
 abbrev μ-loop : tie.MeasureT-loop
-μ-loop file norms weights caches scoring lists n order suffix candidate-doc leader-score threshold places₀ docs₀ freqs₀ total-score₀ i₀ places docs freqs total-score i =
+μ-loop file similarity lists caches n order rests threshold places₀ docs₀ freqs₀ candidate-doc total-score₀ i₀ places docs freqs total-score i =
     n - i
 
 -- the places that the answers look back to
@@ -26,7 +26,7 @@ in-loop d = d .before .before .before .before
 abbrev not-past : tie.After-seek Inv-loop μ-loop → tie.Else1 Inv-loop μ-loop
 not-past m = m .before .before .before .before
 
-order-in : (l : tie.In-loop Inv-loop μ-loop) → InOrder (query (l .before .before .before .args .scoring) (l .before .before .before .args .file .now) (l .before .before .before .args .lists .now) (l .before .before .before .args .n) (l .before .before .before .args .order .now))
+order-in : (l : tie.In-loop Inv-loop μ-loop) → InOrder (query (l .before .before .before .args .similarity) (l .before .before .before .args .file .now) (l .before .before .before .args .lists .now) (l .before .before .before .args .caches .now) (l .before .before .before .args .n) (l .before .before .before .args .order .now))
 order-in l = l .before .before .before .pre .0
 
 small : (l : tie.In-loop Inv-loop μ-loop) → getD (l .before .before .before .args .order .now) (l .before .loop .i) 0 < 16
@@ -36,7 +36,7 @@ within : (l : tie.In-loop Inv-loop μ-loop) → getD (l .before .before .before 
 within l = order-in l .below (l .before .loop .i) (l .loop-test .taken)
 
 loop-holds : tie.Need-loop-holds Inv-loop μ-loop
-loop-holds c = begun _ _ _ _ _ _ (c .before .pre .0) (c .before .pre .2)
+loop-holds c = begun _ _ _ _ _ _ (c .before .pre .0) (c .before .pre .1)
 
 mul-q : tie.Need-mul-q Inv-loop μ-loop
 mul-q c = search needs
@@ -58,7 +58,7 @@ seek-requires : tie.Need-seek-requires Inv-loop μ-loop
 seek-requires c κs =
     let d = c .before .before .before .before in
     let l = in-loop d in
-    (small l, l .before .loop .inv .seated .slot _ (within l), doc-here (l .before .loop .inv .seated) (within l) (d .doc .ensures), omega (arith, l .before .before .before .pre .3))
+    (small l, l .before .loop .inv .seated .slot _ (within l), doc-here (l .before .loop .inv .seated) (within l) (d .doc .ensures), omega (arith, l .before .before .before .pre .2))
 
 returns-2 : tie.Need-returns-2 Inv-loop μ-loop
 returns-2 c =
@@ -75,7 +75,7 @@ score-requires c κs =
     let l = in-loop d in
     let a = l .before .before .before in
     let S = seated-there _ _ _ _ _ _ (order-in l) (l .before .loop .inv) (l .loop-test .taken) (doc-here (l .before .loop .inv .seated) (within l) (d .doc .ensures)) (not-past m .if1 .left) (m .seek .ensures) in
-    (small l, a .pre .1 .norms-are, S .slot _ (within l), a .pre .1 .weighed _ (within l), sym (e .if2 .left) ∙ m .seek .ensures .moved .doc-is, a .pre .3)
+    (small l, a .pre .0 .norms-are, S .slot _ (within l), a .pre .0 .weighed _ (within l), sym (e .if2 .left) ∙ m .seek .ensures .moved .doc-is, a .pre .2)
 
 mul-if3 : tie.Need-mul-if3 Inv-loop μ-loop
 mul-if3 c = search needs

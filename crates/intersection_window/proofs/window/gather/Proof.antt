@@ -10,16 +10,16 @@ use Rattle.intersection_window.proofs.window.gather.Statement.{statemen
 use Rattle.intersection_window.proofs.window.gather.Tie as tie
 
 abbrev Inv-loop : tie.InvT-loop
-Inv-loop file norms weights caches scoring lists n order doc leader-end places₀ docs freqs bounds₀ window-end₀ block-max-sum₀ i₀ places bounds window-end block-max-sum i =
-    Gathering (query scoring file lists n order) doc leader-end (held places₀ docs freqs) i window-end block-max-sum places bounds
+Inv-loop file similarity lists caches n order doc leader-end places₀ docs freqs bounds₀ window-end₀ block-max-sum₀ i₀ places bounds window-end block-max-sum i =
+    Gathering (query similarity file lists caches n order) doc leader-end (held places₀ docs freqs) i window-end block-max-sum places bounds
 
 abbrev μ-loop : tie.MeasureT-loop
-μ-loop file norms weights caches scoring lists n order doc leader-end places₀ docs freqs bounds₀ window-end₀ block-max-sum₀ i₀ places bounds window-end block-max-sum i =
+μ-loop file similarity lists caches n order doc leader-end places₀ docs freqs bounds₀ window-end₀ block-max-sum₀ i₀ places bounds window-end block-max-sum i =
     n - i
 
 loop-holds : tie.Need-loop-holds Inv-loop μ-loop
 unfolding ofBits
-loop-holds c = begun _ _ _ _ (c .before .pre .0) (c .before .pre .2)
+loop-holds c = begun _ _ _ _ (c .before .pre .0) (c .before .pre .1)
 
 mul-q : tie.Need-mul-q Inv-loop μ-loop
 mul-q c = search needs
@@ -77,8 +77,8 @@ last-doc-in-block-requires c κs =
 least-requires : tie.Need-least-requires Inv-loop μ-loop
 least-requires c κs = search needs
 
-known-block-max-requires : tie.Need-known-block-max-requires Inv-loop μ-loop
-known-block-max-requires c κs =
+block-max-requires : tie.Need-block-max-requires Inv-loop μ-loop
+block-max-requires c κs =
     let s = c .before .before .before .before .before .before .before .before in
     let l = s .before .before .before in
     let a = l .before .before .before in
@@ -87,7 +87,7 @@ known-block-max-requires c κs =
     let hi = l .loop-test .taken in
     let hq = O .below _ hi in
     let M = shallow-moves (G .ready .seated .slot _ hq) (s .shallow-seek .ensures) in
-    (slot-small O hi, a .pre .1 .norms-are, seated-there _ _ _ _ O G hi M .slot _ hq, a .pre .1 .weighed _ hq, kept-there _ _ _ _ O G hi M _ hq, G .ready .long)
+    (slot-small O hi, O .norms-are, seated-there _ _ _ _ O G hi M .slot _ hq, O .weighed _ hq, kept-there _ _ _ _ O G hi M _ hq, G .ready .long)
 
 add-i : tie.Need-add-i Inv-loop μ-loop
 add-i c = search needs
@@ -109,7 +109,7 @@ loop-again c =
     let hi = l .loop-test .taken in
     let hq = O .below _ hi in
     let M = shallow-moves (G .ready .seated .slot _ hq) (s .shallow-seek .ensures) in
-    goes-on _ _ _ _ O G hi M (h .has-remaining-docs .ensures) (e .if1 .left) (a .pre .3) (t .last-doc-in-block .ensures) (m .least .ensures) (c .known-block-max .ensures)
+    goes-on _ _ _ _ O G hi M (h .has-remaining-docs .ensures) (e .if1 .left) (t .last-doc-in-block .ensures) (m .least .ensures) (c .block-max .ensures)
 
 returns-2 : tie.Need-returns-2 Inv-loop μ-loop
 returns-2 c = ended _ _ _ _ (c .before .before .before .pre .0) (c .before .loop .inv) (c .loop-test .left)
@@ -128,7 +128,7 @@ gather-spec =
     returns
     last-doc-in-block-requires
     least-requires
-    known-block-max-requires
+    block-max-requires
     add-i
     loop-less
     loop-again

@@ -23,17 +23,17 @@ seek-block-requires : tie.Need-seek-block-requires
 seek-block-requires c κs =
     let a = c .before .before .before in
     let O = a .pre .0 in
-    (slot-small O (O .leader), standing-in (a .pre .2 .seated .slot _ (O .below 0 (O .leader))))
+    (slot-small O (O .leader), standing-in (a .pre .1 .seated .slot _ (O .below 0 (O .leader))))
 
 block-max-requires : tie.Need-block-max-requires
 block-max-requires c κs =
     let s = c .before .before .before .before in
     let a = start s in
     let O = a .pre .0 in
-    let R = a .pre .2 in
+    let R = a .pre .1 in
     let hq = O .below 0 (O .leader) in
     let M = shallow-moves (R .seated .slot _ hq) (s .seek-block .ensures) in
-    (slot-small O (O .leader), a .pre .1 .norms-are, leader-seated _ O (a .args .threshold) _ (a .pre .3) R M .slot _ hq, a .pre .1 .weighed _ hq, leader-kept _ O (a .args .threshold) _ (a .pre .3) R M _ hq, R .long)
+    (slot-small O (O .leader), O .norms-are, leader-seated _ O (a .args .threshold) _ (a .pre .2) R M .slot _ hq, O .weighed _ hq, leader-kept _ O (a .args .threshold) _ (a .pre .2) R M _ hq, R .long)
 
 last-doc-in-block-requires : tie.Need-last-doc-in-block-requires
 last-doc-in-block-requires c κs =
@@ -41,10 +41,10 @@ last-doc-in-block-requires c κs =
     let s = sought b in
     let a = start s in
     let O = a .pre .0 in
-    let R = a .pre .2 in
+    let R = a .pre .1 in
     let hq = O .below 0 (O .leader) in
     let M = shallow-moves (R .seated .slot _ hq) (s .seek-block .ensures) in
-    (slot-small O (O .leader), last-fits (ready-there _ O (a .args .threshold) _ (a .pre .3) R M (b .block-max .ensures) .seated) hq)
+    (slot-small O (O .leader), last-fits (ready-there _ O (a .args .threshold) _ (a .pre .2) R M (b .block-max .ensures) .seated) hq)
 
 gather-requires : tie.Need-gather-requires
 gather-requires c κs =
@@ -52,10 +52,10 @@ gather-requires c κs =
     let s = sought b in
     let a = start s in
     let O = a .pre .0 in
-    let R = a .pre .2 in
+    let R = a .pre .1 in
     let hq = O .below 0 (O .leader) in
     let M = shallow-moves (R .seated .slot _ hq) (s .seek-block .ensures) in
-    (O, a .pre .1, ready-there _ O (a .args .threshold) _ (a .pre .3) R M (b .block-max .ensures), omega (arith, a .pre .3))
+    (O, ready-there _ O (a .args .threshold) _ (a .pre .2) R M (b .block-max .ensures), omega (arith, a .pre .2))
 
 returns : tie.Need-returns
 returns c =
@@ -65,10 +65,10 @@ returns c =
     let s = sought b in
     let a = start s in
     let O = a .pre .0 in
-    let R = a .pre .2 in
+    let R = a .pre .1 in
     let hq = O .below 0 (O .leader) in
     let M = shallow-moves (R .seated .slot _ hq) (s .seek-block .ensures) in
-    record { turned = window-over _ O (a .args .threshold) _ (a .pre .3) R M (b .block-max .ensures) (l .last-doc-in-block .ensures) (g .gather .ensures) (c .if1 .taken) }
+    window-over _ O (a .args .threshold) _ (a .pre .2) R M (b .block-max .ensures) (l .last-doc-in-block .ensures) (g .gather .ensures) (c .if1 .taken)
 
 load-requires : tie.Need-load-requires
 load-requires c κs =
@@ -79,10 +79,10 @@ load-requires c κs =
     let s = sought b in
     let a = start s in
     let O = a .pre .0 in
-    let R = a .pre .2 in
+    let R = a .pre .1 in
     let hq = O .below 0 (O .leader) in
     let M = shallow-moves (R .seated .slot _ hq) (s .seek-block .ensures) in
-    (slot-small O (O .leader), gathered _ O (a .args .threshold) _ (a .pre .3) R M (b .block-max .ensures) (l .last-doc-in-block .ensures) (g .gather .ensures) (e .if1 .left) .ready .seated .slot _ hq)
+    (slot-small O (O .leader), gathered _ O (a .args .threshold) _ (a .pre .2) R M (b .block-max .ensures) (l .last-doc-in-block .ensures) (g .gather .ensures) (e .if1 .left) .ready .seated .slot _ hq)
 
 returns-2 : tie.Need-returns-2
 returns-2 c =
@@ -94,10 +94,10 @@ returns-2 c =
     let s = sought b in
     let a = start s in
     let O = a .pre .0 in
-    let R = a .pre .2 in
+    let R = a .pre .1 in
     let hq = O .below 0 (O .leader) in
     let M = shallow-moves (R .seated .slot _ hq) (s .seek-block .ensures) in
-    record { turned = window-open _ O (a .args .threshold) _ (a .pre .3) R M (b .block-max .ensures) (l .last-doc-in-block .ensures) (g .gather .ensures) (e .if1 .left) (f .if2 .taken) (c .load .ensures) }
+    window-open _ O (a .args .threshold) _ (a .pre .2) R M (b .block-max .ensures) (l .last-doc-in-block .ensures) (g .gather .ensures) (e .if1 .left) (f .if2 .taken) (c .load .ensures)
 
 returns-3 : tie.Need-returns-3
 returns-3 c =
@@ -108,10 +108,10 @@ returns-3 c =
     let s = sought b in
     let a = start s in
     let O = a .pre .0 in
-    let R = a .pre .2 in
+    let R = a .pre .1 in
     let hq = O .below 0 (O .leader) in
     let M = shallow-moves (R .seated .slot _ hq) (s .seek-block .ensures) in
-    record { turned = window-low _ O (a .args .threshold) _ (a .pre .3) R M (b .block-max .ensures) (l .last-doc-in-block .ensures) (g .gather .ensures) (e .if1 .left) (c .if2 .left) }
+    window-low _ O (a .args .threshold) _ (a .pre .2) R M (b .block-max .ensures) (l .last-doc-in-block .ensures) (g .gather .ensures) (e .if1 .left) (c .if2 .left)
 
 pub next-window-spec : {M : Type 1} → statement M
 next-window-spec =

@@ -1,0 +1,43 @@
+-- `begin` meets its contract: the slots by size, the list bounds summed along them, and the leader's document.
+use borrow.Author.Needs.{needs}
+use Rattle.intersection_window.proofs.Seats.{cur-small, slot-small}
+use Rattle.block_wand_intersection.proofs.Beginning.{begins, in-order, listed, seated}
+use Rattle.block_wand_intersection.proofs.begin.begin.Statement.{statement}
+use Rattle.block_wand_intersection.proofs.begin.begin.Tie as tie
+
+-- the place that the answers look back to
+abbrev start : tie.After-by-size → tie.Start
+start s = s .before .before .before
+
+by-size-requires : tie.Need-by-size-requires
+by-size-requires c κs = search needs
+
+max-score-sum-requires : tie.Need-max-score-sum-requires
+max-score-sum-requires c κs =
+    let s = c .before in
+    (in-order (start s .pre) (s .by-size .ensures), listed (start s .pre) (s .by-size .ensures))
+
+element-copy-out-leader : tie.Need-element-copy-out-leader
+element-copy-out-leader c = search needs
+
+doc-requires : tie.Need-doc-requires
+doc-requires c κs =
+    let s = c .before .before .before in
+    let O = in-order (start s .pre) (s .by-size .ensures) in
+    (slot-small O (O .leader), cur-small (seated (start s .pre) (s .by-size .ensures)) (O .below 0 (O .leader)))
+
+returns : tie.Need-returns
+returns c =
+    let m = c .before .before in
+    let s = m .before .before in
+    begins (start s .pre) (s .by-size .ensures) (c .doc .ensures) (m .max-score-sum .ensures)
+
+pub begin-spec : {M : Type 1} → statement M
+begin-spec =
+    tie.close
+    (tie.spec
+    by-size-requires
+    max-score-sum-requires
+    element-copy-out-leader
+    doc-requires
+    returns)

@@ -1,0 +1,46 @@
+-- Where a run begins: what its slots hold, and the route's first place.
+use mathlib.Core.Path.{_≡_}
+use mathlib.Core.List.{List, [], _∷_}
+use Prim.Native.Nat.{ℕ, _≤_, _<_}
+use lib.ListN.{getD}
+use lib.Ieee.{Float}
+use Rattle.route.specs.F32.{f32}
+use Rattle.route.specs.Ordering.{sortBy}
+use Rattle.route.specs.Cursor.{fresh}
+use Rattle.route.specs.Scorer.{scorersFrom, sizeHint}
+use Rattle.route.specs.Intersection.{leaderRoute}
+use Rattle.notefile.specs.Header.{normReader}
+use Rattle.postings.specs.Inner.Decoded.{ListIn}
+use Rattle.slot_rows.specs.Inner.Rows.{PartRow}
+use Rattle.term_scorer.specs.Inner.Slots.{Held, Sixteen, SlotIn, cursorAt, listsFrom, partAt}
+use Rattle.term_scorer.specs.Inner.Weights.{Weighed}
+use Rattle.intersection_window.specs.Inner.Scorers.{Query, leaderIn, scorerAt, scorersBetween, secondariesIn, slotAt}
+use Rattle.intersection_window.specs.Inner.Windows.{FloatRows}
+use Rattle.block_wand_intersection.specs.Inner.Stands.{Stands, placeOf}
+use Rattle.block_wand_intersection.specs.declared.Intersection.{Intersection}
+
+-- each slot has a list of an accepted file
+abbrev pub Listed : Query → Type 0
+Listed x = (q : ℕ) → q < x .len → PartRow (getD (x .lists) q []) × ListIn (x .file) (partAt (x .lists) q)
+
+-- each of the slots holds its list, on the first posting, with its norms and no block bound; the order is not yet made
+pub record FreshSlots (x : Query) (h : Held) : Type 0 where
+  pub two : 2 ≤ x .len
+  pub few : x .len ≤ 16
+  pub long : Sixteen (x .order)
+  pub norms-are : x .norms ≡ normReader (x .file)
+  pub sixteen : Sixteen (h .places) × Sixteen (h .docs) × Sixteen (h .freqs)
+  pub slot : (q : ℕ) → q < x .len → SlotIn (x .file) (x .lists) h q
+  pub weighed : (q : ℕ) → q < x .len → Weighed (x .lists) (x .caches) q
+  pub unknown : (q : ℕ) → q < x .len → getD (getD (h .places) q []) 7 0 ≡ 0
+  pub first : (q : ℕ) → q < x .len → cursorAt (h .places) q ≡ fresh
+
+-- the run stands at the first place of the query's route, whatever the floats hold: that of the scorers by size
+pub record Begins (x : Query) (h : Held) (v : Intersection) : Type 0 where
+  pub len-is : v .len ≡ x .len
+  pub stands : (floats : List (List Float)) → FloatRows floats → Stands x v h floats
+  pub first-is : (floats : List (List Float))
+      → placeOf x v (h .places) floats ≡ leaderRoute 128 f32 (leaderIn x (h .places)) (secondariesIn x (h .places)) .first
+  pub secs-are : secondariesIn x (h .places) ≡ scorerAt x (h .places) (slotAt x 1) ∷ scorersBetween x (h .places) 2 (x .len)
+  pub sorted-is : sortBy sizeHint (scorersFrom 0 (listsFrom (x .scoring) (x .file) (x .lists) 0 (x .len)))
+      ≡ leaderIn x (h .places) ∷ secondariesIn x (h .places)

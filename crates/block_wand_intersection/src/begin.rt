@@ -1,0 +1,69 @@
+// Where a run begins.
+use crate::Intersection;
+use crate::Stage;
+use intersection_window::order::by_size;
+use term_scorer::score;
+use term_scorer::score::Similarity;
+use term_scorer::slot;
+ghost use mathlib.Core.Path.{_≡_};
+ghost use Rattle.arrays.specs.Lent.{before, after};
+ghost use Rattle.term_scorer.specs.Inner.Slots.{held};
+ghost use Rattle.intersection_window.specs.Inner.Scorers.{query, InOrder};
+ghost use Rattle.block_wand_intersection.specs.Inner.Stands.{maxSum};
+ghost use Rattle.block_wand_intersection.specs.Inner.Beginnings.{Begins, FreshSlots, Listed};
+
+// `leader_max_score + secondaries_global_max_sum`.
+fn max_score_sum(
+    file: &[u8],
+    similarity: Similarity,
+    lists: &[[usize; 8]; 16],
+    caches: &[[f32; 256]; 16],
+    n: usize,
+    order: &[usize; 16],
+) -> f32
+    requires { let asked = query similarity (now file) (now lists) (now caches) n (now order) in
+        ⌜ InOrder asked × Listed asked ⌝ }
+    ensures { λ r.
+        let asked = query similarity (before file) (before lists) (before caches) n (before order) in
+        ⌜ r ≡ maxSum asked ⌝ }
+{
+    let mut sum = 0.0f32;
+    let mut i = 1usize;
+    while i < n {
+        let q = order[i];
+        sum = sum + score::max_score(file, similarity, lists, caches, q);
+        i += 1;
+    }
+    let leader = order[0];
+    score::max_score(file, similarity, lists, caches, leader) + sum
+}
+
+// `block_wand_intersection` up to its early exit, over n lists that are fresh in their slots: the rarest leads.
+pub fn begin(
+    file: &[u8],
+    similarity: Similarity,
+    lists: &[[usize; 8]; 16],
+    caches: &[[f32; 256]; 16],
+    n: usize,
+    order: &mut [usize; 16],
+    places: &[[usize; 8]; 16],
+    docs: &[[u32; 128]; 16],
+    freqs: &[[u32; 128]; 16],
+) -> Intersection
+    requires { let asked = query similarity (now file) (now lists) (now caches) n (now order) in
+        ⌜ FreshSlots asked (held (now places) (now docs) (now freqs)) ⌝ }
+    ensures { λ r.
+        let asked = query similarity (before file) (before lists) (before caches) n (after order) in
+        ⌜ Begins asked (held (before places) (before docs) (before freqs)) r ⌝ }
+{
+    by_size(n, lists, order);
+    let max_sum = max_score_sum(file, similarity, lists, caches, n, order);
+    let leader = order[0];
+    let doc = slot::doc(leader, places, docs);
+    Intersection {
+        len: n,
+        doc,
+        max_sum,
+        stage: Stage::Early,
+    }
+}

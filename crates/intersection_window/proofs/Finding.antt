@@ -1,0 +1,170 @@
+-- `next_candidate`'s loop: no place of the leader's block before place i has a candidate.
+use mathlib.Core.Bool.{false, true}
+use mathlib.Core.List.{List, [], _∷_}
+use mathlib.Core.Logic.{inl, inr}
+use mathlib.Core.Path.{ap, refl, sym, _∙_, _≡_}
+use Prim.Native.Nat.{min, suc, ℕ, _+_, _-_, _<_, _≤_}
+use native.Mathlib.Omega.{arith}
+use lib.Dec.{ltb}
+use lib.ListN.{getD}
+use lib.Ieee.{Float}
+use borrow.Author.Tests.{le-ltb, lt-ltb, ltb-false, ltb-true}
+use Rattle.arrays.proofs.Order.{lt-or-ge}
+use Rattle.block_search.specs.Search.{countBelow}
+use Rattle.block_search.specs.Inner.Segments.{Sorted}
+use Rattle.block_search.proofs.Segments.{at-most, place-test}
+use Rattle.route.specs.F32.{f32}
+use Rattle.route.specs.Report.{Report}
+use Rattle.route.specs.Postings.{Postings, docAt, start}
+use Rattle.route.specs.Cursor.{findIn}
+use Rattle.route.specs.Intersection.{candidatesFrom, candidatesIn}
+use Rattle.route.specs.Inner.Lists.{ListOk}
+use Rattle.route.proofs.Places.{docAt-in, docAt-out}
+use Rattle.bm25.specs.declared.Scoring.{Scoring}
+use Rattle.notefile.specs.Header.{documents}
+use Rattle.notefile.specs.declared.part.Part.{Part}
+use Rattle.decoded.proofs.AcceptedLists.{list-ok}
+use Rattle.postings.specs.Inner.Decoded.{Decoded, doc-is, docIn}
+use Rattle.postings.proofs.Blocks.{decoded-sorted}
+use Rattle.postings.proofs.Moves.{find-is}
+use Rattle.slot_rows.specs.Inner.Rows.{cursorIn, postingsIn}
+use Rattle.term_scorer.specs.Inner.Slots.{Held, SlotIn, cursorAt, listAt, partAt}
+use Rattle.intersection_window.specs.Inner.Candidates.{Finds, candidatesLeft, leftIn}
+use Rattle.intersection_window.specs.declared.leader.Candidates.{Candidates}
+use Rattle.intersection_window.specs.declared.leader.Next.the-variants.{At, Nowhere}
+
+-- the leader's block, with its place in the list
+module _ (scoring : Scoring) {file : List ℕ} {lists : List (List ℕ)} {h : Held} {q : ℕ} (S : SlotIn file lists h q) where
+  abbrev l : Postings Float
+  l = listAt scoring file lists q
+
+  abbrev part : Part
+  part = partAt lists q
+
+  abbrev b : ℕ
+  b = cursorAt (h .places) q .dec
+
+  abbrev docs : List ℕ
+  docs = getD (h .docs) q []
+
+  decoded : Decoded file part b docs (getD (h .freqs) q [])
+  unfolding postingsIn cursorIn
+  decoded = S .place .placed .holds
+
+  ok : ListOk 128 (documents file) l
+  ok = list-ok scoring file part (S .list .right) (S .list .few)
+
+  -- how many documents of the block are below d
+  found : (d : ℕ) → findIn l d 128 (start 128 b) ≡ start 128 b + countBelow 128 docs d
+  found d = find-is (S .list) decoded d scoring
+
+  pub block-sorted : Sorted docs
+  block-sorted = decoded-sorted (S .list) decoded
+
+  pub few-below : (d : ℕ) → countBelow 128 docs d ≤ 128
+  few-below d = at-most docs block-sorted d
+
+  -- the candidates of a window from document d on
+  pub first-candidates : (ts : Float) (d e : ℕ) {from : ℕ} → from ≡ countBelow 128 docs d → candidatesIn 128 f32 l ts b d e ≡ candidatesLeft l b ts e from
+  first-candidates ts d e ef =
+      ap (λ (p : ℕ). candidatesFrom f32 l ts (min (findIn l (suc e) 128 (start 128 b)) (l .len) - p) p) (found d ∙ rw ef)
+
+  module _ (e : ℕ) where
+    -- behind the last candidate of a window up to e
+    abbrev end : ℕ
+    end = min (findIn l (suc e) 128 (start 128 b)) (l .len)
+
+    abbrev below : ℕ
+    below = countBelow 128 docs (suc e)
+
+    module _ (ts : Float) (i : ℕ) where
+      nothing-left : end ≤ start 128 b + i → candidatesLeft l b ts e i ≡ []
+      nothing-left k = let z : end - (start 128 b + i) ≡ 0 = omega arith in ap (λ (m : ℕ). candidatesFrom f32 l ts m (start 128 b + i)) z
+
+      pub block-ends : 128 ≤ i → candidatesLeft l b ts e i ≡ []
+      block-ends k = nothing-left (omega (arith, found (suc e), few-below (suc e)))
+
+      module _ (hi : i < 128) {doc : ℕ} (ed : doc ≡ getD docs i 0) where
+        abbrev p : ℕ
+        p = start 128 b + i
+
+        pub doc-there : doc ≡ docIn file part p
+        doc-there = ed ∙ decoded .docs-are .at i hi
+
+        doc-at : doc ≡ docAt l p
+        doc-at = doc-there ∙ sym (doc-is file part scoring p)
+
+        test-is : ltb doc (suc e) ≡ ltb i below
+        test-is = ap (λ (z : ℕ). ltb z (suc e)) ed ∙ place-test docs block-sorted (suc e) i hi
+
+        pub window-ends : e < doc → candidatesLeft l b ts e i ≡ []
+        window-ends k =
+            let z = ltb-false i below (sym test-is ∙ le-ltb doc (suc e) k) in
+            nothing-left (omega (arith, found (suc e)))
+
+        in-list : p < l .len → l .doc p < 2147483647
+        in-list k = omega (arith, ok .below p k, ok .few)
+
+        pub list-ends : doc ≡ 2147483647 → candidatesLeft l b ts e i ≡ []
+        list-ends k = elim (lt-or-ge p (l .len)) [
+          | inl u ↦ absurd (omega (arith, in-list u, doc-at, docAt-in 128 (documents file) l ok p u))
+          | inr u ↦ nothing-left (omega arith)
+        ]
+
+        module _ (k : doc ≤ e) (n : doc ≡ 2147483647 → ⊥) where
+          inside : p < l .len
+          inside = elim (lt-or-ge p (l .len)) [
+            | inl u ↦ u
+            | inr u ↦ absurd (n (doc-at ∙ docAt-out 128 (documents file) l ok p u))
+          ]
+
+          doc-of : l .doc p ≡ doc
+          doc-of = sym (doc-at ∙ docAt-in 128 (documents file) l ok p inside)
+
+          pub doc-small : doc < 2147483647
+          doc-small = omega (arith, in-list inside, doc-of)
+
+          before-end : p < end
+          before-end = let z = ltb-true i below (sym test-is ∙ lt-ltb doc (suc e) (omega arith)) in omega (arith, found (suc e), inside)
+
+          opens : candidatesLeft l b ts e i ≡ candidatesFrom f32 l ts (suc (end - (start 128 b + (i + 1)))) p
+          opens = let z : end - p ≡ suc (end - (start 128 b + (i + 1))) = omega (arith, before-end) in ap (λ (m : ℕ). candidatesFrom f32 l ts m p) z
+
+          rest-is : candidatesFrom f32 l ts (end - (start 128 b + (i + 1))) (suc p) ≡ candidatesLeft l b ts e (i + 1)
+          rest-is = let z : suc p ≡ start 128 b + (i + 1) = omega arith in ap (candidatesFrom f32 l ts (end - (start 128 b + (i + 1)))) z
+
+          module _ {score : Float} (es : score ≡ l .score p) where
+            leaves-out : f32 .above score ts ≡ false → candidatesLeft l b ts e i ≡ candidatesLeft l b ts e (i + 1)
+            leaves-out a = let a′ : f32 .above (l .score p) ts ≡ false = ap (λ (z : Float). f32 .above z ts) (sym es) ∙ a in opens ∙ (rw a′ rest-is)
+
+            takes : f32 .above score ts ≡ true → candidatesLeft l b ts e i ≡ record { doc = doc; score = score } ∷ candidatesLeft l b ts e (i + 1)
+            takes a =
+                let a′ : f32 .above (l .score p) ts ≡ true = ap (λ (z : Float). f32 .above z ts) (sym es) ∙ a in
+                opens ∙ (rw a′ (ap (λ (z : List (Report Float)). record { doc = l .doc p; score = l .score p } ∷ z) rest-is))
+                ∙ ap (λ (z : ℕ). record { doc = z; score = l .score p } ∷ candidatesLeft l b ts e (i + 1)) doc-of
+                ∙ ap (λ (z : Float). record { doc = doc; score = z } ∷ candidatesLeft l b ts e (i + 1)) (sym es)
+
+-- ---- the loop
+
+module _ (l : Postings Float) (b : ℕ) (c : Candidates) where
+  pub record Finding (i : ℕ) : Type 0 where
+    pub high : i ≤ 128
+    pub same : leftIn l b c ≡ candidatesLeft l b (c .«score_threshold») (c .«window_end») i
+
+  pub begun : c .next ≤ 128 → Finding (c .next)
+  begun k = record { high = k; same = refl }
+
+  pub ends : {i : ℕ} → Finding i → candidatesLeft l b (c .«score_threshold») (c .«window_end») i ≡ [] → Finds l b c Nowhere
+  ends F z = record { finds = F .same ∙ z }
+
+module _ (scoring : Scoring) {file : List ℕ} {lists : List (List ℕ)} {h : Held} {q : ℕ} (S : SlotIn file lists h q) (c : Candidates) {i : ℕ}
+    (F : Finding (listAt scoring file lists q) (cursorAt (h .places) q .dec) c i) (hi : i < 128) {doc : ℕ} (ed : doc ≡ getD (getD (h .docs) q []) i 0)
+    (k : doc ≤ c .«window_end») (n : doc ≡ 2147483647 → ⊥) {score : Float} (es : score ≡ listAt scoring file lists q .score (start 128 (cursorAt (h .places) q .dec) + i)) where
+  pub skips : f32 .above score (c .«score_threshold») ≡ false → Finding (listAt scoring file lists q) (cursorAt (h .places) q .dec) c (i + 1)
+  skips a = record { high = omega arith; same = F .same ∙ leaves-out scoring S (c .«window_end») (c .«score_threshold») i hi ed k n es a }
+
+  pub hits : f32 .above score (c .«score_threshold») ≡ true
+      → Finds (listAt scoring file lists q) (cursorAt (h .places) q .dec) c (At (i + 1) (record { doc = doc; score = score }))
+  hits a = record {
+    finds = (F .same ∙ takes scoring S (c .«window_end») (c .«score_threshold») i hi ed k n es a, omega arith, doc-small scoring S (c .«window_end») (c .«score_threshold») i hi ed k n);
+  }
