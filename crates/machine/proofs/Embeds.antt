@@ -27,16 +27,16 @@ use Rattle.machine.specs.Inner.Places.{Place, among, intersection, machi
 
 -- ---- the four modes
 
-pub runs-union : (ss : List (Scorer Float)) → Runs (pivotRoute 128 f32 ss) (union (pivotRoute 128 f32 ss .first))
+abbrev pub runs-union : (ss : List (Scorer Float)) → Runs (pivotRoute 128 f32 ss) (union (pivotRoute 128 f32 ss .first))
 runs-union ss = record { place = union; first-is = refl; turn-is = λ t x. refl; over-is = λ x. refl }
 
-pub runs-single : (s : Scorer Float) → Runs (blockWandSingleScorer 128 f32 s) (single s (blockWandSingleScorer 128 f32 s .first))
+abbrev pub runs-single : (s : Scorer Float) → Runs (blockWandSingleScorer 128 f32 s) (single s (blockWandSingleScorer 128 f32 s .first))
 runs-single s = record { place = single s; first-is = refl; turn-is = λ t x. refl; over-is = λ x. refl }
 
-pub runs-intersection : (ld : Scorer Float) (ss : List (Scorer Float)) → Runs (leaderRoute 128 f32 ld ss) (intersection (leaderRoute 128 f32 ld ss .first))
+abbrev pub runs-intersection : (ld : Scorer Float) (ss : List (Scorer Float)) → Runs (leaderRoute 128 f32 ld ss) (intersection (leaderRoute 128 f32 ld ss .first))
 runs-intersection ld ss = record { place = intersection; first-is = refl; turn-is = λ t x. refl; over-is = λ x. refl }
 
-pub runs-plain : (hits : ℕ → Option Float) → Runs (scanRoute hits) (plain hits 0)
+abbrev pub runs-plain : (hits : ℕ → Option Float) → Runs (scanRoute hits) (plain hits 0)
 runs-plain hits = record { place = plain hits; first-is = refl; turn-is = λ t x. refl; over-is = λ x. refl }
 
 -- at its end it stays

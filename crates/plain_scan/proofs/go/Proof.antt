@@ -35,8 +35,8 @@ ahead-of g = ahead _ _ _ _ _ (loop-of g .loop .inv) (g .least .ensures)
 -- the scan has come to the least document
 at-least : (x : tie.Else1 Inv-loop μ-loop)
     → (let g = x .before in let l = loop-of g in let a = start l in
-      Upward (a .args .similarity .scoring) (a .args .file .now) (a .args .lists .now) (a .args .plain .len) (a .args .plain .all) (a .args .threshold) (a .args .turns) (a .args .plain .doc)
-      (l .loop .taken + (g .least .result - l .loop .at)) (g .least .result) (held (l .loop .places) (l .loop .docs) (l .loop .freqs)) (l .loop .heads))
+    Upward (a .args .similarity .scoring) (a .args .file .now) (a .args .lists .now) (a .args .plain .len) (a .args .plain .all) (a .args .threshold) (a .args .turns) (a .args .plain .doc)
+    (l .loop .taken + (g .least .result - l .loop .at)) (g .least .result) (held (l .loop .places) (l .loop .docs) (l .loop .freqs)) (l .loop .heads))
 at-least x =
     let g = x .before in
     let l = loop-of g in

@@ -1,0 +1,110 @@
+-- The loop that drives the machine: from report to report the run goes its route, and its rows and threshold are what the reports leave.
+use mathlib.Core.Path.{_≡_, refl, sym, ap, subst, _∙_}
+use mathlib.Core.Bool.{true, false}
+use mathlib.Core.List.{List, []}
+use Prim.Native.Nat.{ℕ, suc, _+_, _≤_, _<_}
+use native.Mathlib.Omega.{arith}
+use lib.ListN.{length}
+use lib.Ieee.{Float}
+use Rattle.route.specs.Route.{Route}
+use Rattle.route.proofs.Cases.{lt-of-ne}
+use Rattle.rule.specs.Inner.Follows.{Follows}
+use Rattle.rule.specs.declared.Rule.{Rule}
+use Rattle.rule.specs.declared.Threshold.{Threshold}
+use Rattle.notefile.specs.Header as header
+use Rattle.reports.specs.Rows.{rowsOf}
+use Rattle.reports.specs.Inner.Rows.{Reported}
+use Rattle.reports.specs.Inner.Runs.{Going, Ran}
+use Rattle.reports.specs.Inner.Turns.{Went}
+use Rattle.reports.specs.declared.Event.{Event}
+use Rattle.reports.specs.declared.Event.the-variants.{Over, Paused, Report}
+use Rattle.reports.proofs.RowLaws.{count-is, documents-long, scores-long}
+use Rattle.reports.proofs.RunLaws.{run-begun, went-full, went-near, went-over, went-paused, went-reports}
+use Rattle.term_scorer.specs.declared.score.Similarity.{Similarity}
+use Rattle.machine.specs.Inner.Places.{Place, machineFrom, overIn, turnIn}
+use Rattle.machine.specs.Inner.Kept.{KeptIn}
+use Rattle.machine.specs.Inner.Stands.{Tables, placeIn, StandsIn}
+use Rattle.machine.specs.Inner.Drives.{stoppedAs, Drives, GoesOn}
+use Rattle.machine.specs.declared.Driven.{Driven}
+use Rattle.machine.specs.declared.Gone.{Gone}
+use Rattle.machine.specs.declared.Machine.{Machine}
+use Rattle.machine.specs.declared.Task.{Task}
+use Rattle.machine.proofs.Nearing.{costIn, machine-nears}
+
+module _ (file : List ℕ) (script : List Float) (lists : List (List ℕ)) (caches : List (List Float)) (task : Task) (old : Tables)
+    (documents₀ : List ℕ) (scores₀ : List Float) where
+  abbrev at : Tables → Machine → Place
+  at h m = placeIn file (task .similarity) lists caches h m
+
+  abbrev W : Route Float
+  W = machineFrom (at old (task .machine))
+
+  abbrev N : ℕ
+  N = header.documents file
+
+  -- a run on its way
+  pub record Driving (t : Threshold) (h : Tables) (m : Machine) (documents : List ℕ) (values : List Float) : Type 0 where
+    pub stands : StandsIn file (task .similarity) lists caches h m
+    pub going : Going W (task .rule) script documents₀ scores₀ t documents values (at h m)
+    pub kept : KeptIn N (at h m)
+
+  pub driving-begun : StandsIn file (task .similarity) lists caches old (task .machine) → KeptIn N (at old (task .machine))
+      → {t : Threshold} → Follows (task .rule) script [] t → Driving t old (task .machine) documents₀ scores₀
+  driving-begun S k f = record { stands = S; going = run-begun W (task .rule) script documents₀ scores₀ f; kept = k }
+
+  module _ {t : Threshold} {h : Tables} {m : Machine} {documents : List ℕ} {values : List Float} (D : Driving t h m documents values) where
+    -- a row is left
+    pub has-row : (t .reports ≡ rowsOf documents₀ scores₀ → ⊥) → (t .reports < rowsOf documents₀ scores₀) × (t .reports < length documents) × (t .reports < length values)
+    has-row ne =
+        let K = D .going .kept in
+        let w = K .written in
+        let l : t .reports < rowsOf documents₀ scores₀ = lt-of-ne (omega (arith, w .fit, count-is K)) ne in
+        (l, omega (arith, l, documents-long w), omega (arith, l, scores-long w))
+
+    module _ {turns : ℕ} {h′ : Tables} {r : Gone} (G : GoesOn file (task .similarity) lists caches (t .now) turns h m h′ r) where
+      abbrev Turns : Event → Type 0
+      Turns event = Went turnIn overIn (t .now) (at h m) turns (r .taken) (at h′ (r .machine)) event
+
+      went-as : {event : Event} → r .event ≡ event → Turns event
+      went-as e = subst Turns e (G .went)
+
+      near : KeptIn N (at h′ (r .machine)) × (r .taken + costIn N (at h′ (r .machine)) ≤ costIn N (at h m))
+      near = went-near (machineFrom (at h m)) (machine-nears N (at h m) (D .kept)) (t .now) (at h m) (r .event) (D .kept) (G .went)
+
+      -- a report that has a row
+      pub reports-on : {doc : ℕ} {score : Float} → r .event ≡ Report doc score → (t .reports ≡ rowsOf documents₀ scores₀ → ⊥)
+          → {t′ : Threshold} {documents′ : List ℕ} {values′ : List Float} → Reported (task .rule) script t doc score documents values t′ documents′ values′
+          → Driving t′ h′ (r .machine) documents′ values′
+      reports-on e ne R = record {
+        stands = G .stands;
+        going = went-reports W (task .rule) script documents₀ scores₀ (D .going) (went-as e) (has-row ne .0) R;
+        kept = near .0;
+      }
+
+      pub reports-nearer : {doc : ℕ} {score : Float} → r .event ≡ Report doc score → costIn N (at h′ (r .machine)) < costIn N (at h m)
+      reports-nearer e = let s = went-as e .stood in omega (arith, near .1, s .1)
+
+      -- one for which no row is left
+      pub stops-full : {doc : ℕ} {score : Float} → r .event ≡ Report doc score → {room : ℕ} → t .reports ≡ room → room ≡ rowsOf documents₀ scores₀
+          → {x : Driven} → x ≡ stoppedAs (r .machine) true room → Drives file script lists caches task old documents₀ scores₀ h′ documents values x
+      stops-full e {room} f g x-is =
+          subst (Drives file script lists caches task old documents₀ scores₀ h′ documents values) (sym x-is)
+          (record {
+            stands = G .stands;
+            ran = subst (λ (n : ℕ). Ran W (task .rule) script documents₀ scores₀ true n documents values (at h′ (r .machine))) f
+                (went-full W (task .rule) script documents₀ scores₀ (D .going) (went-as e) (f ∙ g));
+          })
+
+      -- the route's end
+      pub stops-over : r .event ≡ Over → {x : Driven} → x ≡ stoppedAs (r .machine) false (t .reports)
+          → Drives file script lists caches task old documents₀ scores₀ h′ documents values x
+      stops-over e x-is =
+          subst (Drives file script lists caches task old documents₀ scores₀ h′ documents values) (sym x-is)
+          (record { stands = G .stands; ran = went-over W (task .rule) script documents₀ scores₀ (D .going) (went-as e) })
+
+      -- turns that were taken without a report
+      pub pauses-on : r .event ≡ Paused → Driving t h′ (r .machine) documents values
+      pauses-on e = record { stands = G .stands; going = went-paused W (task .rule) script documents₀ scores₀ (D .going) (went-as e); kept = near .0 }
+
+      pub pauses-nearer : r .event ≡ Paused → 0 < turns → costIn N (at h′ (r .machine)) < costIn N (at h m)
+      pauses-nearer e l = omega (arith, near .1, went-as e .stood .2, l)

@@ -1,0 +1,148 @@
+-- `drive` meets its contract: between two turns of its loop the run has gone its route so far, and has a row for each report.
+use mathlib.Core.Path.{sym, _∙_}
+use native.Mathlib.Omega.{arith}
+use borrow.Author.Needs.{needs}
+use Rattle.notefile.specs.Header as header
+use Rattle.reports.proofs.RowLaws.{documents-long, scores-long}
+use Rattle.machine.specs.Inner.Stands.{tables, placeIn}
+use Rattle.machine.proofs.Nearing.{costIn}
+use Rattle.machine.proofs.Driving.{Driving, driving-begun, has-row, pauses-nearer, pauses-on, reports-nearer, reports-on, stops-full, stops-over}
+use Rattle.machine.proofs.drive.Statement.{statement}
+use Rattle.machine.proofs.drive.Tie as tie
+
+abbrev Inv-loop : tie.InvT-loop
+Inv-loop file script lists caches order₀ places₀ docs₀ freqs₀ floats₀ documents₀ scores₀ similarity rule room machine₀ threshold₀ order places docs freqs floats documents scores machine threshold =
+    Driving file script lists caches (record { similarity = similarity; machine = machine₀; rule = rule }) (tables order₀ places₀ docs₀ freqs₀ floats₀) documents₀ scores₀
+    threshold (tables order places docs freqs floats) machine documents scores
+
+abbrev μ-loop : tie.MeasureT-loop
+μ-loop file script lists caches order₀ places₀ docs₀ freqs₀ floats₀ documents₀ scores₀ similarity rule room machine₀ threshold₀ order places docs freqs floats documents scores machine threshold =
+    costIn (header.documents file) (placeIn file similarity lists caches (tables order places docs freqs floats) machine)
+
+-- the places that the answers look back to
+abbrev start-of : tie.After-rows Inv-loop μ-loop → tie.Start Inv-loop μ-loop
+start-of c = c .before .before .before .before .before .before .before .before
+
+abbrev loop-of : tie.After-go-on Inv-loop μ-loop → tie.At-loop Inv-loop μ-loop
+loop-of g = g .before .before .before .before .before .before
+
+abbrev reported-of : tie.After-struct-known Inv-loop μ-loop → tie.After-event Inv-loop μ-loop
+reported-of c = c .before .before
+
+rows-requires : tie.Need-rows-requires Inv-loop μ-loop
+rows-requires c κs = search needs
+
+new-requires : tie.Need-new-requires Inv-loop μ-loop
+new-requires c κs = start-of c .pre .1
+
+loop-holds : tie.Need-loop-holds Inv-loop μ-loop
+loop-holds c =
+    let a = start-of (c .before) in
+    driving-begun (a .args .file .now) (a .args .script .now) (a .args .lists .now) (a .args .caches .now) (a .args .task) _ _ _ (a .pre .2) (a .pre .3) (c .new .ensures (a .args .script .now))
+
+go-on-requires : tie.Need-go-on-requires Inv-loop μ-loop
+go-on-requires c κs =
+    let l = c .before .before .before .before .before in
+    (start-of (l .before .before) .pre .0, l .loop .inv .stands)
+
+enum-known-event : tie.Need-enum-known-event Inv-loop μ-loop
+enum-known-event c = search needs
+
+stopped-requires : tie.Need-stopped-requires Inv-loop μ-loop
+stopped-requires c κs = search needs
+
+same-length : tie.Need-same-length Inv-loop μ-loop
+same-length c = documents-long (loop-of (reported-of (c .before .before) .before .before) .loop .inv .going .kept .written)
+
+same-length-2 : tie.Need-same-length-2 Inv-loop μ-loop
+same-length-2 c = scores-long (loop-of (reported-of (c .before .before) .before .before) .loop .inv .going .kept .written)
+
+returns : tie.Need-returns Inv-loop μ-loop
+returns c =
+    let t = c .before in
+    let e = reported-of (t .before) in
+    let g = e .before .before in
+    let l = loop-of g in
+    stops-full _ _ _ _ _ _ _ _ (l .loop .inv) (g .go-on .ensures) (e .event .given .1) (t .if1 .taken) (l .before .before .rows .ensures) (c .stopped .ensures)
+
+report-requires : tie.Need-report-requires Inv-loop μ-loop
+report-requires c κs =
+    let f = c .before .before in
+    let l = loop-of (reported-of (f .before) .before .before) in
+    let w = l .before .before in
+    let r = has-row _ _ _ _ _ _ _ _ (l .loop .inv) (λ z. f .if1 .left (z ∙ sym (w .rows .ensures))) in
+    (start-of w .pre .1, r .1, r .2)
+
+loop-less : tie.Need-loop-less Inv-loop μ-loop
+loop-less c =
+    let f = c .before .before .before .before .before .before .before in
+    let e = reported-of (f .before) in
+    let g = e .before .before in
+    reports-nearer _ _ _ _ _ _ _ _ (loop-of g .loop .inv) (g .go-on .ensures) (e .event .given .1)
+
+loop-again : tie.Need-loop-again Inv-loop μ-loop
+loop-again c =
+    let p = c .before .before .before .before in
+    let f = p .before .before .before in
+    let e = reported-of (f .before) in
+    let g = e .before .before in
+    let l = loop-of g in
+    reports-on _ _ _ _ _ _ _ _ (l .loop .inv) (g .go-on .ensures) (e .event .given .1) (λ z. f .if1 .left (z ∙ sym (l .before .before .rows .ensures))) (p .report .ensures)
+
+enum-told : tie.Need-enum-told Inv-loop μ-loop
+enum-told c = search needs
+
+stopped-requires-2 : tie.Need-stopped-requires-2 Inv-loop μ-loop
+stopped-requires-2 c κs = search needs
+
+same-length-3 : tie.Need-same-length-3 Inv-loop μ-loop
+same-length-3 c = documents-long (loop-of (c .before .before .before) .loop .inv .going .kept .written)
+
+same-length-4 : tie.Need-same-length-4 Inv-loop μ-loop
+same-length-4 c = scores-long (loop-of (c .before .before .before) .loop .inv .going .kept .written)
+
+returns-2 : tie.Need-returns-2 Inv-loop μ-loop
+returns-2 c =
+    let m = c .before in
+    let g = m .before .before in
+    stops-over _ _ _ _ _ _ _ _ (loop-of g .loop .inv) (g .go-on .ensures) (m .enum-told .given .1) (c .stopped2 .ensures)
+
+enum-told-2 : tie.Need-enum-told-2 Inv-loop μ-loop
+enum-told-2 c = search needs
+
+loop-less-2 : tie.Need-loop-less-2 Inv-loop μ-loop
+loop-less-2 c =
+    let g = c .before .before in
+    pauses-nearer _ _ _ _ _ _ _ _ (loop-of g .loop .inv) (g .go-on .ensures) (c .enum-told2 .given .1) (omega arith)
+
+loop-again-2 : tie.Need-loop-again-2 Inv-loop μ-loop
+loop-again-2 c =
+    let g = c .before .before in
+    pauses-on _ _ _ _ _ _ _ _ (loop-of g .loop .inv) (g .go-on .ensures) (c .enum-told2 .given .1)
+
+pub drive-spec : {M : Type 1} → statement M
+drive-spec =
+    tie.close
+    (tie.spec
+    Inv-loop
+    μ-loop
+    rows-requires
+    new-requires
+    loop-holds
+    go-on-requires
+    enum-known-event
+    stopped-requires
+    same-length
+    same-length-2
+    returns
+    report-requires
+    loop-less
+    loop-again
+    enum-told
+    stopped-requires-2
+    same-length-3
+    same-length-4
+    returns-2
+    enum-told-2
+    loop-less-2
+    loop-again-2)

@@ -1,0 +1,109 @@
+-- `go_on` meets its contract: the machine's turns are its mode's.
+use mathlib.Core.Path.{_≡_, sym, subst}
+use borrow.Author.Needs.{needs}
+use Rattle.machine.specs.Inner.Stands.{tables, Tables, StandsIn}
+use Rattle.machine.specs.Inner.Drives.{GoesOn}
+use Rattle.machine.specs.declared.Gone.{Gone}
+use Rattle.machine.specs.declared.Machine.{Machine}
+use Rattle.machine.proofs.Going.{intersection-goes, plain-goes, single-goes, union-goes}
+use Rattle.machine.proofs.go_on.Statement.{statement}
+use Rattle.machine.proofs.go_on.Tie as tie
+
+-- the tables before
+abbrev had : tie.Start → Tables
+had a = tables (a .args .order .now) (a .args .places .now) (a .args .docs .now) (a .args .freqs .now) (a .args .floats .now)
+
+-- what stood, by the mode
+stood : (a : tie.Start) {m : Machine} → a .args .machine ≡ m → StandsIn (a .args .file .now) (a .args .similarity) (a .args .lists .now) (a .args .caches .now) (had a) m
+stood a e = subst (StandsIn (a .args .file .now) (a .args .similarity) (a .args .lists .now) (a .args .caches .now) (had a)) e (a .pre .1)
+
+from-mode : (a : tie.Start) {m : Machine} → m ≡ a .args .machine → {new : Tables} {r : Gone}
+    → GoesOn (a .args .file .now) (a .args .similarity) (a .args .lists .now) (a .args .caches .now) (a .args .threshold) (a .args .turns) (had a) m new r
+    → GoesOn (a .args .file .now) (a .args .similarity) (a .args .lists .now) (a .args .caches .now) (a .args .threshold) (a .args .turns) (had a) (a .args .machine) new r
+from-mode a e {new} {r} G =
+    subst (λ (m : Machine). GoesOn (a .args .file .now) (a .args .similarity) (a .args .lists .now) (a .args .caches .now) (a .args .threshold) (a .args .turns) (had a) m new r) e G
+
+enum-known-machine : tie.Need-enum-known-machine
+enum-known-machine c = search needs
+
+index-1-go : tie.Need-index-1-go
+index-1-go c = search needs
+
+go-requires : tie.Need-go-requires
+go-requires c κs =
+    let m = c .before .before .before .before .before .before in
+    let a = m .before .before .before in
+    (a .pre .0, stood a (m .machine .given .1) .1)
+
+enum-known-machine-2 : tie.Need-enum-known-machine-2
+enum-known-machine-2 c = search needs
+
+go-requires-2 : tie.Need-go-requires-2
+go-requires-2 c κs =
+    let m = c .before .before .before .before .before in
+    let a = m .before .before .before in
+    stood a (m .machine2 .given .1)
+
+enum-known-machine-3 : tie.Need-enum-known-machine-3
+enum-known-machine-3 c = search needs
+
+go-requires-3 : tie.Need-go-requires-3
+go-requires-3 c κs =
+    let m = c .before .before .before .before .before .before in
+    let a = m .before .before .before in
+    stood a (m .machine3 .given .1)
+
+enum-known-machine-4 : tie.Need-enum-known-machine-4
+enum-known-machine-4 c = search needs
+
+go-requires-4 : tie.Need-go-requires-4
+go-requires-4 c κs =
+    let m = c .before .before .before .before in
+    let a = m .before .before .before in
+    (a .pre .0, stood a (m .machine4 .given .1))
+
+returns : tie.Need-returns
+returns c =
+    let g = c .before in
+    let m = g .before .before .before .before .before .before .before in
+    let a = m .before .before .before in
+    from-mode a (sym (m .machine .given .1)) (union-goes (a .args .file .now) (a .args .similarity) (a .args .lists .now) (a .args .caches .now) (a .args .threshold) (a .args .turns) _ (had a) (g .go .result) (stood a (m .machine .given .1) .0) (g .go .ensures .0) (g .go .ensures .1))
+
+returns-2 : tie.Need-returns-2
+returns-2 c =
+    let g = c .before in
+    let m = g .before .before .before .before .before .before in
+    let a = m .before .before .before in
+    from-mode a (sym (m .machine2 .given .1)) (single-goes (a .args .file .now) (a .args .similarity) (a .args .lists .now) (a .args .caches .now) (a .args .threshold) (a .args .turns) _ (had a) (g .go2 .result) (g .go2 .ensures))
+
+returns-3 : tie.Need-returns-3
+returns-3 c =
+    let g = c .before in
+    let m = g .before .before .before .before .before .before .before in
+    let a = m .before .before .before in
+    from-mode a (sym (m .machine3 .given .1)) (intersection-goes (a .args .file .now) (a .args .similarity) (a .args .lists .now) (a .args .caches .now) (a .args .threshold) (a .args .turns) _ (had a) (g .go3 .result) (g .go3 .ensures))
+
+returns-4 : tie.Need-returns-4
+returns-4 c =
+    let g = c .before in
+    let m = g .before .before .before .before .before in
+    let a = m .before .before .before in
+    from-mode a (sym (m .machine4 .given .1)) (plain-goes (a .args .file .now) (a .args .similarity) (a .args .lists .now) (a .args .caches .now) (a .args .threshold) (a .args .turns) _ (had a) (g .go4 .result) (g .go4 .ensures))
+
+pub go-on-spec : {M : Type 1} → statement M
+go-on-spec =
+    tie.close
+    (tie.spec
+    enum-known-machine
+    index-1-go
+    go-requires
+    enum-known-machine-2
+    go-requires-2
+    enum-known-machine-3
+    go-requires-3
+    enum-known-machine-4
+    go-requires-4
+    returns
+    returns-2
+    returns-3
+    returns-4)
