@@ -52,7 +52,7 @@ module _ (l : Postings Float) {N : ℕ} (k : ListOk 128 N l) (b : ℕ) (within :
   full-size : b < l .full → n ≡ 128
   full-size h = let s = start-suc 128 b in omega (arith, start-le 128 (suc b) (l .full) h, k .blocks)
 
-  pub tail-size : l .full ≤ b → (n < 128) × (start 128 b + n ≡ l .len)
+  tail-size : l .full ≤ b → (n < 128) × (start 128 b + n ≡ l .len)
   tail-size h =
       let e : b ≡ l .full = omega arith in
       let t : l .len < start 128 b + 128 = rw e (k .tail) in

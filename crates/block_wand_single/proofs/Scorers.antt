@@ -42,7 +42,7 @@ module _ {file : List ℕ} {lists places : List (List ℕ)} {q : ℕ} (T : Stand
   pub right : ListOk 128 (documents file) (listAt scoring file lists q)
   right = list-ok scoring file (partAt lists q) (T .list .right) (T .list .few)
 
-  pub last-here : lastDoc (listAt scoring file lists q) 128 (cursorAt places q .blk) ≡ lastAt places q
+  last-here : lastDoc (listAt scoring file lists q) 128 (cursorAt places q .blk) ≡ lastAt places q
   unfolding cursorIn
   last-here = end-is file (partAt lists q) (T .list) scoring (getD (getD places q []) 0 0) ∙ sym (last-is file (partAt lists q) (getD places q []) (T .standing))
 
@@ -90,7 +90,7 @@ module _ {file : List ℕ} {lists : List (List ℕ)} {q : ℕ} {h : Held} (S : S
 
   -- its skip reader alone
   module _ {to : Scoring → Cursor} {places′ : List (List ℕ)} (M : Shallowed file lists q to (h .places) places′) where
-    pub shallow-to : (phase : Phase) (doc : ℕ) {place : Scoring → SinglePlace} → ((s : Scoring) → record { phase = phaseOf phase; cur = to s; doc = doc } ≡ place s)
+    shallow-to : (phase : Phase) (doc : ℕ) {place : Scoring → SinglePlace} → ((s : Scoring) → record { phase = phaseOf phase; cur = to s; doc = doc } ≡ place s)
         → MovedTo file lists q place h (held places′ (h .docs) (h .freqs)) (record { slot = q; doc = doc; phase = phase })
     shallow-to phase doc e =
         moved-to (ap length (M .only) ∙ length-set (h .places) q _ ∙ S .sixteen .0, S .sixteen .1, S .sixteen .2)
@@ -123,7 +123,7 @@ module _ {file : List ℕ} {lists : List (List ℕ)} {q : ℕ} {h : Held} (S : S
     put-slot = record { sixteen = put-sixteen; part-row = S .part-row; list = S .list; place = put-row .place }
 
     -- and on from there
-    pub put-then : {h″ : Held} {place : Scoring → SinglePlace} {r : Single} → MovedTo file lists q place put h″ r → MovedTo file lists q place h h″ r
+    put-then : {h″ : Held} {place : Scoring → SinglePlace} {r : Single} → MovedTo file lists q place put h″ r → MovedTo file lists q place h h″ r
     put-then M = record {
       slot-is = M .slot-is;
       place-is = M .place-is;
@@ -176,11 +176,11 @@ module _ {file : List ℕ} {lists places docs : List (List ℕ)} {q : ℕ} (smal
 
 -- ---- ready again
 
-pub bound-same : (l : Postings Float) (c c′ : Cursor) → c′ .blk ≡ c .blk → c′ .loaded ≡ c .loaded → blockMax 128 f32 l c′ ≡ blockMax 128 f32 l c
+bound-same : (l : Postings Float) (c c′ : Cursor) → c′ .blk ≡ c .blk → c′ .loaded ≡ c .loaded → blockMax 128 f32 l c′ ≡ blockMax 128 f32 l c
 bound-same l c c′ e f = rw (e, f)
 
 -- a row of floats is written
-pub rows-set : {floats : List (List Float)} (r : ℕ) (row : List Float) → FloatRows floats → r < 3 → FloatRow row → FloatRows (set floats r row)
+rows-set : {floats : List (List Float)} (r : ℕ) (row : List Float) → FloatRows floats → r < 3 → FloatRow row → FloatRows (set floats r row)
 rows-set {floats} r row F h l = record {
   three = length-set floats r row ∙ F .three;
   row = λ k hk.

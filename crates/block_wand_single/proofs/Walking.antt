@@ -49,7 +49,7 @@ on-a-walk l Done c d w k = absurd (false≢true w)
 
 module _ {file : List ℕ} {similarity : Similarity} {lists : List (List ℕ)} {caches : List (List Float)} where
   -- what the route keeps is kept by turns without a report
-  pub kept-on : {x : Single} {h : Held} {floats : List (List Float)} → Stands file similarity lists caches x h floats → (t : Float) {m : ℕ} {p : route.SinglePlace}
+  kept-on : {x : Single} {h : Held} {floats : List (List Float)} → Stands file similarity lists caches x h floats → (t : Float) {m : ℕ} {p : route.SinglePlace}
       → Quietly (singleRoute (similarity .scoring) file lists (x .slot) 0 .turn) (singleRoute (similarity .scoring) file lists (x .slot) 0 .ended) t (placeOf x (h .places)) m p
       → SingleKept 128 (listAt (similarity .scoring) file lists (x .slot)) (p .phase) (p .cur) (p .doc)
   kept-on {x} {h} S t {m} {p} Q =
@@ -192,7 +192,7 @@ module _ {file : List ℕ} {similarity : Similarity} {lists : List (List ℕ)} {
             pub low : cur ≤ i
             low = omega (arith, start-bounds (x .phase) (T .walking) .0, F .low)
 
-            pub high : (i ≤ n) × (i - cur ≤ turns)
+            high : (i ≤ n) × (i - cur ≤ turns)
             high = (omega (arith, F .high), omega (arith, F .high))
 
             -- the postings on the way take a turn each

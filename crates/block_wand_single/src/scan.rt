@@ -13,8 +13,8 @@ ghost use mathlib.Core.Bool.{false};
 ghost use Prim.Native.Nat.{_<_};
 ghost use Rattle.arrays.specs.Lent.{before, after};
 ghost use Rattle.term_scorer.specs.Inner.Slots.{held};
-ghost use Rattle.block_wand_single.specs.Inner.Stands.{Stands, Goes, Steps};
 ghost use Rattle.block_wand_single.specs.Inner.Places.{isDone, isReport, onWalk};
+ghost use Rattle.block_wand_single.specs.Inner.Stands.{Goes, Stands, Steps};
 
 // Whether a block is walked.
 fn on_walk(phase: Phase) -> bool
@@ -48,6 +48,17 @@ fn is_report(event: Event) -> bool
         Event::Report(_, _) => true,
         Event::Over => false,
         Event::Paused => false,
+    }
+}
+
+// Where a scan stands still.
+fn gone(single: Single, taken: usize, event: Event) -> Gone
+    ensures { λ r. ⌜ r ≡ record { single = single; taken = taken; event = event } ⌝ }
+{
+    Gone {
+        single,
+        taken,
+        event,
     }
 }
 
@@ -131,18 +142,10 @@ pub fn go(
     loop {
         let phase = single.phase;
         if is_over(phase) {
-            return Gone {
-                single,
-                taken,
-                event: Event::Over,
-            };
+            return gone(single, taken, Event::Over);
         }
         if taken == turns {
-            return Gone {
-                single,
-                taken,
-                event: Event::Paused,
-            };
+            return gone(single, taken, Event::Paused);
         }
         let next = stride(
             file,
@@ -161,11 +164,7 @@ pub fn go(
         taken += next.taken;
         let event = next.event;
         if is_report(event) {
-            return Gone {
-                single,
-                taken,
-                event,
-            };
+            return gone(single, taken, event);
         }
     }
 }

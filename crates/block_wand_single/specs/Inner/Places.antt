@@ -19,6 +19,7 @@ use Rattle.block_wand_single.specs.declared.Phase.{Phase}
 use Rattle.block_wand_single.specs.declared.Phase.the-variants.{Hunt, Walk, Called, Over as Done}
 use Rattle.block_wand_single.specs.declared.Single.{Single}
 
+-- a phase as the route has it
 abbrev pub phaseOf : Phase → route.Phase
 phaseOf Hunt = route.hunt
 phaseOf Walk = route.walk
@@ -62,12 +63,11 @@ startOf Done cur = cur
 abbrev pub onPlace : Cursor → ℕ → Cursor
 onPlace c i = record { blk = c .blk; loaded = c .loaded; dec = c .dec; at = start 128 (c .dec) + i }
 
-module _ (l : Postings Float) (c : Cursor) where
-  -- past the skip reader's block; over where it is the last, at document d
-  abbrev pub skipped : ℕ → route.SinglePlace
-  skipped d =
-      let e = lastDoc l 128 (c .blk) in
-      cond (eqb e TERMINATED) (record { phase = route.over; cur = c; doc = d }) (route.leave 128 f32 l e c)
+-- past the skip reader's block; over where it is the last, at document d
+abbrev pub skipped : Postings Float → Cursor → ℕ → route.SinglePlace
+skipped l c d =
+    let e = lastDoc l 128 (c .blk) in
+    cond (eqb e TERMINATED) (record { phase = route.over; cur = c; doc = d }) (route.leave 128 f32 l e c)
 
 -- place i of a block of n postings, or out of it: past a full block, or the end
 abbrev pub inBlock : Postings Float → Cursor → List ℕ → ℕ → ℕ → route.SinglePlace

@@ -22,16 +22,24 @@ loop-holds c = going-begun _ _ (c .before .pre)
 is-over-requires : tie.Need-is-over-requires Inv-loop μ-loop
 is-over-requires c κs = search needs
 
+gone-requires : tie.Need-gone-requires Inv-loop μ-loop
+gone-requires c κs = search needs
+
 returns : tie.Need-returns Inv-loop μ-loop
 returns c =
-    let o = c .before in
-    gone-over (o .before .loop .inv) (sym (o .is-over .ensures) ∙ c .if1 .taken)
+    let t = c .before in
+    let o = t .before in
+    rw (c .gone .ensures) (gone-over (o .before .loop .inv) (sym (o .is-over .ensures) ∙ t .if1 .taken))
+
+gone-requires-2 : tie.Need-gone-requires-2 Inv-loop μ-loop
+gone-requires-2 c κs = search needs
 
 returns-2 : tie.Need-returns-2 Inv-loop μ-loop
 returns-2 c =
-    let e = c .before in
+    let t = c .before in
+    let e = t .before in
     let o = e .before in
-    gone-through (o .before .loop .inv) (sym (o .is-over .ensures) ∙ e .if1 .left) (c .if2 .taken)
+    rw (c .gone2 .ensures) (gone-through (o .before .loop .inv) (sym (o .is-over .ensures) ∙ e .if1 .left) (t .if2 .taken))
 
 sub-stride : tie.Need-sub-stride Inv-loop μ-loop
 sub-stride c = c .before .before .before .loop .inv .few
@@ -53,12 +61,16 @@ add-taken c =
 is-report-requires : tie.Need-is-report-requires Inv-loop μ-loop
 is-report-requires c κs = search needs
 
+gone-requires-3 : tie.Need-gone-requires-3 Inv-loop μ-loop
+gone-requires-3 c κs = search needs
+
 returns-3 : tie.Need-returns-3 Inv-loop μ-loop
 returns-3 c =
-    let r = c .before in
+    let t = c .before in
+    let r = t .before in
     let s = r .before .before .before in
     let l = s .before .before .before .before .before .before .before .before in
-    gone-report (l .loop .inv) (s .stride .ensures) (sym (r .is-report .ensures) ∙ c .if3 .taken)
+    rw (c .gone3 .ensures) (gone-report (l .loop .inv) (s .stride .ensures) (sym (r .is-report .ensures) ∙ t .if3 .taken))
 
 loop-less : tie.Need-loop-less Inv-loop μ-loop
 loop-less c =
@@ -82,12 +94,15 @@ go-spec =
     μ-loop
     loop-holds
     is-over-requires
+    gone-requires
     returns
+    gone-requires-2
     returns-2
     sub-stride
     stride-requires
     add-taken
     is-report-requires
+    gone-requires-3
     returns-3
     loop-less
     loop-again)
