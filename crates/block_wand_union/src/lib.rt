@@ -8,6 +8,7 @@ pub mod turn;
 use crate::turn::turn;
 use ordering::Scorers;
 use ordering::TermScorer;
+use ordering::sort_by_doc;
 use reports::Event;
 use term_scorer::score;
 use term_scorer::score::Similarity;
@@ -26,7 +27,7 @@ ghost use Rattle.notefile.specs.Header.{documents, normReader};
 ghost use Rattle.ordering.specs.Inner.Scorers.{slotOf};
 ghost use Rattle.term_scorer.specs.Inner.Slots.{held, Sixteen};
 ghost use Rattle.block_wand_union.specs.Inner.Seats.{Readable, Seated, alive, placeIn, stageOf, termAt, terms};
-ghost use Rattle.block_wand_union.specs.Inner.Runs.{Stands, Walks, placeOf, unionEnded};
+ghost use Rattle.block_wand_union.specs.Inner.Runs.{Begins, Stands, Walks, placeOf, unionEnded};
 
 // Before a pivot is looked for; behind a report, with so many scorers on its document that have still to go on; returned.
 pub enum Stage {
@@ -103,7 +104,7 @@ fn in_order(
 }
 
 // The scorers' slots, in their order.
-pub fn keep_order(scorers: Scorers, order: &mut [usize; 16])
+fn keep_order(scorers: Scorers, order: &mut [usize; 16])
     requires { ⌜ (scorers .len ≤ 16) × Sixteen (now order) ⌝ }
     ensures { λ _. ⌜ (take (scorers .len) (after order) ≡ map slotOf (alive scorers)) × Sixteen (after order) ⌝ }
 {
@@ -114,6 +115,24 @@ pub fn keep_order(scorers: Scorers, order: &mut [usize; 16])
         let scorer = array[i];
         order[i] = scorer.slot;
         i += 1;
+    }
+}
+
+// Scorers that were just opened, in the order of their documents: where a run begins.
+pub fn begin(scorers: Scorers, order: &mut [usize; 16]) -> Union
+    requires { ⌜ (scorers .len ≤ 16) × Sixteen (now order) ⌝ }
+    ensures { λ r. ⌜ Begins (alive scorers) (scorers .len) r (after order) ⌝ }
+{
+    let array = scorers.scorers;
+    let sorted = sort_by_doc(array, scorers.len);
+    let in_order = Scorers {
+        scorers: sorted,
+        len: scorers.len,
+    };
+    keep_order(in_order, order);
+    Union {
+        len: scorers.len,
+        stage: Stage::Looking,
     }
 }
 

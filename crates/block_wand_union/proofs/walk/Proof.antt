@@ -35,13 +35,13 @@ room e = lt-of-ne (at-loop (e .before) .loop .inv .within) (e .if2 .left)
 loop-holds : tie.Need-loop-holds Inv-loop μ-loop
 loop-holds c =
     let a = c .before in
-    begun (a .args .file .now) (a .args .lists .now) (terms (a .args .similarity .scoring) (a .args .caches .now) (a .args .bounds .now)) (a .args .threshold) (a .args .stage) _ (a .args .scorers) (a .args .turns) (a .pre .0) (a .pre .2) (a .pre .3)
+    begun (a .args .threshold) (a .args .stage) (a .args .scorers) (a .args .turns) (a .pre .0) (a .pre .2) (a .pre .3)
 
 is-over-requires : tie.Need-is-over-requires Inv-loop μ-loop
 is-over-requires c κs = search needs
 
 returns : tie.Need-returns Inv-loop μ-loop
-returns c = paused _ _ _ _ _ _ _ _ (at-loop (c .before) .loop .inv) (on (c .before)) (c .if2 .taken)
+returns c = paused (at-loop (c .before) .loop .inv) (on (c .before)) (c .if2 .taken)
 
 turn-requires : tie.Need-turn-requires Inv-loop μ-loop
 turn-requires c κs =
@@ -59,7 +59,7 @@ returns-2 : tie.Need-returns-2 Inv-loop μ-loop
 returns-2 c =
     let n = c .before .before in
     let e = n .before .before .before .before .before in
-    reports _ _ _ _ _ _ _ _ (at-loop (e .before) .loop .inv) (on (e .before)) (room e) (n .turn .ensures) (c .if3 .taken)
+    reports (at-loop (e .before) .loop .inv) (on (e .before)) (room e) (n .turn .ensures) (c .if3 .taken)
 
 loop-less : tie.Need-loop-less Inv-loop μ-loop
 loop-less c = omega (arith, room (c .before .before .before .before .before .before .before))
@@ -68,12 +68,12 @@ loop-again : tie.Need-loop-again Inv-loop μ-loop
 loop-again c =
     let n = c .before .before in
     let e = n .before .before .before .before .before in
-    quiet-turn _ _ _ _ _ _ _ _ (at-loop (e .before) .loop .inv) (on (e .before)) (room e) (n .turn .ensures) (c .if3 .left)
+    quiet-turn (at-loop (e .before) .loop .inv) (on (e .before)) (room e) (n .turn .ensures) (c .if3 .left)
 
 returns-3 : tie.Need-returns-3 Inv-loop μ-loop
 returns-3 c =
     let o = c .before in
-    over _ _ _ _ _ _ _ _ (o .before .loop .inv) (sym (o .is-over .ensures) ∙ not-false _ (c .if1 .left))
+    over (o .before .loop .inv) (sym (o .is-over .ensures) ∙ not-false _ (c .if1 .left))
 
 pub walk-spec : {M : Type 1} → statement M
 walk-spec =
