@@ -1,6 +1,6 @@
 -- How a union's run begins: scorers that were just opened stand at the first place of the route.
 use mathlib.Core.List.{List, [], map}
-use mathlib.Core.Path.{ap, refl, subst, sym, _∙_, _≡_}
+use mathlib.Core.Path.{ap, subst, sym, _∙_, _≡_}
 use Prim.Native.Nat.{ℕ, _≤_, _<_}
 use native.Mathlib.Omega.{arith}
 use lib.ListN.{getD}
@@ -10,7 +10,7 @@ use Rattle.route.specs.F32.{f32}
 use Rattle.route.specs.Cursor.{fresh}
 use Rattle.route.specs.Ordering.{sortBy}
 use Rattle.route.specs.Scorer.{Scorer, docOf}
-use Rattle.route.specs.Union.{UnionPlace, goOn, pivotRoute}
+use Rattle.route.specs.Union.{goOn, pivotRoute}
 use Rattle.route.specs.Inner.Unions.{Safe, SafeS, UnionKept}
 use Rattle.route.proofs.Lists.{all-imp, all-map, all-perm}
 use Rattle.route.proofs.Ordering.{sort-perm, sort-sorted}

@@ -1,28 +1,24 @@
 -- A union's run by turns: the scorers read off the tables and their slots written back, the loop of `walk`, and its beginning.
 use mathlib.Core.Bool.{Bool, false, not, true}
 use mathlib.Core.List.{List, map, [], _∷_}
-use mathlib.Core.Option.{none, some}
-use mathlib.Core.Path.{ap, refl, subst, sym, _∙_, _≡_}
-use Prim.Native.Nat.{ℕ, suc, _+_, _≤_, _<_}
+use mathlib.Core.Path.{ap, refl, sym, _∙_, _≡_}
+use Prim.Native.Nat.{ℕ, _+_, _≤_, _<_}
 use native.Mathlib.Numerals.{add-one}
 use native.Mathlib.Omega.{arith}
-use lib.ListN.{getD, length, length-set, set, take}
+use lib.ListN.{getD, length, set, take}
 use lib.Seq.{take-suc, take-suc-set}
 use lib.Ieee.{Float}
 use Rattle.route.specs.F32.{f32}
 use Rattle.route.specs.Lists.{All}
-use Rattle.route.specs.Scorer.{Scorer}
-use Rattle.route.specs.Union.{UnionPlace, isOver, unionTurn}
+use Rattle.route.specs.Union.{isOver, unionTurn}
 use Rattle.route.specs.Inner.Unions.{UnionKept}
 use Rattle.route.proofs.Lists.{all-imp}
 use Rattle.route.proofs.Union.Ends.{union-nears}
-use Rattle.bm25.specs.declared.Scoring.{Scoring}
 use Rattle.ordering.specs.Inner.Scorers.{slotOf}
 use Rattle.ordering.specs.declared.Scorers.{Scorers}
 use Rattle.ordering.specs.declared.TermScorer.{TermScorer}
 use Rattle.ordering.proofs.Places.{map-append}
 use Rattle.notefile.specs.Header.{documents}
-use Rattle.reports.specs.Inner.Turns.{Went}
 use Rattle.reports.specs.declared.Event.the-variants as event
 use Rattle.reports.proofs.TurnLaws.{Quietly, at-end, at-pause, at-report, none-yet, one-more}
 use Rattle.slot_rows.specs.Inner.Rows.{postingsIn}
@@ -30,10 +26,9 @@ use Rattle.slot_rows.proofs.Rows.{doc-in-array}
 use Rattle.term_scorer.specs.Inner.Slots.{Held, listAt, Sixteen}
 use Rattle.block_wand_union.specs.Inner.Seats.{Readable, Seat, Seated, Terms, alive, placeIn, scorerAt, slotScorer, stageOf, termAt, terms}
 use Rattle.block_wand_union.specs.Inner.Turns.{Turned}
-use Rattle.block_wand_union.specs.Inner.Runs.{Stands, Walks, placeOf, unionEnded}
+use Rattle.block_wand_union.specs.Inner.Runs.{Stands, Walks, placeOf, unionEnded, walkedTo}
 use Rattle.block_wand_union.specs.declared.Stage.{Stage}
 use Rattle.block_wand_union.specs.declared.Union.{Union}
-use Rattle.block_wand_union.specs.declared.Walked.{Walked}
 use Rattle.block_wand_union.specs.declared.turn.Step.{Step}
 use Rattle.block_wand_union.proofs.OnPivots.{all-unmap}
 
@@ -138,11 +133,11 @@ begun t stage z turns few S k = record { quietly = none-yet (unionTurn 128 f32) 
 module _ {file : List ℕ} {lists : List (List ℕ)} {T : Terms} {t : Float} {stage₀ : Stage} {h₀ : Held} {l₀ : List TermScorer} {turns : ℕ}
     {h : Held} {bounds : List Float} {z : Scorers} {stage : Stage} {taken : ℕ} (S : OnWay file lists T t stage₀ h₀ l₀ turns h bounds z stage taken) where
   -- its three ends: at the route's, after all turns that were allowed, and at a report
-  pub over : isOver (stageOf stage) ≡ true → Walks file lists T t stage₀ h₀ l₀ turns h bounds (record { scorers = z; stage = stage; taken = taken; event = event.Over })
+  pub over : isOver (stageOf stage) ≡ true → Walks file lists T t stage₀ h₀ l₀ turns h bounds (walkedTo z stage taken event.Over)
   over e = record { few = S .few; seated = S .seated; kept = S .kept; went = at-end (unionTurn 128 f32) unionEnded t (S .quietly) (S .within) e }
 
   module _ (on : isOver (stageOf stage) ≡ false) where
-    pub paused : taken ≡ turns → Walks file lists T t stage₀ h₀ l₀ turns h bounds (record { scorers = z; stage = stage; taken = taken; event = event.Paused })
+    pub paused : taken ≡ turns → Walks file lists T t stage₀ h₀ l₀ turns h bounds (walkedTo z stage taken event.Paused)
     paused e = record { few = S .few; seated = S .seated; kept = S .kept; went = rw (sym e) (at-pause (unionTurn 128 f32) unionEnded t (S .quietly) on) }
 
     module _ (room : taken < turns) {h′ : Held} {bounds′ : List Float} {r : Step} (D : Turned file lists (terms (T .scoring) (T .caches) bounds) t stage h (alive z) (z .len) h′ bounds′ r) where
@@ -163,7 +158,7 @@ module _ {file : List ℕ} {lists : List (List ℕ)} {T : Terms} {t : Float} {st
       }
 
       pub reports : r .due ≡ true
-          → Walks file lists T t stage₀ h₀ l₀ turns h′ bounds′ (record { scorers = r .scorers; stage = r .stage; taken = taken + 1; event = event.Report (r .doc) (r .score) })
+          → Walks file lists T t stage₀ h₀ l₀ turns h′ bounds′ (walkedTo (r .scorers) (r .stage) (taken + 1) (event.Report (r .doc) (r .score)))
       reports e = record {
         few = fewer;
         seated = D .seated;

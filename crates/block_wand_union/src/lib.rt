@@ -16,7 +16,7 @@ use term_scorer::slot;
 ghost use mathlib.Core.Path.{_≡_};
 ghost use mathlib.Core.List.{map};
 ghost use Prim.Native.Nat.{_≤_};
-ghost use lib.ListN.{length, take};
+ghost use lib.ListN.{take};
 ghost use Rattle.arrays.specs.Lent.{before, after};
 ghost use Rattle.route.specs.F32.{f32};
 ghost use Rattle.route.specs.Lists.{All};
@@ -27,7 +27,7 @@ ghost use Rattle.notefile.specs.Header.{documents, normReader};
 ghost use Rattle.ordering.specs.Inner.Scorers.{slotOf};
 ghost use Rattle.term_scorer.specs.Inner.Slots.{held, Sixteen};
 ghost use Rattle.block_wand_union.specs.Inner.Seats.{Readable, Seated, alive, placeIn, stageOf, termAt, terms};
-ghost use Rattle.block_wand_union.specs.Inner.Runs.{Begins, Stands, Walks, placeOf, unionEnded};
+ghost use Rattle.block_wand_union.specs.Inner.Runs.{Begins, Stands, Walks, placeOf, unionEnded, walkedTo};
 
 // Before a pivot is looked for; behind a report, with so many scorers on its document that have still to go on; returned.
 pub enum Stage {
@@ -78,7 +78,8 @@ fn in_order(
     places: &[[usize; 8]; 16],
     docs: &[[u32; 128]; 16],
 ) -> Scorers
-    requires { ⌜ (len ≤ 16) × Sixteen (now order) × All (Readable (now file) (now lists) (now caches) (now places) (now docs)) (take len (now order)) ⌝ }
+    requires { ⌜ (len ≤ 16) × Sixteen (now order)
+        × All (Readable (now file) (now lists) (now caches) (now places) (now docs)) (take len (now order)) ⌝ }
     ensures { λ r.
         let ordered = map (termAt (before file) (before lists) (similarity .scoring) (before places)) (take len (before order)) in
         ⌜ (r .len ≡ len) × (alive r ≡ ordered) ⌝ }
@@ -136,6 +137,17 @@ pub fn begin(scorers: Scorers, order: &mut [usize; 16]) -> Union
     }
 }
 
+fn stopped(scorers: Scorers, stage: Stage, taken: usize, event: Event) -> Walked
+    ensures { λ r. ⌜ r ≡ walkedTo scorers stage taken event ⌝ }
+{
+    Walked {
+        scorers,
+        stage,
+        taken,
+        event,
+    }
+}
+
 // Turn after turn, until a report is due, the route is over, or `turns` turns are taken.
 fn walk(
     file: &[u8],
@@ -167,12 +179,7 @@ fn walk(
     let mut taken = 0usize;
     while !is_over(now) {
         if taken == turns {
-            return Walked {
-                scorers: left,
-                stage: now,
-                taken,
-                event: Event::Paused,
-            };
+            return stopped(left, now, taken, Event::Paused);
         }
         let step = turn(
             file,
@@ -194,20 +201,10 @@ fn walk(
         taken += 1;
         if step.due {
             let event = Event::Report(step.doc, step.score);
-            return Walked {
-                scorers: left,
-                stage: now,
-                taken,
-                event,
-            };
+            return stopped(left, now, taken, event);
         }
     }
-    Walked {
-        scorers: left,
-        stage: now,
-        taken,
-        event: Event::Over,
-    }
+    stopped(left, now, taken, Event::Over)
 }
 
 // From where the tables stand on to the next report, to the route's end, or through `turns` turns, under one threshold.

@@ -40,8 +40,13 @@ loop-holds c =
 is-over-requires : tie.Need-is-over-requires Inv-loop μ-loop
 is-over-requires c κs = search needs
 
+stopped-requires : tie.Need-stopped-requires Inv-loop μ-loop
+stopped-requires c κs = search needs
+
 returns : tie.Need-returns Inv-loop μ-loop
-returns c = paused (at-loop (c .before) .loop .inv) (on (c .before)) (c .if2 .taken)
+returns c =
+    let p = c .before in
+    rw (c .stopped .ensures) (paused (at-loop (p .before) .loop .inv) (on (p .before)) (p .if2 .taken))
 
 turn-requires : tie.Need-turn-requires Inv-loop μ-loop
 turn-requires c κs =
@@ -55,11 +60,15 @@ add-taken c =
     let e = c .before .before .before .before .before .before in
     omega (arith, room e, start (at-loop (e .before)) .fits .turns)
 
+stopped-requires-2 : tie.Need-stopped-requires-2 Inv-loop μ-loop
+stopped-requires-2 c κs = search needs
+
 returns-2 : tie.Need-returns-2 Inv-loop μ-loop
 returns-2 c =
-    let n = c .before .before in
+    let d = c .before in
+    let n = d .before .before in
     let e = n .before .before .before .before .before in
-    reports (at-loop (e .before) .loop .inv) (on (e .before)) (room e) (n .turn .ensures) (c .if3 .taken)
+    rw (c .stopped2 .ensures) (reports (at-loop (e .before) .loop .inv) (on (e .before)) (room e) (n .turn .ensures) (d .if3 .taken))
 
 loop-less : tie.Need-loop-less Inv-loop μ-loop
 loop-less c = omega (arith, room (c .before .before .before .before .before .before .before))
@@ -70,10 +79,14 @@ loop-again c =
     let e = n .before .before .before .before .before in
     quiet-turn (at-loop (e .before) .loop .inv) (on (e .before)) (room e) (n .turn .ensures) (c .if3 .left)
 
+stopped-requires-3 : tie.Need-stopped-requires-3 Inv-loop μ-loop
+stopped-requires-3 c κs = search needs
+
 returns-3 : tie.Need-returns-3 Inv-loop μ-loop
 returns-3 c =
-    let o = c .before in
-    over (o .before .loop .inv) (sym (o .is-over .ensures) ∙ not-false _ (c .if1 .left))
+    let e = c .before in
+    let o = e .before in
+    rw (c .stopped3 .ensures) (over (o .before .loop .inv) (sym (o .is-over .ensures) ∙ not-false _ (e .if1 .left)))
 
 pub walk-spec : {M : Type 1} → statement M
 walk-spec =
@@ -83,10 +96,13 @@ walk-spec =
     μ-loop
     loop-holds
     is-over-requires
+    stopped-requires
     returns
     turn-requires
     add-taken
+    stopped-requires-2
     returns-2
     loop-less
     loop-again
+    stopped-requires-3
     returns-3)

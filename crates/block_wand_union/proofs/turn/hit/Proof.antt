@@ -27,7 +27,7 @@ returns c =
     (s .score-on-pivot .ensures) (c .if1 .taken) (omega (arith, sixteen a)) (a .pre .3) (a .pre .4)
 
 advance-all-scorers-on-pivot-requires : tie.Need-advance-all-scorers-on-pivot-requires
-advance-all-scorers-on-pivot-requires c κs = 
+advance-all-scorers-on-pivot-requires c κs =
     let a = start (c .before .before .before .before) in
     let h = held (a .args .places .now) (a .args .docs .now) (a .args .freqs .now) in
     (a .pre .0, a .pre .1, a .pre .3, a .pre .4, all-imp (OnDocument (a .args .file .now) (a .args .lists .now) (a .args .caches .now) h) (Inside (a .args .file .now) (a .args .lists .now) h) (take (a .args .span .«pivot_len») (a .args .scorers .scorers)) (λ _ s. s .inside) (a .pre .5))
