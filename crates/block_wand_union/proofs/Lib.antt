@@ -7,3 +7,4 @@ pub mod Advances
 pub mod OnPivots
 pub mod Steps
 pub mod Runs
+pub mod Begins

@@ -12,13 +12,12 @@ use Rattle.route.specs.Lists.{All}
 use Rattle.route.specs.Score.{sum}
 use Rattle.route.specs.F32.{f32}
 use Rattle.route.specs.Postings.{TERMINATED}
-use Rattle.route.specs.Report.{Report}
 use Rattle.route.specs.Scorer.{Scorer, docOf, scoreHere, seek}
 use Rattle.route.specs.Union.{UnionPlace, goOn}
-use Rattle.route.specs.Route.{Load, Turn, loadsBack}
+use Rattle.route.specs.Route.{Turn, loadsBack}
 use Rattle.route.specs.Inner.Unions.{SafeS}
 use Rattle.route.proofs.Cases.{lt-of-ne}
-use Rattle.route.proofs.Lists.{all-append, all-imp, all-map, all-zip}
+use Rattle.route.proofs.Lists.{all-append, all-map, all-zip}
 use Rattle.route.proofs.Places.{docAt-cap}
 use Rattle.route.proofs.Union.Pivot.{AlignIs, align-is}
 use Rattle.route.proofs.Union.Safe.{inside, safe-seek}

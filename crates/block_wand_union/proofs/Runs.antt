@@ -1,28 +1,24 @@
 -- A union's run by turns: the scorers read off the tables and their slots written back, the loop of `walk`, and its beginning.
 use mathlib.Core.Bool.{Bool, false, not, true}
 use mathlib.Core.List.{List, map, [], _∷_}
-use mathlib.Core.Option.{none, some}
-use mathlib.Core.Path.{ap, refl, subst, sym, _∙_, _≡_}
-use Prim.Native.Nat.{ℕ, suc, _+_, _≤_, _<_}
+use mathlib.Core.Path.{ap, refl, sym, _∙_, _≡_}
+use Prim.Native.Nat.{ℕ, _+_, _≤_, _<_}
 use native.Mathlib.Numerals.{add-one}
 use native.Mathlib.Omega.{arith}
-use lib.ListN.{getD, length, length-set, set, take}
+use lib.ListN.{getD, length, set, take}
 use lib.Seq.{take-suc, take-suc-set}
 use lib.Ieee.{Float}
 use Rattle.route.specs.F32.{f32}
 use Rattle.route.specs.Lists.{All}
-use Rattle.route.specs.Scorer.{Scorer}
-use Rattle.route.specs.Union.{UnionPlace, isOver, unionTurn}
+use Rattle.route.specs.Union.{isOver, unionTurn}
 use Rattle.route.specs.Inner.Unions.{UnionKept}
 use Rattle.route.proofs.Lists.{all-imp}
 use Rattle.route.proofs.Union.Ends.{union-nears}
-use Rattle.bm25.specs.declared.Scoring.{Scoring}
 use Rattle.ordering.specs.Inner.Scorers.{slotOf}
 use Rattle.ordering.specs.declared.Scorers.{Scorers}
 use Rattle.ordering.specs.declared.TermScorer.{TermScorer}
 use Rattle.ordering.proofs.Places.{map-append}
 use Rattle.notefile.specs.Header.{documents}
-use Rattle.reports.specs.Inner.Turns.{Went}
 use Rattle.reports.specs.declared.Event.the-variants as event
 use Rattle.reports.proofs.TurnLaws.{Quietly, at-end, at-pause, at-report, none-yet, one-more}
 use Rattle.slot_rows.specs.Inner.Rows.{postingsIn}
@@ -30,10 +26,9 @@ use Rattle.slot_rows.proofs.Rows.{doc-in-array}
 use Rattle.term_scorer.specs.Inner.Slots.{Held, listAt, Sixteen}
 use Rattle.block_wand_union.specs.Inner.Seats.{Readable, Seat, Seated, Terms, alive, placeIn, scorerAt, slotScorer, stageOf, termAt, terms}
 use Rattle.block_wand_union.specs.Inner.Turns.{Turned}
-use Rattle.block_wand_union.specs.Inner.Runs.{Stands, Walks, placeOf, unionEnded}
+use Rattle.block_wand_union.specs.Inner.Runs.{Stands, Walks, placeOf, unionEnded, walkedTo}
 use Rattle.block_wand_union.specs.declared.Stage.{Stage}
 use Rattle.block_wand_union.specs.declared.Union.{Union}
-use Rattle.block_wand_union.specs.declared.Walked.{Walked}
 use Rattle.block_wand_union.specs.declared.turn.Step.{Step}
 use Rattle.block_wand_union.proofs.OnPivots.{all-unmap}
 
@@ -60,11 +55,14 @@ not-false false e = sym e
 
 -- ---- the scorers in the tables
 
-module _ (file : List ℕ) (lists : List (List ℕ)) where
+module _ (file : List ℕ) (lists : List (List ℕ)) (T : Terms) (h : Held) where
+  abbrev term : ℕ → TermScorer
+  term = termAt file lists (T .scoring) (h .places)
+
   -- a scorer can be read off the tables
-  readable : (T : Terms) (h : Held) (q : ℕ) → Seat file lists T h (termAt file lists (T .scoring) (h .places) q) → Readable file lists (T .caches) (h .places) (h .docs) q
+  readable : (q : ℕ) → Seat file lists T h (term q) → Readable file lists (T .caches) (h .places) (h .docs) q
   unfolding postingsIn
-  readable T h q S = record {
+  readable q S = record {
     slot-in = S .stand .slot-in;
     part-row = S .stand .slot .part-row;
     list = S .stand .slot .list;
@@ -74,117 +72,96 @@ module _ (file : List ℕ) (lists : List (List ℕ)) where
   }
 
   -- seated scorers are those that their slots have
-  same-terms : (T : Terms) (h : Held) (l : List TermScorer) → All (Seat file lists T h) l → map (termAt file lists (T .scoring) (h .places)) (map slotOf l) ≡ l
-  same-terms T h [] a = refl
-  same-terms T h (s ∷ l) a =
-      let t = same-terms T h l (a .1) in
-      let d = a .0 .stand .doc-is in
-      let m = a .0 .max-is in
-      let e : termAt file lists (T .scoring) (h .places) (s .slot) ≡ s =
-      ap (λ (x : ℕ). record { doc = x; «max_score» = listAt (T .scoring) file lists (s .slot) .top; slot = s .slot }) (sym d)
-      ∙ ap (λ (x : Float). record { doc = s .doc; «max_score» = x; slot = s .slot }) m in
+  same-terms : (l : List TermScorer) → All (Seat file lists T h) l → map term (map slotOf l) ≡ l
+  same-terms [] a = refl
+  same-terms (s ∷ l) a =
+      let t = same-terms l (a .1) in
+      let e : term (s .slot) ≡ s =
+      ap (λ (x : ℕ). record { doc = x; «max_score» = listAt (T .scoring) file lists (s .slot) .top; slot = s .slot }) (sym (a .0 .stand .doc-is))
+      ∙ ap (λ (x : Float). record { doc = s .doc; «max_score» = x; slot = s .slot }) (a .0 .max-is) in
       rw (e, t)
 
-  module _ {T : Terms} {u : Union} {order : List ℕ} {h : Held} (S : Stands file lists T u order h) where
-    abbrev ordered : List TermScorer
-    ordered = map (termAt file lists (T .scoring) (h .places)) (take (u .len) order)
+module _ {file : List ℕ} {lists : List (List ℕ)} {T : Terms} {u : Union} {order : List ℕ} {h : Held} (S : Stands file lists T u order h) where
+  abbrev ordered : List TermScorer
+  ordered = map (term file lists T h) (take (u .len) order)
 
-    pub readables : All (Readable file lists (T .caches) (h .places) (h .docs)) (take (u .len) order)
-    readables =
-        all-imp (λ q. Seat file lists T h (termAt file lists (T .scoring) (h .places) q)) (Readable file lists (T .caches) (h .places) (h .docs)) (take (u .len) order) (readable T h)
-        (all-unmap (Seat file lists T h) (termAt file lists (T .scoring) (h .places)) (take (u .len) order) (S .seated .seats))
+  pub readables : All (Readable file lists (T .caches) (h .places) (h .docs)) (take (u .len) order)
+  readables =
+      all-imp (λ q. Seat file lists T h (term file lists T h q)) (Readable file lists (T .caches) (h .places) (h .docs)) (take (u .len) order) (readable file lists T h)
+      (all-unmap (Seat file lists T h) (term file lists T h) (take (u .len) order) (S .seated .seats))
 
-    module _ {l : List TermScorer} (e : l ≡ ordered) where
-      -- their place is the run's
-      pub place-read : placeIn file lists (T .scoring) (h .places) (u .stage) l ≡ placeOf file lists (T .scoring) u order (h .places)
-      place-read =
-          ap (λ z. record { stage = stageOf (u .stage); scorers = map (scorerAt file lists (T .scoring) (h .places)) z }) e
-          ∙ ap (λ z. record { stage = stageOf (u .stage); scorers = z }) (map-map (scorerAt file lists (T .scoring) (h .places)) (termAt file lists (T .scoring) (h .places)) (take (u .len) order))
+  -- read in their order, they have the run's place
+  module _ {l : List TermScorer} (e : l ≡ ordered) where
+    pub place-read : placeIn file lists (T .scoring) (h .places) (u .stage) l ≡ placeOf file lists (T .scoring) u order (h .places)
+    place-read =
+        ap (λ z. record { stage = stageOf (u .stage); scorers = map (scorerAt file lists (T .scoring) (h .places)) z }) e
+        ∙ ap (λ z. record { stage = stageOf (u .stage); scorers = z }) (map-map (scorerAt file lists (T .scoring) (h .places)) (term file lists T h) (take (u .len) order))
 
-      pub seated-read : Seated file lists T h l
-      seated-read = rw e (S .seated)
+    pub seated-read : Seated file lists T h l
+    seated-read = rw e (S .seated)
 
-      pub kept-read : UnionKept 128 (documents file) f32 (placeIn file lists (T .scoring) (h .places) (u .stage) l)
-      kept-read = rw place-read (S .kept)
+    pub kept-read : UnionKept 128 (documents file) f32 (placeIn file lists (T .scoring) (h .places) (u .stage) l)
+    kept-read = rw place-read (S .kept)
 
-  -- slots written back in their order
-  module _ {T : Terms} {h : Held} (z : Scorers) (stage : Stage) (order : List ℕ) (few : z .len ≤ 16) (room : Sixteen order) (S : Seated file lists T h (alive z))
-      (k : UnionKept 128 (documents file) f32 (placeIn file lists (T .scoring) (h .places) stage (alive z))) (e : take (z .len) order ≡ map slotOf (alive z)) where
-    abbrev u : Union
-    u = record { len = z .len; stage = stage }
+-- seated scorers, whose slots are written back in their order
+module _ {file : List ℕ} {lists : List (List ℕ)} {T : Terms} {h : Held} {l : List TermScorer} (S : Seated file lists T h l) (stage : Stage) (n : ℕ) (order : List ℕ) (e : take n order ≡ map slotOf l) where
+  pub place-kept : placeIn file lists (T .scoring) (h .places) stage l ≡ placeOf file lists (T .scoring) (record { len = n; stage = stage }) order (h .places)
+  place-kept =
+      ap (λ z. record { stage = stageOf stage; scorers = z })
+      (sym (map-map (slotScorer file lists (T .scoring) (h .places)) slotOf l) ∙ ap (map (slotScorer file lists (T .scoring) (h .places))) (sym e))
 
-    pub place-kept : placeIn file lists (T .scoring) (h .places) stage (alive z) ≡ placeOf file lists (T .scoring) u order (h .places)
-    place-kept =
-        ap (λ w. record { stage = stageOf stage; scorers = w })
-        (sym (map-map (slotScorer file lists (T .scoring) (h .places)) slotOf (alive z)) ∙ ap (map (slotScorer file lists (T .scoring) (h .places))) (sym e))
-
-    pub stands-kept : Stands file lists T u order h
-    stands-kept = record {
-      few = few;
-      room = room;
-      seated = rw (e, same-terms T h (alive z) (S .seats)) S;
-      kept = rw place-kept at k;
-    }
+  pub stands-kept : n ≤ 16 → Sixteen order → UnionKept 128 (documents file) f32 (placeIn file lists (T .scoring) (h .places) stage l)
+      → Stands file lists T (record { len = n; stage = stage }) order h
+  stands-kept few room k = record { few = few; room = room; seated = rw (e, same-terms file lists T h l (S .seats)) S; kept = rw place-kept at k }
 
 -- ---- the loop of `walk`
 
-module _ (file : List ℕ) (lists : List (List ℕ)) (T : Terms) (t : Float) (stage₀ : Stage) (h₀ : Held) (l₀ : List TermScorer) (turns : ℕ) where
-  abbrev with : List Float → Terms
-  with bounds = terms (T .scoring) (T .caches) bounds
-
-  abbrev place : Held → Stage → Scorers → UnionPlace Float
-  place h stage z = placeIn file lists (T .scoring) (h .places) stage (alive z)
-
-  -- so many turns were taken, none with a report, and the scorers are seated
-  pub record OnWay (h : Held) (bounds : List Float) (z : Scorers) (stage : Stage) (taken : ℕ) : Type 0 where
-    pub quietly : Quietly (unionTurn 128 f32) unionEnded t (placeIn file lists (T .scoring) (h₀ .places) stage₀ l₀) taken (place h stage z)
-    pub kept : UnionKept 128 (documents file) f32 (place h stage z)
-    pub seated : Seated file lists (with bounds) h (alive z)
-    pub few : z .len ≤ 16
-    pub within : taken ≤ turns
-
-  module _ {h : Held} {bounds : List Float} {z : Scorers} {stage : Stage} {taken : ℕ} (S : OnWay h bounds z stage taken) where
-    pub over : isOver (stageOf stage) ≡ true → Walks file lists T t stage₀ h₀ l₀ turns h bounds (record { scorers = z; stage = stage; taken = taken; event = event.Over })
-    over e = record { few = S .few; seated = S .seated; kept = S .kept; went = at-end (unionTurn 128 f32) unionEnded t (S .quietly) (S .within) e }
-
-    module _ (on : isOver (stageOf stage) ≡ false) where
-      pub paused : taken ≡ turns → Walks file lists T t stage₀ h₀ l₀ turns h bounds (record { scorers = z; stage = stage; taken = taken; event = event.Paused })
-      paused e = record {
-        few = S .few;
-        seated = S .seated;
-        kept = S .kept;
-        went = subst (λ (k : ℕ). Went (unionTurn 128 f32) unionEnded t (placeIn file lists (T .scoring) (h₀ .places) stage₀ l₀) k taken (place h stage z) event.Paused) e
-            (at-pause (unionTurn 128 f32) unionEnded t (S .quietly) on);
-      }
-
-      module _ (room : taken < turns) {h′ : Held} {bounds′ : List Float} {r : Step} (D : Turned file lists (with bounds) t stage h (alive z) (z .len) h′ bounds′ r) where
-        next-kept : UnionKept 128 (documents file) f32 (place h′ (r .stage) (r .scorers))
-        next-kept = rw (D .does .next-is) at (union-nears 128 (documents file) f32 [] tt .nears t (place h stage z) on (S .kept) .0)
-
-        fewer : r .scorers .len ≤ 16
-        fewer = let a = D .few in let b = S .few in omega arith
-
-        -- a turn without a report
-        pub quiet-turn : r .due ≡ false → OnWay h′ bounds′ (r .scorers) (r .stage) (taken + 1)
-        quiet-turn e = record {
-          quietly = rw add-one (one-more (unionTurn 128 f32) unionEnded t (S .quietly) on (D .does .due-is ∙ rw e) (D .does .next-is));
-          kept = next-kept;
-          seated = D .seated;
-          few = fewer;
-          within = omega arith;
-        }
-
-        -- a turn with one
-        pub reports : r .due ≡ true
-            → Walks file lists T t stage₀ h₀ l₀ turns h′ bounds′ (record { scorers = r .scorers; stage = r .stage; taken = taken + 1; event = event.Report (r .doc) (r .score) })
-        reports e = record {
-          few = fewer;
-          seated = D .seated;
-          kept = next-kept;
-          went = rw add-one (at-report (unionTurn 128 f32) unionEnded t (S .quietly) room on (D .does .due-is ∙ rw e) (D .does .next-is));
-        }
+-- from scorers l₀ at a stage so many turns were taken, none with a report
+pub record OnWay (file : List ℕ) (lists : List (List ℕ)) (T : Terms) (t : Float) (stage₀ : Stage) (h₀ : Held) (l₀ : List TermScorer) (turns : ℕ)
+    (h : Held) (bounds : List Float) (z : Scorers) (stage : Stage) (taken : ℕ) : Type 0 where
+  pub quietly : Quietly (unionTurn 128 f32) unionEnded t (placeIn file lists (T .scoring) (h₀ .places) stage₀ l₀) taken (placeIn file lists (T .scoring) (h .places) stage (alive z))
+  pub kept : UnionKept 128 (documents file) f32 (placeIn file lists (T .scoring) (h .places) stage (alive z))
+  pub seated : Seated file lists (terms (T .scoring) (T .caches) bounds) h (alive z)
+  pub few : z .len ≤ 16
+  pub within : taken ≤ turns
 
 -- no turn yet
-pub begun : (file : List ℕ) (lists : List (List ℕ)) (T : Terms) (t : Float) (stage : Stage) (h : Held) (z : Scorers) (turns : ℕ) → z .len ≤ 16 → Seated file lists T h (alive z)
+pub begun : {file : List ℕ} {lists : List (List ℕ)} {T : Terms} (t : Float) (stage : Stage) {h : Held} (z : Scorers) (turns : ℕ) → z .len ≤ 16 → Seated file lists T h (alive z)
     → UnionKept 128 (documents file) f32 (placeIn file lists (T .scoring) (h .places) stage (alive z)) → OnWay file lists T t stage h (alive z) turns h (T .bounds) z stage 0
-begun file lists T t stage h z turns few S k = record { quietly = none-yet (unionTurn 128 f32) unionEnded t _; kept = k; seated = S; few = few; within = omega arith }
+begun t stage z turns few S k = record { quietly = none-yet (unionTurn 128 f32) unionEnded t _; kept = k; seated = S; few = few; within = omega arith }
+
+module _ {file : List ℕ} {lists : List (List ℕ)} {T : Terms} {t : Float} {stage₀ : Stage} {h₀ : Held} {l₀ : List TermScorer} {turns : ℕ}
+    {h : Held} {bounds : List Float} {z : Scorers} {stage : Stage} {taken : ℕ} (S : OnWay file lists T t stage₀ h₀ l₀ turns h bounds z stage taken) where
+  -- its three ends: at the route's, after all turns that were allowed, and at a report
+  pub over : isOver (stageOf stage) ≡ true → Walks file lists T t stage₀ h₀ l₀ turns h bounds (walkedTo z stage taken event.Over)
+  over e = record { few = S .few; seated = S .seated; kept = S .kept; went = at-end (unionTurn 128 f32) unionEnded t (S .quietly) (S .within) e }
+
+  module _ (on : isOver (stageOf stage) ≡ false) where
+    pub paused : taken ≡ turns → Walks file lists T t stage₀ h₀ l₀ turns h bounds (walkedTo z stage taken event.Paused)
+    paused e = record { few = S .few; seated = S .seated; kept = S .kept; went = rw (sym e) (at-pause (unionTurn 128 f32) unionEnded t (S .quietly) on) }
+
+    module _ (room : taken < turns) {h′ : Held} {bounds′ : List Float} {r : Step} (D : Turned file lists (terms (T .scoring) (T .caches) bounds) t stage h (alive z) (z .len) h′ bounds′ r) where
+      next-kept : UnionKept 128 (documents file) f32 (placeIn file lists (T .scoring) (h′ .places) (r .stage) (alive (r .scorers)))
+      next-kept = rw (D .does .next-is) at (union-nears 128 (documents file) f32 [] tt .nears t (placeIn file lists (T .scoring) (h .places) stage (alive z)) on (S .kept) .0)
+
+      fewer : r .scorers .len ≤ 16
+      fewer = let a = D .few in let b = S .few in omega arith
+
+      -- a turn without a report
+      pub quiet-turn : r .due ≡ false → OnWay file lists T t stage₀ h₀ l₀ turns h′ bounds′ (r .scorers) (r .stage) (taken + 1)
+      quiet-turn e = record {
+        quietly = rw add-one (one-more (unionTurn 128 f32) unionEnded t (S .quietly) on (D .does .due-is ∙ rw e) (D .does .next-is));
+        kept = next-kept;
+        seated = D .seated;
+        few = fewer;
+        within = omega arith;
+      }
+
+      pub reports : r .due ≡ true
+          → Walks file lists T t stage₀ h₀ l₀ turns h′ bounds′ (walkedTo (r .scorers) (r .stage) (taken + 1) (event.Report (r .doc) (r .score)))
+      reports e = record {
+        few = fewer;
+        seated = D .seated;
+        kept = next-kept;
+        went = rw add-one (at-report (unionTurn 128 f32) unionEnded t (S .quietly) room on (D .does .due-is ∙ rw e) (D .does .next-is));
+      }

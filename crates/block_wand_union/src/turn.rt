@@ -11,7 +11,7 @@ use ordering::find_pivot_doc;
 use term_scorer::score::Similarity;
 ghost use mathlib.Core.Path.{_≡_};
 ghost use mathlib.Core.List.{List};
-ghost use Prim.Native.Nat.{_≤_, _<_};
+ghost use Prim.Native.Nat.{_≤_};
 ghost use lib.ListN.{take};
 ghost use lib.Ieee.{Float};
 ghost use Rattle.arrays.specs.Lent.{before, after};
@@ -118,8 +118,8 @@ fn on_pivot(
     freqs: &mut [[u32; 128]; 16],
 ) -> Step
     requires { let slots = held (now places) (now docs) (now freqs) in
-        ⌜ (scorers .len ≤ 16) × (similarity .norms ≡ normReader (now file))
-        × ((bounds : List Float) × AtPivot (now file) (now lists) (terms (similarity .scoring) (now caches) bounds) slots (alive scorers) span) ⌝ }
+        ⌜ (scorers .len ≤ 16) × (similarity .norms ≡ normReader (now file)) × ((bounds : List Float)
+        × AtPivot (now file) (now lists) (terms (similarity .scoring) (now caches) bounds) slots (alive scorers) span) ⌝ }
     ensures { λ r.
         let old = held (before places) (before docs) (before freqs) in
         let new = held (after places) (after docs) (after freqs) in

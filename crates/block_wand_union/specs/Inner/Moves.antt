@@ -14,7 +14,7 @@ use Rattle.bm25.specs.declared.Scoring.{Scoring}
 use Rattle.ordering.specs.Inner.Scorers.{Moving}
 use Rattle.ordering.specs.declared.Scorers.{Scorers}
 use Rattle.ordering.specs.declared.TermScorer.{TermScorer}
-use Rattle.term_scorer.specs.Inner.Slots.{Held, lastAt, Sixteen}
+use Rattle.term_scorer.specs.Inner.Slots.{Held, lastAt}
 use Rattle.term_scorer.specs.Inner.Weights.{FloatRow}
 use Rattle.block_wand_union.specs.Inner.Seats.{Carried, Seat, Terms, MaxScoreAt, alive, onRoute, scorerAt, terms}
 use Rattle.block_wand_union.specs.declared.align.Alignment.{Alignment}

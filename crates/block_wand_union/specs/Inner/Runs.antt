@@ -1,25 +1,41 @@
 -- A union's run as it stands in the tables, and turns of it in a row.
 use mathlib.Core.Bool.{Bool}
+use mathlib.Core.Path.{_≡_}
 use mathlib.Core.List.{List, map}
 use Prim.Native.Nat.{ℕ, _≤_}
 use lib.ListN.{take}
 use lib.Ieee.{Float}
 use Rattle.route.specs.F32.{f32}
+use Rattle.route.specs.Ordering.{sortBy}
 use Rattle.route.specs.Union.{UnionPlace, isOver, unionTurn}
 use Rattle.route.specs.Inner.Unions.{UnionKept}
 use Rattle.bm25.specs.declared.Scoring.{Scoring}
+use Rattle.ordering.specs.Inner.Scorers.{byDoc, slotOf}
+use Rattle.ordering.specs.declared.Scorers.{Scorers}
 use Rattle.ordering.specs.declared.TermScorer.{TermScorer}
 use Rattle.notefile.specs.Header.{documents}
 use Rattle.reports.specs.Inner.Turns.{Went}
+use Rattle.reports.specs.declared.Event.{Event}
 use Rattle.term_scorer.specs.Inner.Slots.{Held, Sixteen}
 use Rattle.block_wand_union.specs.Inner.Seats.{Seated, Terms, alive, placeIn, slotScorer, stageOf, termAt, terms}
 use Rattle.block_wand_union.specs.declared.Stage.{Stage}
+use Rattle.block_wand_union.specs.declared.Stage.the-variants.{Looking}
 use Rattle.block_wand_union.specs.declared.Union.{Union}
-use Rattle.block_wand_union.specs.declared.Walked.{Walked}
+use Rattle.block_wand_union.specs.declared.walk.Walked.{Walked}
 
 -- the route's end
 abbrev pub unionEnded : UnionPlace Float → Bool
 unionEnded p = isOver (p .stage)
+
+-- where `walk` stopped
+abbrev pub walkedTo : Scorers → Stage → ℕ → Event → Walked
+walkedTo z stage taken event = record { scorers = z; stage = stage; taken = taken; event = event }
+
+-- a run over scorers l begins: it looks for a pivot, and the slots stand in the order of the scorers' documents
+pub record Begins (l : List TermScorer) (n : ℕ) (u : Union) (order : List ℕ) : Type 0 where
+  pub union-is : u ≡ record { len = n; stage = Looking }
+  pub order-is : take n order ≡ map slotOf (sortBy byDoc l)
+  pub room : Sixteen order
 
 module _ (file : List ℕ) (lists : List (List ℕ)) where
   -- the route's place: the stage, and the scorers of the first slots in their order

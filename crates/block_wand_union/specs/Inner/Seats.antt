@@ -7,7 +7,6 @@ use lib.Ieee.{Float}
 use Rattle.route.specs.Lists.{All}
 use Rattle.route.specs.Postings.{TERMINATED}
 use Rattle.route.specs.Scorer.{Scorer}
-use Rattle.route.specs.Cursor.{fresh}
 use Rattle.route.specs.Union.{Stage, UnionPlace, called, looking, over}
 use Rattle.bm25.specs.declared.Scoring.{Scoring}
 use Rattle.ordering.specs.Inner.Scorers.{Apart}
@@ -33,10 +32,6 @@ terms scoring caches bounds = record { scoring = scoring; caches = caches; bound
 -- the scorers that are left
 abbrev pub alive : Scorers → List TermScorer
 alive z = take (z .len) (z .scorers)
-
--- a scorer that has just been opened stands on its list's first posting
-abbrev pub OnFirst : List (List ℕ) → TermScorer → Type 0
-OnFirst places s = cursorAt places (s .slot) ≡ fresh
 
 -- the route's stage
 abbrev pub stageOf : code.Stage → Stage

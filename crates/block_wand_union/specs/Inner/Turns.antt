@@ -1,7 +1,7 @@
 -- A turn of the union's loop, in code and on the route.
 use mathlib.Core.Path.{_≡_}
 use mathlib.Core.Bool.{cond, false}
-use mathlib.Core.List.{List, map}
+use mathlib.Core.List.{List}
 use mathlib.Core.Option.{Option, none, some}
 use Prim.Native.Nat.{ℕ, _≤_}
 use lib.ListN.{drop, take}
@@ -53,7 +53,8 @@ module _ (file : List ℕ) (lists : List (List ℕ)) where
     pub few : r .scorers .len ≤ n
 
   -- what the route does from there, at threshold t
-  pub record Pivoted (scoring : Scoring) (t : Float) (h : Held) (l : List TermScorer) (n : ℕ) (at : Span) (h′ : Held) (r : Step) : Type 0 where
+  pub record Pivoted (scoring : Scoring) (t : Float) (h : Held) (l : List TermScorer) (n : ℕ) (at : Span)
+      (h′ : Held) (r : Step) : Type 0 where
     pub carried : Carried file lists h l h′ (alive (r .scorers))
     pub does :
         let pre = onRoute file lists scoring h (take (at .«before_pivot_len») l) in

@@ -24,6 +24,7 @@ start c = c .before .before .before .before
 abbrev read : tie.After-scorer-to-seek → tie.After-least-last-doc
 read c = c .before .before .before
 
+-- an array of 16, by the struct's type
 sixteen : (a : tie.Start) → Sixteen (a .args .scorers .scorers)
 sixteen a = sym (length-map (a .args .scorers .scorers) _) ∙ a .good .1 .1 .0 .1 .1 .0 .1 .0 .1
 

@@ -1,22 +1,9 @@
 -- `turn::turn` meets its contract: at each stage the turn is the route's.
-use mathlib.Core.Path.{subst, _≡_}
 use borrow.Author.Needs.{needs}
-use Rattle.route.specs.F32.{f32}
-use Rattle.route.specs.Inner.Unions.{UnionKept}
-use Rattle.notefile.specs.Header.{documents}
 use Rattle.term_scorer.specs.Inner.Slots.{held}
-use Rattle.block_wand_union.specs.Inner.Seats.{alive, placeIn}
-use Rattle.block_wand_union.specs.declared.Stage.{Stage}
-use Rattle.block_wand_union.specs.declared.Stage.the-variants.{Called}
 use Rattle.block_wand_union.proofs.Steps.{goes-on, on-report, stands, stays}
 use Rattle.block_wand_union.proofs.turn.turn.Statement.{statement}
 use Rattle.block_wand_union.proofs.turn.turn.Tie as tie
-
--- the place, with its stage known
-kept-at : (a : tie.Start) {stage : Stage} → a .args .stage ≡ stage
-    → UnionKept 128 (documents (a .args .file .now)) f32 (placeIn (a .args .file .now) (a .args .lists .now) (a .args .similarity .scoring) (a .args .places .now) stage (alive (a .args .scorers)))
-kept-at a e =
-    subst (λ (s : Stage). UnionKept 128 (documents (a .args .file .now)) f32 (placeIn (a .args .file .now) (a .args .lists .now) (a .args .similarity .scoring) (a .args .places .now) s (alive (a .args .scorers)))) e (a .pre .3)
 
 enum-told : tie.Need-enum-told
 enum-told c = search needs
@@ -25,7 +12,7 @@ look-requires : tie.Need-look-requires
 look-requires c κs =
     let m = c .before .before .before .before in
     let a = m .before .before .before in
-    (a .pre .0, a .pre .1, a .pre .2, kept-at a (m .enum-told .given .1))
+    (a .pre .0, a .pre .1, a .pre .2, rw (m .enum-told .given .1) at (a .pre .3))
 
 enum-known-stage : tie.Need-enum-known-stage
 enum-known-stage c = search needs
@@ -34,7 +21,7 @@ advance-all-scorers-on-pivot-requires : tie.Need-advance-all-scorers-on-pivot-re
 advance-all-scorers-on-pivot-requires c κs =
     let m = c .before .before .before in
     let a = m .before .before .before .before in
-    let R = on-report (a .args .file .now) (a .args .lists .now) (a .args .similarity .scoring) (held (a .args .places .now) (a .args .docs .now) (a .args .freqs .now)) (a .args .scorers) (kept-at a (m .before .stage .given .1)) in
+    let R = on-report (a .args .file .now) (a .args .lists .now) (a .args .similarity .scoring) (held (a .args .places .now) (a .args .docs .now) (a .args .freqs .now)) (a .args .scorers) (rw (m .before .stage .given .1) at (a .pre .3)) in
     (R .0, a .pre .0, a .pre .2 .apart, stands (a .pre .2), R .1)
 
 quiet-requires : tie.Need-quiet-requires

@@ -1,0 +1,85 @@
+-- How a union's run begins: scorers that were just opened stand at the first place of the route.
+use mathlib.Core.List.{List, [], map}
+use mathlib.Core.Path.{ap, subst, sym, _∙_, _≡_}
+use Prim.Native.Nat.{ℕ, _≤_, _<_}
+use native.Mathlib.Omega.{arith}
+use lib.ListN.{getD}
+use lib.Ieee.{Float}
+use Rattle.route.specs.Lists.{All}
+use Rattle.route.specs.F32.{f32}
+use Rattle.route.specs.Cursor.{fresh}
+use Rattle.route.specs.Ordering.{sortBy}
+use Rattle.route.specs.Scorer.{Scorer, docOf}
+use Rattle.route.specs.Union.{goOn, pivotRoute}
+use Rattle.route.specs.Inner.Unions.{Safe, SafeS, UnionKept}
+use Rattle.route.proofs.Lists.{all-imp, all-map, all-perm}
+use Rattle.route.proofs.Ordering.{sort-perm, sort-sorted}
+use Rattle.route.proofs.Cursor.{fresh-is}
+use Rattle.ordering.specs.Inner.Scorers.{Apart, byDoc}
+use Rattle.ordering.specs.declared.TermScorer.{TermScorer}
+use Rattle.ordering.proofs.Kept.{kept-all, kept-apart, sort-kept}
+use Rattle.ordering.proofs.OnRoute.{SameDoc, sorted-on-route}
+use Rattle.notefile.specs.Header.{documents}
+use Rattle.decoded.proofs.AcceptedLists.{list-ok}
+use Rattle.term_scorer.specs.Inner.Slots.{Held, SlotIn, cursorAt, listAt, partAt}
+use Rattle.term_scorer.specs.Inner.Weights.{FloatRow, Weighed}
+use Rattle.block_wand_union.specs.Inner.Seats.{Seat, Seated, Terms, onRoute, placeIn, scorerAt, termAt}
+use Rattle.block_wand_union.specs.Inner.Runs.{Begins, Stands, placeOf}
+use Rattle.block_wand_union.specs.declared.Stage.the-variants.{Looking}
+use Rattle.block_wand_union.specs.declared.Union.{Union}
+use Rattle.block_wand_union.proofs.Seats.{same-doc}
+use Rattle.block_wand_union.proofs.Runs.{place-kept, stands-kept}
+
+module _ (file : List ℕ) (lists : List (List ℕ)) (T : Terms) (h : Held) where
+  -- a scorer as its slot was opened: on its list's first posting, with the list's norms, and no block bound is known
+  pub record Fresh (s : TermScorer) : Type 0 where
+    pub slot-in : s .slot < 16
+    pub slot : SlotIn file lists h (s .slot)
+    pub first : cursorAt (h .places) (s .slot) ≡ fresh
+    pub weighed : Weighed lists (T .caches) (s .slot)
+    pub unknown : getD (getD (h .places) (s .slot) []) 7 0 ≡ 0
+    pub scorer-is : s ≡ termAt file lists (T .scoring) (h .places) (s .slot)
+
+  abbrev f : TermScorer → Scorer Float
+  f = scorerAt file lists (T .scoring) (h .places)
+
+  fresh-seat : (s : TermScorer) → Fresh s → Seat file lists T h s
+  fresh-seat s F = record {
+    stand = record { slot-in = F .slot-in; slot = F .slot; doc-is = ap (λ (z : TermScorer). z .doc) (F .scorer-is) };
+    weighed = F .weighed;
+    bound = λ k. absurd (omega (arith, k, F .unknown));
+    max-is = sym (ap (λ (z : TermScorer). z .«max_score») (F .scorer-is));
+  }
+
+  fresh-safe : (s : TermScorer) → Fresh s → SafeS 128 (documents file) (f s)
+  fresh-safe s F =
+      let l = listAt (T .scoring) file lists (s .slot) in
+      let ok = list-ok (T .scoring) file (partAt lists (s .slot)) (F .slot .list .right) (F .slot .list .few) in
+      let w = fresh-is 128 (documents file) l ok .0 in
+      let safe : Safe 128 (documents file) l fresh = record { lo = w .lo; hi = w .hi; order = w .order; in-list = omega (arith, w .in-list); edge = λ z. absurd (omega arith) } in
+      record { ok = ok; safe = subst (Safe 128 (documents file) l) (sym (F .first)) safe }
+
+  module _ (l : List TermScorer) (a : All Fresh l) (apart : Apart l) (row : FloatRow (T .bounds)) where
+    seats : All (Seat file lists T h) l
+    seats = all-imp Fresh (Seat file lists T h) l fresh-seat a
+
+    in-order : Seated file lists T h (sortBy byDoc l)
+    in-order = record { seats = kept-all (Seat file lists T h) (sort-kept byDoc l) seats; apart = kept-apart (sort-kept byDoc l) apart; row = row }
+
+    -- the order is the route's
+    first-is : placeIn file lists (T .scoring) (h .places) Looking (sortBy byDoc l) ≡ pivotRoute 128 f32 (onRoute file lists (T .scoring) h l) .first
+    first-is = ap (λ ss. goOn ss) (sorted-on-route f l (all-imp (Seat file lists T h) (SameDoc f) l (λ s S. same-doc file lists (T .scoring) h s (S .stand)) seats))
+
+    first-kept : UnionKept 128 (documents file) f32 (pivotRoute 128 f32 (onRoute file lists (T .scoring) h l) .first)
+    first-kept =
+        let safe = all-map Fresh (SafeS 128 (documents file)) f l fresh-safe a in
+        record { scs = all-perm (SafeS 128 (documents file)) (sort-perm docOf (map f l)) safe; order = sort-sorted docOf (map f l); stands = tt }
+
+    -- what `begin` leaves is the first place of the route over these scorers, and a run can go on from it
+    pub begins : {n : ℕ} {u : Union} {order : List ℕ} → n ≤ 16 → Begins l n u order
+        → Stands file lists T u order h × (placeOf file lists (T .scoring) u order (h .places) ≡ pivotRoute 128 f32 (onRoute file lists (T .scoring) h l) .first)
+    begins {n} {u} {order} few B =
+        rw (B .union-is) (
+          stands-kept in-order Looking n order (B .order-is) few (B .room) (rw first-is first-kept),
+          sym (place-kept in-order Looking n order (B .order-is)) ∙ first-is,
+        )
