@@ -1,18 +1,22 @@
 -- `go`'s loop: turns without a report lead to where the run stands.
 use mathlib.Core.Bool.{Bool, false, true}
-use mathlib.Core.List.{List}
+use mathlib.Core.List.{List, _∷_}
 use mathlib.Core.Path.{ap, refl, subst, sym, _∙_, _≡_}
 use Prim.Native.Nat.{ℕ, _+_, _<_, _≤_}
 use native.Mathlib.Numerals.{add-one}
 use native.Mathlib.Omega.{arith}
+use lib.ListN.{drop, take}
 use lib.Ieee.{Float}
+use Rattle.route.specs.Lists.{All}
 use Rattle.route.specs.Intersection.{InterPlace, isOver}
 use Rattle.route.proofs.Cases.{lt-of-ne}
+use Rattle.route.proofs.Lists.{all-each}
+use Rattle.reports.specs.Inner.Runs.{AtRest}
 use Rattle.reports.specs.Inner.Turns.{Went}
 use Rattle.reports.specs.declared.Event.the-variants.{Over as Ended, Paused, Report}
 use Rattle.reports.proofs.TurnLaws.{Quietly, at-end, at-pause, at-report, none-yet, one-more}
-use Rattle.term_scorer.specs.Inner.Slots.{Held}
-use Rattle.intersection_window.specs.Inner.Scorers.{Query}
+use Rattle.term_scorer.specs.Inner.Slots.{Held, cursorAt}
+use Rattle.intersection_window.specs.Inner.Scorers.{Query, leaderIn, scorerAt, secondariesIn}
 use Rattle.block_wand_intersection.specs.Inner.Stands.{Stands, overIn, placeOf, stageOf}
 use Rattle.block_wand_intersection.specs.Inner.Turns.{Goes, TakesTurn, dueOf, interEnded, interTurn}
 use Rattle.block_wand_intersection.specs.declared.Gone.{Gone}
@@ -29,6 +33,10 @@ over-is x places floats Window = refl
 over-is x places floats (Within c) = refl
 over-is x places floats (Called c) = refl
 over-is x places floats Over = refl
+
+-- the route's scorers stand in their slots
+pub at-rest : (x : Query) (places : List (List ℕ)) → All (AtRest (cursorAt places)) (leaderIn x places ∷ secondariesIn x places)
+at-rest x places = (refl, all-each (AtRest (cursorAt places)) (scorerAt x places) (drop 1 (take (x .len) (x .order))) (λ q. refl))
 
 -- the same query, its number of scorers as another says it
 abbrev pub withLen : Query → ℕ → Query
