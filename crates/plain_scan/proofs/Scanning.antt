@@ -14,12 +14,14 @@ use Rattle.route.specs.Postings.{TERMINATED, scoreOf}
 use Rattle.route.specs.Plain.{optList, present}
 use Rattle.route.specs.Route.{Turn}
 use Rattle.route.proofs.Cases.{on-test}
+use Rattle.route.proofs.Looking.{score-none}
 use Rattle.bm25.specs.declared.Scoring.{Scoring}
 use Rattle.reports.specs.Inner.Turns.{Went}
 use Rattle.reports.specs.declared.Event.{Event}
 use Rattle.reports.specs.declared.Event.the-variants.{Over, Paused, Report}
 use Rattle.reports.proofs.TurnLaws.{Quietly, and-then, at-end, at-pause, at-report, none-yet, one-more}
-use Rattle.term_scorer.specs.Inner.Slots.{Held, listAt, listsFrom}
+use Rattle.notefile.specs.Header.{documents}
+use Rattle.term_scorer.specs.Inner.Slots.{Held, SlotIn, listAt, listsFrom}
 use Rattle.plain_scan.specs.Inner.Found.{dueIn, foundOf, hitIn, matchesIn}
 use Rattle.plain_scan.specs.Inner.Heads.{leastIn, Standing, Taken}
 use Rattle.plain_scan.specs.Inner.Turns.{dueFor, goneTo, hitsOf, scanTurn, GoneOn, PlainStands}
@@ -27,7 +29,7 @@ use Rattle.plain_scan.specs.declared.Gone.{Gone}
 use Rattle.plain_scan.specs.declared.Plain.{Plain}
 use Rattle.plain_scan.specs.declared.Found.{Found}
 use Rattle.plain_scan.proofs.Heading.{least-above, least-cap, least-low}
-use Rattle.plain_scan.proofs.Slots.{absent, raised}
+use Rattle.plain_scan.proofs.Slots.{absent, ok, raised}
 use Rattle.plain_scan.proofs.Beginning.{at-rest}
 
 module _ (scoring : Scoring) (file : List ℕ) (lists : List (List ℕ)) (n : ℕ) (all : Bool) where
@@ -44,6 +46,10 @@ module _ (scoring : Scoring) (file : List ℕ) (lists : List (List ℕ)) (n : �
 
   no-hit : (x : ℕ) → ((p : ℕ) → p < n → scoreOf (listAt scoring file lists p) x ≡ none) → H x ≡ none
   no-hit x f = ap (λ (xs : List Float). hitIn all n (foundOf xs)) (none-present x n 0 (λ p g h. f p (omega (arith, h))))
+
+  -- behind the file's last document nothing matches
+  pub none-behind : {h : Held} → ((q : ℕ) → q < n → SlotIn file lists h q) → (x : ℕ) → documents file ≤ x → H x ≡ none
+  none-behind S x g = no-hit x (λ q l. score-none (listAt scoring file lists q) x (λ i m e. omega (arith, ok scoring file lists q (S q l) .below i m, e, g)))
 
   -- ---- turns
 
