@@ -1,16 +1,12 @@
--- Outcomes as answers: refused, let through, and what the plain scan leaves.
-use mathlib.Core.Path.{_≡_, refl, sym, ap, _∙_, subst}
+-- Outcomes as answers: refused, or let through.
+use mathlib.Core.Path.{_≡_, sym, ap, _∙_, subst}
 use mathlib.Core.List.{List, []}
-use mathlib.Core.Bool.{cond}
 use Prim.Native.Nat.{ℕ, zero, suc, _≤_}
 use native.Mathlib.Omega.{arith}
-use lib.ListN.{length}
 use lib.Ieee.{Float}
 use borrow.Author.Tests.{ne-eqb}
 use Rattle.route.specs.Report.{Report}
-use Rattle.route.specs.Rule as rules
 use Rattle.route.specs.Rule.{limited}
-use Rattle.bm25.specs.declared.Scoring.{Scoring}
 use Rattle.notefile.specs.Refusal.{fileRefusal}
 use Rattle.notefile.specs.Inner.Structs.{headerOf}
 use Rattle.notefile.specs.Inner.Given.{HeaderIn}
@@ -20,13 +16,11 @@ use Rattle.reports.specs.Rows.{Rows, rowsOf}
 use Rattle.reports.proofs.RowLaws.{none-written}
 use Rattle.request.specs.Request.{Request, refusalOf}
 use Rattle.request.proofs.Requests.{refusal-below}
-use Rattle.plain_scan.specs.Inner.Runs.{PlainRan}
-use Rattle.plain_scan.specs.declared.PlainRun.{PlainRun}
 use Rattle.ranking.specs.Answers.{outcomeFor, answer, plainList, Answered, RunIs, PlainIs}
-use Rattle.ranking.specs.Inner.Runs.{finished, Limited, Listed, PlainListed}
+use Rattle.ranking.specs.Inner.Runs.{Listed}
+use Rattle.ranking.specs.declared.begin.Way.the-variants.{Plain, Skipping}
 use Rattle.ranking.specs.declared.outcome.Outcome.{Outcome}
 use Rattle.ranking.specs.declared.outcome.Outcome.the-variants.{Refused}
-use Rattle.ranking.proofs.Finishing.{finished-for}
 
 -- a refusal's number, as an outcome
 refused-for : (n : ℕ) → (n ≡ 0 → ⊥) → n ≤ 11 → Refused n ≡ outcomeFor n 0
@@ -48,16 +42,6 @@ let-answered r n list e {old} {o} {new} A = subst (λ (z : ℕ). Answered (answe
 pub header-of : (file : List ℕ) → fileRefusal file ≡ 0 → {h : Header} → h ≡ headerOf file → HeaderIn file h
 header-of file accepted e = subst (HeaderIn file) (sym e) (header-inside file accepted)
 
--- what the plain scan leaves is its list's answer
-pub plain-answered : (whole : List (Report Float)) {old new : Rows} (p : PlainRun) → PlainRan whole (old .documents) (old .scores) p (new .documents) (new .scores)
-    → {r : Outcome} → r ≡ finished (p .full) (p .count) → Limited whole old r new
-plain-answered whole p P e = record {
-  outcome-is =
-      e ∙ finished-for (p .full) (p .count) ∙ ap (outcomeFor (cond (p .full) 12 0)) (P .count-is)
-      ∙ ap (λ (o : rules.Outcome Float). outcomeFor (o .code) (length (o .rows))) (P .outcome);
-  written = P .written;
-}
-
 module _ (q : Request) where
   -- a run that is refused, of either kind
   pub refused-plain : (old : Rows) {number : ℕ} → number ≡ refusalOf q → (number ≡ 0 → ⊥) → PlainIs q old (Refused number) old
@@ -71,12 +55,14 @@ module _ (q : Request) where
   }
 
   -- one that was let through
-  pub let-plain : refusalOf q ≡ 0 → {old : Rows} {r : Outcome} {new : Rows} → PlainListed q old r new → PlainIs q old r new
-  let-plain e {old} L = let-answered (refusalOf q) (rowsOf (old .documents) (old .scores)) (plainList q) e L
+  pub let-plain : refusalOf q ≡ 0 → {old : Rows} {r : Outcome} {new : Rows} → Listed Plain q old r new → PlainIs q old r new
+  let-plain e {old} {r} {new} L =
+      let-answered (refusalOf q) (rowsOf (old .documents) (old .scores)) (plainList q) e
+      (subst (λ (list : List (Report Float)). Answered (limited (rowsOf (old .documents) (old .scores)) list) old r new) (L .list-for) (L .answered))
 
-  pub let-run : refusalOf q ≡ 0 → {old : Rows} {r : Outcome} {new : Rows} → Listed q old r new → RunIs q old r new
+  pub let-run : refusalOf q ≡ 0 → {old : Rows} {r : Outcome} {new : Rows} → Listed Skipping q old r new → RunIs q old r new
   let-run e {old} L = record {
     list = L .list;
-    by-route = λ _. L .by-route;
+    by-route = λ _. L .list-for;
     answered = let-answered (refusalOf q) (rowsOf (old .documents) (old .scores)) (L .list) e (L .answered);
   }

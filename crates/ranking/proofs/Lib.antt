@@ -1,7 +1,6 @@
 -- Laws of the entry points.
 pub mod Finishing
-pub mod Unions
-pub mod Intersections
+pub mod Beginning
 pub mod Answering
 pub mod Demand
 pub mod Counts

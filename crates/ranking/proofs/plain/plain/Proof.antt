@@ -20,8 +20,8 @@ returns c =
     let a = r .before .before .before .before .before .before in
     refused-plain (request a) (rows (a .args .documents .now) (a .args .scores .now)) (r .refusal .ensures) (c .if1 .taken)
 
-plain-accepted-requires : tie.Need-plain-accepted-requires
-plain-accepted-requires c κs = let e = c .before .before in sym (e .before .refusal .ensures) ∙ e .if1 .left
+answer-requires : tie.Need-answer-requires
+answer-requires c κs = let e = c .before .before in sym (e .before .refusal .ensures) ∙ e .if1 .left
 
 same-length : tie.Need-same-length
 same-length c = search needs
@@ -35,8 +35,8 @@ returns-2 c =
     let e = p .before .before .before in
     let r = e .before in
     let a = r .before .before .before .before .before .before in
-    let-plain (request a) (sym (r .refusal .ensures) ∙ e .if1 .left) (p .plain-accepted .ensures)
+    let-plain (request a) (sym (r .refusal .ensures) ∙ e .if1 .left) (p .answer .ensures)
 
 pub plain-spec : {M : Type 1} → statement M
 plain-spec =
-    tie.close (tie.spec refusal-requires returns plain-accepted-requires same-length same-length-2 returns-2)
+    tie.close (tie.spec refusal-requires returns answer-requires same-length same-length-2 returns-2)

@@ -20,8 +20,8 @@ returns c =
     let a = r .before .before .before .before .before .before in
     refused-run (request a) (rows (a .args .documents .now) (a .args .scores .now)) (r .refusal .ensures) (c .if1 .taken)
 
-run-accepted-requires : tie.Need-run-accepted-requires
-run-accepted-requires c κs = let e = c .before .before in sym (e .before .refusal .ensures) ∙ e .if1 .left
+answer-requires : tie.Need-answer-requires
+answer-requires c κs = let e = c .before .before in sym (e .before .refusal .ensures) ∙ e .if1 .left
 
 same-length : tie.Need-same-length
 same-length c = search needs
@@ -35,7 +35,7 @@ returns-2 c =
     let e = p .before .before .before in
     let r = e .before in
     let a = r .before .before .before .before .before .before in
-    let-run (request a) (sym (r .refusal .ensures) ∙ e .if1 .left) (p .run-accepted .ensures)
+    let-run (request a) (sym (r .refusal .ensures) ∙ e .if1 .left) (p .answer .ensures)
 
 pub run-spec : {M : Type 1} → statement M
-run-spec = tie.close (tie.spec refusal-requires returns run-accepted-requires same-length same-length-2 returns-2)
+run-spec = tie.close (tie.spec refusal-requires returns answer-requires same-length same-length-2 returns-2)

@@ -1,0 +1,86 @@
+-- `answer::answer` meets its contract: the run begins at its route's first place, and is driven to its end.
+use mathlib.Core.Path.{refl}
+use native.Mathlib.Omega.{arith}
+use borrow.Author.Needs.{needs}
+use lib.Ieee.{ofBits}
+use Rattle.route.specs.F32.{f32}
+use Rattle.rule.proofs.RightRules.{keeps}
+use Rattle.request.specs.Request.{Request, asked}
+use Rattle.request.proofs.Requests.{Let, let-through}
+use Rattle.ranking.proofs.Beginning.{made-rows}
+use Rattle.ranking.proofs.Answering.{header-of}
+use Rattle.ranking.proofs.Finishing.{driven-listed}
+use Rattle.ranking.proofs.answer.answer.Statement.{statement}
+use Rattle.ranking.proofs.answer.answer.Tie as tie
+
+-- what was asked
+abbrev request : tie.Start → Request
+request a = asked (a .args .file .now) (a .args .query .now) (a .args .mode) (a .args .scoring) (a .args .rule) (a .args .script .now)
+
+through : (a : tie.Start) → Let (request a)
+through a = let-through (request a) (a .pre)
+
+abbrev start-of : tie.After-read-header → tie.Start
+start-of h = h .before .before .before .before .before .before
+
+abbrev begun-of : tie.After-drive-arg2 → tie.After-begin
+begun-of c = c .before .before .before .before .before .before .before .before .before
+
+abbrev reader-of : tie.After-begin → tie.After-norm-reader
+reader-of g = g .before .before .before .before .before .before .before
+
+read-header-requires : tie.Need-read-header-requires
+read-header-requires c κs = let a = c .before .before .before .before .before in omega (arith, header-of (a .args .file .now) (through a .accepted) refl .entries)
+
+norm-reader-requires : tie.Need-norm-reader-requires
+norm-reader-requires c κs = let a = start-of c in header-of (a .args .file .now) (through a .accepted) (c .read-header .ensures)
+
+begin-requires : tie.Need-begin-requires
+begin-requires c κs =
+    let n = c .before .before .before .before .before .before in
+    let h = n .before in
+    let t = through (start-of h) in (
+      n .norm-reader .ensures,
+      h .read-header .ensures,
+      record { accepted = t .accepted; few = t .few; named = t .named; takes = t .takes },
+      search needs,
+      record { lists = search needs; caches = search needs; places = search needs; docs = search needs; freqs = search needs },
+    )
+
+drive-requires : tie.Need-drive-requires
+unfolding ofBits
+drive-requires c κs =
+    let g = begun-of c in
+    let n = reader-of g in
+    let a = start-of (n .before) in
+    let B = g .begin .ensures _ (made-rows (f32 .nil)) in
+    (n .norm-reader .ensures, keeps (a .args .rule) (a .args .scoring) (a .args .script .now) (through a .rule-right), B .stands, B .kept)
+
+finish-requires : tie.Need-finish-requires
+finish-requires c κs = search needs
+
+same-length : tie.Need-same-length
+same-length c = search needs
+
+same-length-2 : tie.Need-same-length-2
+same-length-2 c = search needs
+
+returns : tie.Need-returns
+unfolding ofBits
+returns c =
+    let d = c .before .before .before .before .before in
+    let a = start-of (reader-of (begun-of (d .before)) .before) in
+    driven-listed (a .args .way) (request a) (through a) (begun-of (d .before) .begin .ensures _ (made-rows (f32 .nil)) .list-is (a .args .rule) (a .args .script .now)) (d .drive .ensures .ran) (c .finish .ensures)
+
+pub answer-spec : {M : Type 1} → statement M
+answer-spec =
+    tie.close
+    (tie.spec
+    read-header-requires
+    norm-reader-requires
+    begin-requires
+    drive-requires
+    finish-requires
+    same-length
+    same-length-2
+    returns)

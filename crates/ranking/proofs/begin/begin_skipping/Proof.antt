@@ -1,0 +1,82 @@
+-- `begin::begin_skipping` meets its contract: by its mode the machine stands at the first place of the query's route.
+use mathlib.Core.Path.{_≡_, refl, sym, subst}
+use native.Mathlib.Omega.{arith}
+use borrow.Author.Needs.{needs}
+use Rattle.query.specs.Inner.Openings as opening
+use Rattle.machine.specs.declared.Machine.{Machine}
+use Rattle.request.specs.declared.Mode.{Mode}
+use Rattle.ranking.specs.Inner.Begins.{begunTables, BeganWith}
+use Rattle.ranking.specs.declared.begin.Way.the-variants.{Skipping}
+use Rattle.ranking.proofs.Beginning.{fresh-slots, intersection-begun, one-number, union-begun}
+use Rattle.ranking.proofs.Finishing as lengths
+use Rattle.ranking.proofs.Finishing.{all-ok}
+use Rattle.ranking.proofs.begin.begin_skipping.Statement.{statement}
+use Rattle.ranking.proofs.begin.begin_skipping.Tie as tie
+
+-- the tables that were opened
+abbrev opened : tie.Start → opening.Tables
+opened a = opening.tables (a .args .lists .now) (a .args .caches .now) (a .args .places .now) (a .args .docs .now) (a .args .freqs .now)
+
+enum-told : tie.Need-enum-told
+enum-told c = search needs
+
+begin-union-requires : tie.Need-begin-union-requires
+begin-union-requires c κs = let a = c .before .before .before .before .before in (a .pre .1 .few, a .pre .2)
+
+enum-told-2 : tie.Need-enum-told-2
+enum-told-2 c = search needs
+
+begin-requires : tie.Need-begin-requires
+begin-requires c κs =
+    let m = c .before in
+    let a = m .before .before .before .before in
+    fresh-slots (a .args .similarity) (a .args .file .now) (a .args .query .now) (a .pre .0) (a .pre .1 .few) (opened a) (a .args .t5) (a .pre .3)
+    (lengths.two-numbers (m .enum-told2 .given .1) (a .pre .1 .takes)) (a .pre .2)
+
+enum-told-3 : tie.Need-enum-told-3
+enum-told-3 c = search needs
+
+array-copy-out-only : tie.Need-array-copy-out-only
+array-copy-out-only c = omega (arith, c .before .before .before .before .pre .3 .long)
+
+begin-single-requires : tie.Need-begin-single-requires
+begin-single-requires c κs = search needs
+
+returns : tie.Need-returns
+returns c floats rows =
+    let m = c .before .before in
+    let a = m .before .before .before .before in
+    rw (m .enum-told .given .1)
+    (union-begun (a .args .similarity) (a .args .file .now) (a .args .query .now) (a .pre .0) (a .pre .1 .few) (opened a) (a .args .t5) (a .pre .3) _ floats rows (c .begin-union .result) (c .begin-union .ensures))
+
+returns-2 : tie.Need-returns-2
+returns-2 c floats rows =
+    let m = c .before .before in
+    let a = m .before .before .before .before in
+    let R = a .pre .1 in
+    rw (m .enum-told2 .given .1)
+    (intersection-begun (a .args .similarity) (a .args .file .now) (a .args .query .now) (a .pre .0) (R .few) (opened a) (a .args .t5) (a .pre .3) _ floats rows
+    (all-ok (a .args .similarity .scoring) (a .args .file .now) (R .accepted) (a .args .query .now) (R .named)) (c .begin .ensures))
+
+returns-3 : tie.Need-returns-3
+returns-3 c floats rows =
+    let m = c .before .before in
+    let a = m .before .before .before .before in
+    rw (m .enum-told3 .given .1, c .begin-single .ensures)
+    (one-number (a .args .similarity) (a .args .file .now) (a .args .query .now) (a .pre .0) (a .pre .1 .few) (opened a) (a .args .t5) (a .pre .3) _ floats rows
+    (lengths.one-number (m .enum-told3 .given .1) (a .pre .1 .takes)))
+
+pub begin-skipping-spec : {M : Type 1} → statement M
+begin-skipping-spec =
+    tie.close
+    (tie.spec
+    enum-told
+    begin-union-requires
+    enum-told-2
+    begin-requires
+    enum-told-3
+    array-copy-out-only
+    begin-single-requires
+    returns
+    returns-2
+    returns-3)

@@ -1,0 +1,77 @@
+-- Where a run begins.
+use mathlib.Core.Path.{_≡_}
+use mathlib.Core.Bool.{Bool}
+use mathlib.Core.List.{List, []}
+use Prim.Native.Nat.{ℕ, _≤_}
+use lib.ListN.{length, getD, take}
+use lib.Ieee.{Float}
+use Rattle.route.specs.Report.{Report}
+use Rattle.route.specs.Ordering.{retain}
+use Rattle.route.specs.Route.{Ends}
+use Rattle.route.specs.Inner.Rules.{Takes}
+use Rattle.rule.specs.declared.Rule.{Rule}
+use Rattle.ordering.specs.Inner.Scorers.{byDoc, noScorer, Left}
+use Rattle.ordering.specs.declared.Scorers.{Scorers}
+use Rattle.ordering.specs.declared.TermScorer.{TermScorer}
+use Rattle.notefile.specs.Header.{documents}
+use Rattle.notefile.specs.Refusal.{fileRefusal}
+use Rattle.reports.specs.Inner.Runs.{callbackOf}
+use Rattle.term_scorer.specs.declared.score.Similarity.{Similarity}
+use Rattle.query.specs.Inner.Openings as opening
+use Rattle.query.specs.Inner.Openings.{Named, QueryOpened}
+use Rattle.block_wand_single.specs.Inner.Stands.{FloatRows}
+use Rattle.block_wand_single.specs.declared.Phase.the-variants.{Hunt}
+use Rattle.block_wand_union.specs.Inner.Seats.{alive}
+use Rattle.block_wand_union.specs.Inner.Runs.{Begins}
+use Rattle.block_wand_union.specs.declared.Union.{Union}
+use Rattle.plain_scan.specs.Inner.Turns.{needsAll}
+use Rattle.machine.specs.Inner.Places.{machineFrom}
+use Rattle.machine.specs.Inner.Kept.{KeptIn}
+use Rattle.machine.specs.Inner.Stands.{Tables, placeIn, StandsIn}
+use Rattle.machine.specs.declared.Machine.{Machine}
+use Rattle.machine.specs.declared.Machine.the-variants as mode
+use Rattle.request.specs.Request.{asked, modeOf}
+use Rattle.request.specs.declared.Mode.{Mode}
+use Rattle.ranking.specs.Inner.Runs.{ListFor}
+use Rattle.ranking.specs.declared.begin.Way.{Way}
+
+-- in an intersection a document must be in every list
+abbrev pub needsAllOf : Mode → Bool
+needsAllOf m = needsAll (modeOf m)
+
+-- the single scan over a scorer's list, from where it stands
+abbrev pub singleFrom : TermScorer → Machine
+singleFrom s = mode.Single (record { slot = s .slot; doc = s .doc; phase = Hunt })
+
+-- a request that was let through, but for its rule
+pub record Right (file query : List ℕ) (m : Mode) : Type 0 where
+  pub accepted : fileRefusal file ≡ 0
+  pub few : length query ≤ 16
+  pub named : Named file query
+  pub takes : Takes (modeOf m) (length query)
+
+-- the query's lists are open, each in its slot
+abbrev pub Opens : Similarity → List ℕ → List ℕ → opening.Tables → List TermScorer → Type 0
+Opens similarity file query opened scorers = QueryOpened (similarity .scoring) file query (length query) opened scorers
+
+-- of the scorers that have a document: the single scan of one, or the union of none or several
+pub data UnionBegun (scorers : List TermScorer) (n : ℕ) : Machine → List ℕ → List ℕ → Type 0 where
+  one-left : {order : List ℕ} (live : Scorers) → Left (retain byDoc (take n scorers)) n live → live .len ≡ 1
+      → UnionBegun scorers n (singleFrom (getD (live .scorers) 0 noScorer)) order order
+  some-left : {order order′ : List ℕ} {u : Union} (live : Scorers) → Left (retain byDoc (take n scorers)) n live → (live .len ≡ 1 → ⊥)
+      → Begins (alive live) (live .len) u order′ → UnionBegun scorers n (mode.Union u) order order′
+
+-- the tables of a run that begins, whatever the floats hold
+abbrev pub begunTables : opening.Tables → List ℕ → List (List Float) → Tables
+begunTables opened order floats = record { order = order; held = opened .held; floats = floats }
+
+-- A RUN BEGINS AT ITS ROUTE'S FIRST PLACE: the machine stands, and from its place its list is the one that is asked for.
+pub record BeganWith (way : Way) (similarity : Similarity) (file query : List ℕ) (m : Mode) (opened : opening.Tables) (h : Tables) (r : Machine) : Type 0 where
+  pub stands : StandsIn file similarity (opened .lists) (opened .caches) h r
+  pub kept : KeptIn (documents file) (placeIn file similarity (opened .lists) (opened .caches) h r)
+  pub list-is : (rule : Rule) (script : List Float) (list : List (Report Float)) → ListFor way (asked file query m (similarity .scoring) rule script) list
+      → Ends (callbackOf rule script) (machineFrom (placeIn file similarity (opened .lists) (opened .caches) h r)) [] list
+
+abbrev pub Began : Way → Similarity → List ℕ → List ℕ → Mode → opening.Tables → List ℕ → Machine → Type 0
+Began way similarity file query m opened order r =
+    (floats : List (List Float)) → FloatRows floats → BeganWith way similarity file query m opened (begunTables opened order floats) r

@@ -1,0 +1,81 @@
+// The run of a request that is not refused. Its tables stand here.
+use crate::begin::Way;
+use crate::begin::begin;
+use crate::outcome::Outcome;
+use crate::outcome::finish;
+use bm25::Scoring;
+use machine::Task;
+use machine::drive;
+use notefile::header::norm_reader;
+use notefile::header::read_header;
+use request::Mode;
+use rule::Rule;
+use term_scorer::score::Similarity;
+ghost use mathlib.Core.Path.{_≡_};
+ghost use Rattle.arrays.specs.Lent.{before, after};
+ghost use Rattle.reports.specs.Rows.{rows};
+ghost use Rattle.request.specs.Request.{asked, refusalOf};
+ghost use Rattle.ranking.specs.Inner.Runs.{Listed};
+
+// From the first place of the run that is asked for to its end, or to a report for which no row is left.
+pub fn answer(
+    file: &[u8],
+    query: &[u32],
+    mode: Mode,
+    scoring: Scoring,
+    way: Way,
+    rule: Rule,
+    script: &[f32],
+    documents: &mut [u32],
+    scores: &mut [f32],
+) -> Outcome
+    requires { ⌜ refusalOf (asked (now file) (now query) mode scoring rule (now script)) ≡ 0 ⌝ }
+    ensures { λ r.
+        let q = asked (before file) (before query) mode scoring rule (before script) in
+        ⌜ Listed way q (rows (before documents) (before scores)) r (rows (after documents) (after scores)) ⌝ }
+{
+    let h = read_header(file);
+    let norms = norm_reader(file, h);
+    let similarity = Similarity { norms, scoring };
+    let mut lists = [[0usize; 8]; 16];
+    let mut caches = [[0.0f32; 256]; 16];
+    let mut order = [0usize; 16];
+    let mut places = [[0usize; 8]; 16];
+    let mut docs = [[0u32; 128]; 16];
+    let mut freqs = [[0u32; 128]; 16];
+    let mut floats = [[0.0f32; 128]; 3];
+    let machine = begin(
+        file,
+        similarity,
+        h,
+        query,
+        mode,
+        way,
+        &mut lists,
+        &mut caches,
+        &mut order,
+        &mut places,
+        &mut docs,
+        &mut freqs,
+    );
+    let task = Task {
+        similarity,
+        machine,
+        rule,
+    };
+    let r = drive(
+        file,
+        script,
+        task,
+        &lists,
+        &caches,
+        &mut order,
+        &mut places,
+        &mut docs,
+        &mut freqs,
+        &mut floats,
+        documents,
+        scores,
+    );
+    finish(r.full, r.count)
+}
