@@ -182,7 +182,7 @@ module _ {x₀ : Query} {h : Held} (F : FreshSlots x₀ h) {order : List ℕ} (S
       len-is = refl;
       stands = λ floats R. record {
         order = in-order;
-        ready = record { seated = seated; kept = λ q hq k. absurd (let u = F .unknown q hq in omega arith); long = R .bounds };
+        ready = record { seated = seated; kept = λ q hq k. absurd (let u = F .unknown q hq in omega arith); long = R .row 0 (omega arith) };
         rows = R;
         len-is = refl;
         max-is = em;

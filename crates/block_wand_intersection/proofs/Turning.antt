@@ -6,8 +6,8 @@ use mathlib.Core.Path.{ap, refl, subst, sym, _∙_, _≡_}
 use Prim.Native.Nat.{ℕ, _+_, _≤_}
 use native.Mathlib.Numerals.{add-one}
 use native.Mathlib.Omega.{arith}
-use lib.ListN.{drop, getD, length, length-set, set, take}
-use lib.Seq.{getD-set-other, getD-set-same}
+use lib.ListN.{drop, getD, set, take}
+use lib.Seq.{getD-set-same}
 use lib.Ieee.{Float}
 use borrow.Author.Tests.{le-ltb}
 use Rattle.block_search.specs.Search.{countBelow}
@@ -21,9 +21,11 @@ use Rattle.route.specs.Intersection.{InterPlace, Stage as RouteStage, Tried, ca
 use Rattle.route.proofs.Cases.{on-test}
 use Rattle.slot_rows.specs.Inner.Rows.{cursorIn}
 use Rattle.term_scorer.specs.Inner.Slots.{Held, cursorAt}
+use Rattle.term_scorer.specs.Inner.Weights.{FloatRows}
+use Rattle.term_scorer.proofs.Floats.{rows-set}
 use Rattle.intersection_window.specs.Inner.Scorers.{Query, Ready, leaderIn, listIn, placeAt, scorerAt, secondariesIn, slotAt}
 use Rattle.intersection_window.specs.Inner.Candidates.{Finds, FindsBy, Rests, Tries, behind, candidateOf, leftIn}
-use Rattle.intersection_window.specs.Inner.Windows.{FloatRows, Sums, Turns, Windowed, boundsOf, boundsRow, restsRow}
+use Rattle.intersection_window.specs.Inner.Windows.{Sums, Turns, Windowed, boundsOf, boundsRow, restsRow}
 use Rattle.intersection_window.specs.declared.candidate.Candidate.{Candidate}
 use Rattle.intersection_window.specs.declared.candidate.Candidate.the-variants.{Due as DueWith, Passed}
 use Rattle.intersection_window.specs.declared.candidate.Posting.{Posting}
@@ -132,15 +134,8 @@ module _ (x : Query) (t : Float) {v : Intersection} {h : Held} {floats : List (L
       bounds-there : boundsRow floats₁ ≡ bounds
       bounds-there = getD-set-same floats 0 bounds [] (omega (arith, S .rows .three))
 
-      rests-there : restsRow floats₁ ≡ restsRow floats
-      rests-there = getD-set-other floats 0 1 bounds [] (λ z. omega arith)
-
       pub rows-there : FloatRows floats₁
-      rows-there = record {
-        three = length-set floats 0 bounds ∙ S .rows .three;
-        bounds = ap length bounds-there ∙ T .ready .long;
-        rests = ap length rests-there ∙ S .rows .rests;
-      }
+      rows-there = rows-set 0 bounds (S .rows) (omega arith) (T .ready .long)
 
       stands-there : {floats′ : List (List Float)} → FloatRows floats′ → boundsRow floats′ ≡ bounds → (d : ℕ) (stage : Stage) → StageKept x floats′ stage → Stands x (movedTo v d stage) h′ floats′
       stands-there R e d stage k = record {

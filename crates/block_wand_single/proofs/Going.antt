@@ -20,10 +20,10 @@ use Rattle.reports.specs.declared.Event.the-variants.{Over, Paused, Report}
 use Rattle.reports.proofs.TurnLaws.{Quietly, and-then, at-end, at-pause, at-report, none-yet, one-more}
 use Rattle.postings.specs.Inner.Decoded.{doc-is, docIn}
 use Rattle.term_scorer.specs.Inner.Slots.{Held, cursorAt, listAt, partAt, SlotIn}
-use Rattle.term_scorer.specs.Inner.Weights.{Weighed}
+use Rattle.term_scorer.specs.Inner.Weights.{FloatRows, Weighed}
 use Rattle.term_scorer.specs.declared.score.Similarity.{Similarity}
 use Rattle.block_wand_single.specs.Inner.Places.{isDone, isReport, onWalk, phaseOf, placeOf, singleRoute}
-use Rattle.block_wand_single.specs.Inner.Stands.{FloatRows, Goes, Hunted, Stands, Steps, Strode}
+use Rattle.block_wand_single.specs.Inner.Stands.{Goes, Hunted, Stands, Steps, Strode}
 use Rattle.block_wand_single.specs.declared.Gone.{Gone}
 use Rattle.block_wand_single.specs.declared.Phase.{Phase}
 use Rattle.block_wand_single.specs.declared.Phase.the-variants.{Called, Hunt, Over as Done, Walk}

@@ -5,17 +5,15 @@ use mathlib.Core.List.{List, []}
 use Prim.Native.Nat.{ℕ, min, _+_, _≤_, _<_}
 use native.Mathlib.Numerals.{add-one}
 use native.Mathlib.Omega.{arith}
-use lib.Dec.{eqb}
 use lib.ListN.{getD, length, length-set, set}
 use lib.Seq.{getD-set-other, getD-set-same}
 use lib.Ieee.{Float, nan}
-use borrow.Author.Tests.{eq-eqb, eqb-false, eqb-true, le-ltb, lt-ltb, ne-eqb}
+use borrow.Author.Tests.{eq-eqb, le-ltb, lt-ltb, ne-eqb}
 use Rattle.route.specs.F32.{f32}
 use Rattle.route.specs.Postings.{Postings, TERMINATED, lastDoc}
 use Rattle.route.specs.Cursor.{Cursor, blockMax, seekBlockIn}
 use Rattle.route.specs.Single.{SinglePlace}
 use Rattle.route.specs.Inner.Lists.{ListOk}
-use Rattle.route.proofs.Cases.{on-test}
 use Rattle.route.proofs.Places.{last-cap}
 use Rattle.bm25.specs.declared.Scoring.{Scoring}
 use Rattle.bm25.specs.declared.Scoring.the-variants.{Unstepped}
@@ -29,9 +27,10 @@ use Rattle.slot_rows.specs.Inner.Rows.{cursorIn, partIn, postingsIn, MovedRow, 
 use Rattle.slot_rows.proofs.Rows.{bound-in, last-is, moves-in}
 use Rattle.term_scorer.specs.Inner.Slots.{Held, cursorAt, held, lastAt, listAt, partAt, Shallowed, Sixteen, SlotIn, StandingIn}
 use Rattle.term_scorer.specs.Inner.Weights.{Bounded, FloatRow}
+use Rattle.term_scorer.proofs.Floats.{rows-set}
 use Rattle.term_scorer.specs.declared.score.Similarity.{Similarity}
 use Rattle.block_wand_single.specs.Inner.Places.{onPlace, phaseOf, skipped, MovedTo, Skips, ToPlace}
-use Rattle.block_wand_single.specs.Inner.Stands.{FloatRows, Ready}
+use Rattle.block_wand_single.specs.Inner.Stands.{Ready}
 use Rattle.block_wand_single.specs.declared.Phase.{Phase}
 use Rattle.block_wand_single.specs.declared.Phase.the-variants.{Hunt, Over, Walk}
 use Rattle.block_wand_single.specs.declared.Single.{Single}
@@ -178,17 +177,6 @@ module _ {file : List ℕ} {lists places docs : List (List ℕ)} {q : ℕ} (smal
 
 bound-same : (l : Postings Float) (c c′ : Cursor) → c′ .blk ≡ c .blk → c′ .loaded ≡ c .loaded → blockMax 128 f32 l c′ ≡ blockMax 128 f32 l c
 bound-same l c c′ e f = rw (e, f)
-
--- a row of floats is written
-rows-set : {floats : List (List Float)} (r : ℕ) (row : List Float) → FloatRows floats → r < 3 → FloatRow row → FloatRows (set floats r row)
-rows-set {floats} r row F h l = record {
-  three = length-set floats r row ∙ F .three;
-  row = λ k hk.
-      let t = F .three in
-      on-test (eqb k r)
-      (λ e. subst (λ (z : ℕ). FloatRow (getD (set floats r row) z [])) (sym (eqb-true k r e)) (ap length (getD-set-same floats r row [] (omega arith)) ∙ l))
-      (λ e. ap length (getD-set-other floats r k row [] (eqb-false k r e)) ∙ F .row k hk);
-}
 
 module _ {file : List ℕ} {similarity : Similarity} {lists : List (List ℕ)} {caches : List (List Float)} {q : ℕ} {h : Held} {floats : List (List Float)}
     (R : Ready file similarity lists caches q h floats) where

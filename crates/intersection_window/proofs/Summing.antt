@@ -4,7 +4,7 @@ use mathlib.Core.Logic.{inl, inr}
 use mathlib.Core.Path.{ap, refl, sym, _∙_, _≡_}
 use Prim.Native.Nat.{suc, ℕ, _+_, _-_, _<_, _≤_}
 use native.Mathlib.Omega.{arith}
-use lib.ListN.{drop, getD, length, length-set, set, take}
+use lib.ListN.{drop, getD, length-set, set, take}
 use lib.Seq.{drop-drop, getD-set-other, getD-set-same}
 use lib.Ieee.{Float, nan}
 use Rattle.arrays.proofs.Order.{lt-or-ge}
@@ -12,7 +12,9 @@ use Rattle.route.specs.F32.{f32}
 use Rattle.route.specs.Score.{sumBack}
 use Rattle.ordering.proofs.Places.{map-drop}
 use Rattle.term_scorer.specs.Inner.Slots.{Sixteen}
-use Rattle.intersection_window.specs.Inner.Windows.{FloatRows, Sums, boundsRow, restsRow}
+use Rattle.term_scorer.specs.Inner.Weights.{FloatRows}
+use Rattle.term_scorer.proofs.Floats.{rows-set}
+use Rattle.intersection_window.specs.Inner.Windows.{Sums, boundsRow, restsRow}
 use Rattle.intersection_window.proofs.Parts.{part-first, part-none}
 
 module _ (n : ℕ) (order : List ℕ) (floats₀ : List (List Float)) where
@@ -55,7 +57,7 @@ module _ (n : ℕ) (order : List ℕ) (floats₀ : List (List Float)) where
     goes-on h =
         let j = i - 1 in
         let up = S .high in
-        let l = S .rows .rests in
+        let l = S .rows .row 1 (omega arith) in
         let e : suc j ≡ i = omega arith in
         let at : running ≡ sumAt (suc j) = S .running-is ∙ ap sumAt (sym e) in
         let b : boundsRow next ≡ boundsRow floats₀ = bounds-then ∙ S .same in
@@ -74,11 +76,7 @@ module _ (n : ℕ) (order : List ℕ) (floats₀ : List (List Float)) where
                     rw z (getD-set-same (restsRow floats) j running nan (omega arith) ∙ at)
               ];
           same = b;
-          rows = record {
-            three = length-set floats 1 (set (restsRow floats) j running) ∙ S .rows .three;
-            bounds = ap length bounds-then ∙ S .rows .bounds;
-            rests = ap length rests-then ∙ length-set (restsRow floats) j running ∙ l;
-          };
+          rows = rows-set 1 (set (restsRow floats) j running) (S .rows) (omega arith) (length-set (restsRow floats) j running ∙ l);
         }
 
     pub ended : i ≤ 1 → Sums n order floats₀ floats

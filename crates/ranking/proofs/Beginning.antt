@@ -37,11 +37,11 @@ use Rattle.decoded.specs.Lists.{listOf, postingsOf, queried}
 use Rattle.postings.specs.Inner.Decoded.{docIn, doc-is}
 use Rattle.reports.specs.Inner.Runs.{callbackOf}
 use Rattle.term_scorer.specs.Inner.Slots.{Sixteen, cursorAt, listAt, listsFrom, partAt}
+use Rattle.term_scorer.specs.Inner.Weights.{FloatRows}
 use Rattle.term_scorer.specs.declared.score.Similarity.{Similarity}
 use Rattle.query.specs.Inner.Openings as opening
 use Rattle.query.specs.Inner.Openings.{QueryOpened}
 use Rattle.query.proofs.Opening.{lists-are, opened-scorers}
-use Rattle.block_wand_single.specs.Inner.Stands.{FloatRows}
 use Rattle.block_wand_single.proofs.Going.{single-begins}
 use Rattle.block_wand_union.specs.Inner.Seats.{alive, scorerAt, terms}
 use Rattle.block_wand_union.specs.Inner.Runs as any
@@ -293,7 +293,7 @@ module _ (similarity : Similarity) (file query : List ℕ) (norms-are : similari
       let ld = leaderIn x (a .held .places) in
       let ss = secondariesIn x (a .held .places) in
       let W : Route Float = leaderRoute 128 f32 ld ss in
-      let S = B .stands floats (record { three = rows .three; bounds = rows .row 0 (omega arith); rests = rows .row 1 (omega arith) }) in
+      let S = B .stands floats rows in
       let first : at (mode.Intersection v) ≡ place.intersection (W .first) =
       ap (λ (k : ℕ). place.intersection (stands.placeOf (window.query similarity file (a .lists) (a .caches) k order) v (a .held .places) floats)) (B .len-is) ∙ ap place.intersection (B .first-is floats) in
       record {

@@ -1,3 +1,4 @@
 -- Laws of slots: a scorer's moves, scores and bounds, seen from all of them.
 pub mod Slots
 pub mod Scores
+pub mod Floats

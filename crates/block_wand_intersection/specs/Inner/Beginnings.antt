@@ -13,9 +13,8 @@ use Rattle.notefile.specs.Header.{normReader}
 use Rattle.postings.specs.Inner.Decoded.{ListIn}
 use Rattle.slot_rows.specs.Inner.Rows.{PartRow}
 use Rattle.term_scorer.specs.Inner.Slots.{Held, Sixteen, SlotIn, cursorAt, listsFrom, partAt}
-use Rattle.term_scorer.specs.Inner.Weights.{Weighed}
+use Rattle.term_scorer.specs.Inner.Weights.{FloatRows, Weighed}
 use Rattle.intersection_window.specs.Inner.Scorers.{Query, leaderIn, scorerAt, scorersBetween, secondariesIn, slotAt}
-use Rattle.intersection_window.specs.Inner.Windows.{FloatRows}
 use Rattle.block_wand_intersection.specs.Inner.Stands.{Stands, placeOf}
 use Rattle.block_wand_intersection.specs.declared.Intersection.{Intersection}
 

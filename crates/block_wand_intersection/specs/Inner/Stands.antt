@@ -10,9 +10,10 @@ use Rattle.route.specs.Score.{sum}
 use Rattle.route.specs.Report.{Report}
 use Rattle.route.specs.Intersection.{InterPlace, Stage as RouteStage, called, early, over, window, within}
 use Rattle.term_scorer.specs.Inner.Slots.{Held, cursorAt}
+use Rattle.term_scorer.specs.Inner.Weights.{FloatRows}
 use Rattle.intersection_window.specs.Inner.Scorers.{InOrder, Query, Ready, listIn, placeAt, slotAt}
 use Rattle.intersection_window.specs.Inner.Candidates.{Rests, leftIn}
-use Rattle.intersection_window.specs.Inner.Windows.{FloatRows, boundsOf, boundsRow, restsRow}
+use Rattle.intersection_window.specs.Inner.Windows.{boundsOf, boundsRow, restsRow}
 use Rattle.intersection_window.specs.declared.leader.Candidates.{Candidates}
 use Rattle.block_wand_intersection.specs.declared.Intersection.{Intersection}
 use Rattle.block_wand_intersection.specs.declared.Stage.{Stage}

@@ -3,7 +3,7 @@ use mathlib.Core.Path.{_≡_}
 use mathlib.Core.Bool.{true}
 use mathlib.Core.List.{List, []}
 use Prim.Native.Nat.{ℕ, _+_, _≤_, _<_}
-use lib.ListN.{length, getD}
+use lib.ListN.{getD}
 use lib.Ieee.{Float, nan}
 use Rattle.arrays.specs.Inner.Holds.{Holds}
 use Rattle.route.specs.F32.{f32}
@@ -21,7 +21,7 @@ use Rattle.reports.specs.Inner.Turns.{afterTurns, Silent, Went}
 use Rattle.reports.specs.declared.Event.{Event}
 use Rattle.reports.specs.declared.Event.the-variants.{Over, Paused, Report}
 use Rattle.term_scorer.specs.Inner.Slots.{Held, cursorAt, listAt, SlotIn}
-use Rattle.term_scorer.specs.Inner.Weights.{BoundKept, FloatRow, Weighed}
+use Rattle.term_scorer.specs.Inner.Weights.{BoundKept, FloatRows, Weighed}
 use Rattle.term_scorer.specs.declared.score.Similarity.{Similarity}
 use Rattle.block_wand_single.specs.Inner.Places.{onWalk, phaseOf, placeOf, singleRoute}
 use Rattle.block_wand_single.specs.declared.Gone.{Gone}
@@ -34,11 +34,6 @@ Scores file x scoring docs freqs values = Holds nan 128 (λ i. scored scoring (s
 -- the scores of block b of a list, which a walk over it reads
 pub record BlockScores (l : Postings Float) (b : ℕ) (values : List Float) : Type 0 where
   pub at : (i : ℕ) → i < 128 → start 128 b + i < l .len → getD values i nan ≡ l .score (start 128 b + i)
-
--- three rows of floats
-pub record FloatRows (floats : List (List Float)) : Type 0 where
-  pub three : length floats ≡ 3
-  pub row : (r : ℕ) → r < 3 → FloatRow (getD floats r [])
 
 module _ (file : List ℕ) (similarity : Similarity) (lists : List (List ℕ)) (caches : List (List Float)) where
   -- slot q holds a scorer of the file, with its norms, and a block bound where one is known

@@ -3,7 +3,7 @@ use mathlib.Core.Path.{_≡_}
 use mathlib.Core.Bool.{false, true}
 use mathlib.Core.List.{List, [], map}
 use Prim.Native.Nat.{ℕ, suc, _≤_}
-use lib.ListN.{drop, getD, length, take}
+use lib.ListN.{drop, getD, take}
 use lib.Ieee.{Float, nan}
 use Rattle.route.specs.F32.{f32}
 use Rattle.route.specs.Score.{sum}
@@ -11,7 +11,7 @@ use Rattle.route.specs.Scorer.{Scorer, blockMaxScore, lastDocInBlock, seekBlock
 use Rattle.route.specs.Union.{leastLastDoc}
 use Rattle.route.specs.Intersection.{allRemain, candidatesIn, over, seekBlockAll, window, windowTurn, within}
 use Rattle.term_scorer.specs.Inner.Slots.{Held, cursorAt, held}
-use Rattle.term_scorer.specs.Inner.Weights.{FloatRow}
+use Rattle.term_scorer.specs.Inner.Weights.{FloatRows}
 use Rattle.intersection_window.specs.Inner.Scorers.{Query, Ready, leaderIn, listIn, placeAt, secondariesIn, slotAt}
 use Rattle.intersection_window.specs.Inner.Candidates.{Rests}
 use Rattle.intersection_window.specs.declared.window.Secondaries.{Secondaries}
@@ -28,11 +28,6 @@ boundsRow floats = getD floats 0 []
 
 abbrev pub restsRow : List (List Float) → List Float
 restsRow floats = getD floats 1 []
-
-pub record FloatRows (floats : List (List Float)) : Type 0 where
-  pub three : length floats ≡ 3
-  pub bounds : FloatRow (boundsRow floats)
-  pub rests : FloatRow (restsRow floats)
 
 -- behind each secondary the sum of the bounds that follow is written
 pub record Sums (n : ℕ) (order : List ℕ) (floats floats′ : List (List Float)) : Type 0 where

@@ -16,10 +16,10 @@ use Rattle.ordering.specs.declared.TermScorer.{TermScorer}
 use Rattle.notefile.specs.Header.{documents}
 use Rattle.notefile.specs.Refusal.{fileRefusal}
 use Rattle.reports.specs.Inner.Runs.{callbackOf}
+use Rattle.term_scorer.specs.Inner.Weights.{FloatRows}
 use Rattle.term_scorer.specs.declared.score.Similarity.{Similarity}
 use Rattle.query.specs.Inner.Openings as opening
 use Rattle.query.specs.Inner.Openings.{Named, QueryOpened}
-use Rattle.block_wand_single.specs.Inner.Stands.{FloatRows}
 use Rattle.block_wand_single.specs.declared.Phase.the-variants.{Hunt}
 use Rattle.block_wand_union.specs.Inner.Seats.{alive}
 use Rattle.block_wand_union.specs.Inner.Runs.{Begins}

@@ -9,7 +9,6 @@ use lib.Ieee.{Float}
 use Rattle.route.specs.F32.{f32}
 use Rattle.route.specs.Report.{Report, Callback}
 use Rattle.route.specs.Rule.{Outcome, ruled}
-use Rattle.route.specs.Lists.{All}
 use Rattle.route.specs.Cursor.{Cursor}
 use Rattle.route.specs.Scorer.{Scorer}
 use Rattle.route.specs.Route.{Route, Run, after}
@@ -52,12 +51,6 @@ module _ (W : Route Float) (rule : Rule) (script : List Float) where
       pub written : Written (runAfter steps .state) documents₀ scores₀ documents values
       pub count-is : count ≡ length (runAfter steps .state)
       pub stopped : Stopped full (rowsOf documents₀ scores₀) (runAfter steps)
-
-    -- and each of the route's scorers has its block, its place and whether it is loaded by its slot's cursor
-    pub record Rests (cursor : ℕ → Cursor) (full : Bool) (count : ℕ) (documents : List ℕ) (values : List Float) : Type 0 where
-      pub place : W .Place
-      pub ran : Ran full count documents values place
-      pub at-rest : All (AtRest cursor) (W .scorers place)
 
 -- 01's table: 12 where the rows were full, else 0, with the reports
 abbrev pub outcomeOf : Bool → List (Report Float) → Outcome Float

@@ -2,7 +2,7 @@
 use mathlib.Core.Path.{_≡_}
 use mathlib.Core.Bool.{cond, _||_}
 use mathlib.Core.List.{List, []}
-use Prim.Native.Nat.{ℕ}
+use Prim.Native.Nat.{ℕ, _<_}
 use lib.Dec.{eqb, ltb}
 use lib.ListN.{getD, length, set}
 use lib.Ieee.{Float, nan, binary32, ofBits}
@@ -22,6 +22,11 @@ use Rattle.term_scorer.specs.declared.score.Bound.{Bound}
 -- a row of the run's floats: 128, so that it can hold a block's scores, or by slot a bound each
 abbrev pub FloatRow : List Float → Type 0
 FloatRow xs = length xs ≡ 128
+
+-- the floats of a run: three rows
+pub record FloatRows (floats : List (List Float)) : Type 0 where
+  pub three : length floats ≡ 3
+  pub row : (r : ℕ) → r < 3 → FloatRow (getD floats r [])
 
 -- a list's norms
 abbrev pub NormsIn : Part → List Float → Type 0
