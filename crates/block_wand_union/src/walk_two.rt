@@ -10,6 +10,22 @@ use reports::Event;
 use term_scorer::score;
 use term_scorer::score::Similarity;
 use term_scorer::slot;
+ghost use mathlib.Core.Bool.{false, true};
+ghost use mathlib.Core.List.{map};
+ghost use mathlib.Core.Path.{_≡_};
+ghost use Prim.Native.Nat.{_≤_};
+ghost use lib.ListN.{take};
+ghost use Rattle.arrays.specs.Lent.{before, after};
+ghost use Rattle.route.specs.F32.{f32};
+ghost use Rattle.route.specs.Union.{isOver, unionTurn};
+ghost use Rattle.route.specs.Inner.Unions.{UnionKept};
+ghost use Rattle.reports.specs.Inner.Turns.{Went};
+ghost use Rattle.notefile.specs.Header.{documents, normReader};
+ghost use Rattle.ordering.specs.Inner.Scorers.{slotOf};
+ghost use Rattle.term_scorer.specs.Inner.Slots.{held, Sixteen};
+ghost use Rattle.block_wand_union.specs.Inner.Seats.{Readable, Seated, alive, placeIn, stageOf, termAt, terms};
+ghost use Rattle.block_wand_union.specs.Inner.Runs.{Stands, placeOf, unionEnded};
+ghost use Rattle.block_wand_union.specs.Inner.Pairs.{WalksTwo, inArray};
 
 // Where two scorers stand after `taken` turns, and whether document doc is due with its score: if not, they took no more because the
 // route is over, all turns are taken, or one of them is finished.
@@ -22,7 +38,10 @@ pub struct PairWalked {
     pub score: f32,
 }
 
-fn goes_on(stage: Stage, len: usize, taken: usize, turns: usize) -> bool {
+// Two scorers are left, a turn is, and the route is not over.
+fn goes_on(stage: Stage, len: usize, taken: usize, turns: usize) -> bool
+    ensures { λ r. ⌜ (r ≡ true → (len ≡ 2) × (taken ≡ turns → ⊥) × (isOver (stageOf stage) ≡ false)) ⌝ }
+{
     if len != 2 {
         return false;
     }
@@ -50,7 +69,18 @@ fn walk_two(
     docs: &mut [[u32; 128]; 16],
     freqs: &mut [[u32; 128]; 16],
     bounds: &mut [f32; 128],
-) -> PairWalked {
+) -> PairWalked
+    requires { let T = terms (similarity .scoring) (now caches) (now bounds) in
+        let slots = held (now places) (now docs) (now freqs) in
+        let place = placeIn (now file) (now lists) (similarity .scoring) (now places) stage (alive (inArray pair)) in
+        ⌜ (pair .len ≤ 2) × (similarity .norms ≡ normReader (now file))
+        × Seated (now file) (now lists) T slots (alive (inArray pair)) × UnionKept 128 (documents (now file)) f32 place ⌝ }
+    ensures { λ r.
+        let T = terms (similarity .scoring) (before caches) (before bounds) in
+        let old = held (before places) (before docs) (before freqs) in
+        let new = held (after places) (after docs) (after freqs) in
+        ⌜ WalksTwo (before file) (before lists) T threshold stage old (alive (inArray pair)) turns new (after bounds) r ⌝ }
+{
     let mut left = pair;
     let mut now = stage;
     let mut taken = 0usize;
@@ -62,7 +92,8 @@ fn walk_two(
             caches,
             threshold,
             now,
-            left,
+            left.a,
+            left.b,
             places,
             docs,
             freqs,
@@ -103,7 +134,10 @@ fn scorer_in(
     q: usize,
     places: &[[usize; 8]; 16],
     docs: &[[u32; 128]; 16],
-) -> TermScorer {
+) -> TermScorer
+    requires { ⌜ Readable (now file) (now lists) (now caches) (now places) (now docs) q ⌝ }
+    ensures { λ r. ⌜ r ≡ termAt (before file) (before lists) (similarity .scoring) (before places) q ⌝ }
+{
     let doc = slot::doc(q, places, docs);
     let max_score = score::max_score(file, similarity, lists, caches, q);
     TermScorer {
@@ -113,7 +147,11 @@ fn scorer_in(
     }
 }
 
-fn keep_pair(pair: Pair, order: &mut [usize; 16]) {
+// The scorers' slots, in their order.
+fn keep_pair(pair: Pair, order: &mut [usize; 16])
+    requires { ⌜ (pair .len ≤ 2) × Sixteen (now order) ⌝ }
+    ensures { λ _. ⌜ (take (pair .len) (after order) ≡ map slotOf (alive (inArray pair))) × Sixteen (after order) ⌝ }
+{
     let a = pair.a;
     let b = pair.b;
     order[0] = a.slot;
@@ -134,7 +172,19 @@ pub fn go_two(
     docs: &mut [[u32; 128]; 16],
     freqs: &mut [[u32; 128]; 16],
     bounds: &mut [f32; 128],
-) -> Gone {
+) -> Gone
+    requires { let T = terms (similarity .scoring) (now caches) (now bounds) in
+        let slots = held (now places) (now docs) (now freqs) in
+        ⌜ (union .len ≡ 2) × (similarity .norms ≡ normReader (now file))
+        × Stands (now file) (now lists) T union (now order) slots ⌝ }
+    ensures { λ r.
+        let T = terms (similarity .scoring) (before caches) (after bounds) in
+        let slots = held (after places) (after docs) (after freqs) in
+        let from = placeOf (before file) (before lists) (similarity .scoring) union (before order) (before places) in
+        let to = placeOf (before file) (before lists) (similarity .scoring) (r .union) (after order) (after places) in
+        ⌜ Stands (before file) (before lists) T (r .union) (after order) slots
+        × Went (unionTurn 128 f32) unionEnded threshold from turns (r .taken) to (r .event) ⌝ }
+{
     let a = scorer_in(file, similarity, lists, caches, order[0], places, docs);
     let b = scorer_in(file, similarity, lists, caches, order[1], places, docs);
     let pair = Pair { a, b, len: 2 };
