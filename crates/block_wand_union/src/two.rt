@@ -378,29 +378,41 @@ fn on_pivot_of_two(
         let new = held (after places) (after docs) (after freqs) in
         ⌜ Pivoted (before file) (before lists) (similarity .scoring) threshold old (both a b) 2 span new (stepOf r) ⌝ }
 {
-    let pivot_doc = span.pivot_doc;
-    let mut x = a;
-    if 0 < span.before_pivot_len {
-        let doc = slot::seek(file, lists, a.slot, a.doc, pivot_doc, places, docs, freqs);
-        x = on_doc(a, doc);
-        if doc != pivot_doc {
-            let pair = left(x, b);
-            return quiet(pair, Stage::Looking);
-        }
+    if span.before_pivot_len == 0 {
+        return hit_of_two(
+            file,
+            similarity,
+            lists,
+            caches,
+            threshold,
+            a,
+            b,
+            span,
+            places,
+            docs,
+            freqs,
+        );
     }
-    hit_of_two(
-        file,
-        similarity,
-        lists,
-        caches,
-        threshold,
-        x,
-        b,
-        span,
-        places,
-        docs,
-        freqs,
-    )
+    let pivot_doc = span.pivot_doc;
+    let doc = slot::seek(file, lists, a.slot, a.doc, pivot_doc, places, docs, freqs);
+    let x = on_doc(a, doc);
+    if doc == pivot_doc {
+        return hit_of_two(
+            file,
+            similarity,
+            lists,
+            caches,
+            threshold,
+            x,
+            b,
+            span,
+            places,
+            docs,
+            freqs,
+        );
+    }
+    let pair = left(x, b);
+    quiet(pair, Stage::Looking)
 }
 
 fn less(x: u32, y: u32) -> u32
