@@ -23,14 +23,15 @@ ghost use Rattle.route.specs.Scorer.{scoreHere};
 ghost use Rattle.route.specs.Union.{behind};
 ghost use Rattle.route.specs.Inner.Unions.{UnionKept};
 ghost use Rattle.ordering.specs.Inner.Scorers.{Apart, byDoc, leastDocOf, moved, returned};
-ghost use Rattle.ordering.specs.Inner.Pivots.{pivotOf, placeToSeek};
+ghost use Rattle.ordering.specs.Inner.Pivots.{Found, pivotOf, placeToSeek};
+ghost use Rattle.ordering.specs.declared.TermScorer.{TermScorer};
 ghost use Rattle.notefile.specs.Header.{documents, normReader};
 ghost use Rattle.term_scorer.specs.Inner.Slots.{held};
 ghost use Rattle.term_scorer.specs.Inner.Weights.{FloatRow};
 ghost use Rattle.block_wand_union.specs.Inner.Seats.{Inside, OnDocument, Seat, Seated, Stand, alive, onRoute, placeIn, terms};
 ghost use Rattle.block_wand_union.specs.Inner.Moves.{AdvancedAll, BlocksSought, LastRead, TooLow, leastLastOf};
 ghost use Rattle.block_wand_union.specs.Inner.Turns.{AtPivot, Hit, Pivoted, ToPivot, Turned, quietStep};
-ghost use Rattle.block_wand_union.specs.Inner.Pairs.{BlockSought, both, inArray, stepOf};
+ghost use Rattle.block_wand_union.specs.Inner.Pairs.{BlockSought, Brought, both, inArray, onDoc, stepOf};
 ghost use Rattle.block_wand_union.specs.declared.Stage.the-variants.{Looking};
 
 // The first len of a and b are the scorers left, in their order.
@@ -64,7 +65,7 @@ fn quiet(pair: Pair, stage: Stage) -> PairStep
 
 // The scorer on another document.
 fn on_doc(scorer: TermScorer, doc: u32) -> TermScorer
-    ensures { λ r. ⌜ r ≡ record { doc = doc; «max_score» = scorer .«max_score»; slot = scorer .slot } ⌝ }
+    ensures { λ r. ⌜ r ≡ onDoc scorer doc ⌝ }
 {
     TermScorer {
         doc,
@@ -356,7 +357,43 @@ fn hit_of_two(
     quiet(pair, Stage::Looking)
 }
 
-// The first seeks the pivot, if it is before it.
+// The first scorer seeks the pivot, if it is before it.
+fn to_pivot_doc(
+    file: &[u8],
+    lists: &[[usize; 8]; 16],
+    scorer: TermScorer,
+    span: Span,
+    places: &mut [[usize; 8]; 16],
+    docs: &mut [[u32; 128]; 16],
+    freqs: &mut [[u32; 128]; 16],
+) -> TermScorer
+    requires { let slots = held (now places) (now docs) (now freqs) in
+        ⌜ Stand (now file) (now lists) slots scorer × (span .«pivot_doc» ≤ 2147483647) ⌝ }
+    ensures { λ r.
+        let old = held (before places) (before docs) (before freqs) in
+        let new = held (after places) (after docs) (after freqs) in
+        ⌜ ((b : TermScorer) → Found (both scorer b) (span .«before_pivot_len») (span .«pivot_len») (span .«pivot_doc»)
+        → Apart (both scorer b) → All (Stand (before file) (before lists) old) (both scorer b)
+        → Brought (before file) (before lists) old scorer b span new r) ⌝ }
+{
+    if span.before_pivot_len == 0 {
+        return scorer;
+    }
+    let q = scorer.slot;
+    let doc = slot::seek(
+        file,
+        lists,
+        q,
+        scorer.doc,
+        span.pivot_doc,
+        places,
+        docs,
+        freqs,
+    );
+    on_doc(scorer, doc)
+}
+
+// The first scorers are sent to the pivot.
 fn on_pivot_of_two(
     file: &[u8],
     similarity: Similarity,
@@ -378,25 +415,8 @@ fn on_pivot_of_two(
         let new = held (after places) (after docs) (after freqs) in
         ⌜ Pivoted (before file) (before lists) (similarity .scoring) threshold old (both a b) 2 span new (stepOf r) ⌝ }
 {
-    if span.before_pivot_len == 0 {
-        return hit_of_two(
-            file,
-            similarity,
-            lists,
-            caches,
-            threshold,
-            a,
-            b,
-            span,
-            places,
-            docs,
-            freqs,
-        );
-    }
-    let pivot_doc = span.pivot_doc;
-    let doc = slot::seek(file, lists, a.slot, a.doc, pivot_doc, places, docs, freqs);
-    let x = on_doc(a, doc);
-    if doc == pivot_doc {
+    let x = to_pivot_doc(file, lists, a, span, places, docs, freqs);
+    if x.doc == span.pivot_doc {
         return hit_of_two(
             file,
             similarity,

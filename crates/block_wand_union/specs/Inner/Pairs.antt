@@ -9,7 +9,7 @@ use Rattle.route.specs.Cursor.{seekBlockIn}
 use Rattle.route.specs.Union.{unionTurn}
 use Rattle.route.specs.Inner.Unions.{UnionKept}
 use Rattle.bm25.specs.declared.Scoring.{Scoring}
-use Rattle.ordering.specs.Inner.Scorers.{noScorer}
+use Rattle.ordering.specs.Inner.Scorers.{Left, noScorer, returned}
 use Rattle.ordering.specs.declared.Scorers.{Scorers}
 use Rattle.ordering.specs.declared.TermScorer.{TermScorer}
 use Rattle.notefile.specs.Header.{documents}
@@ -18,12 +18,18 @@ use Rattle.reports.specs.declared.Event.the-variants.{Report}
 use Rattle.term_scorer.specs.Inner.Slots.{cursorAt, Held, listAt, Shallowed}
 use Rattle.term_scorer.specs.Inner.Weights.{Bounded}
 use Rattle.block_wand_union.specs.Inner.Seats.{Seated, Terms, alive, placeIn, terms}
+use Rattle.block_wand_union.specs.Inner.Moves.{OnPivot, PastPivot}
 use Rattle.block_wand_union.specs.Inner.Runs.{unionEnded}
 use Rattle.block_wand_union.specs.declared.Stage.{Stage}
+use Rattle.block_wand_union.specs.declared.turn.Span.{Span}
 use Rattle.block_wand_union.specs.declared.turn.Step.{Step}
 use Rattle.block_wand_union.specs.declared.two.Pair.{Pair}
 use Rattle.block_wand_union.specs.declared.two.PairStep.{PairStep}
 use Rattle.block_wand_union.specs.declared.walk_two.PairWalked.{PairWalked}
+
+-- the scorer on another document
+abbrev pub onDoc : TermScorer → ℕ → TermScorer
+onDoc s doc = record { doc = doc; «max_score» = s .«max_score»; slot = s .slot }
 
 abbrev pub both : TermScorer → TermScorer → List TermScorer
 both a b = a ∷ b ∷ []
@@ -46,6 +52,13 @@ module _ (file : List ℕ) (lists : List (List ℕ)) where
     pub between : List (List ℕ)
     pub sought : Shallowed file lists q (λ (k : Scoring). seekBlockIn (listAt k file lists q) 128 doc (cursorAt places q)) places between
     pub bounded : Bounded (T .scoring) file lists q between (T .bounds) places′ bounds′ r
+
+  -- of scorers a and b, a has come to the pivot as r if it was before it; it may have gone past it, and then b is on it
+  pub record Brought (h : Held) (a b : TermScorer) (at : Span) (h′ : Held) (r : TermScorer) : Type 0 where
+    pub came : r .doc ≡ at .«pivot_doc» → OnPivot file lists (at .«pivot_doc») h (both a b) (at .«before_pivot_len») h′ (both r b)
+    pub past : (r .doc ≡ at .«pivot_doc» → ⊥)
+        → (b .doc ≡ at .«pivot_doc») × ((z : Scorers) → Left (returned (both r b) 0) 2 z
+        → PastPivot file lists (at .«pivot_doc») h (both a b) (at .«before_pivot_len») h′ (alive z))
 
   -- `walk_two` went from scorers l at a stage: to a report, or without one
   pub record WalksTwo (T : Terms) (t : Float) (stage : Stage) (h : Held) (l : List TermScorer) (turns : ℕ) (h′ : Held)
