@@ -1,17 +1,28 @@
 -- Two scorers by value: the laws over the array's scorers, on two of them.
-use mathlib.Core.List.{List, _∷_}
-use mathlib.Core.Path.{refl, sym, _≡_}
+use mathlib.Core.List.{List, map, _∷_}
+use mathlib.Core.Path.{ap, refl, subst, sym, _∙_, _≡_}
 use Prim.Native.Nat.{ℕ, _≤_}
 use native.Mathlib.Omega.{arith}
-use lib.ListN.{take}
+use lib.ListN.{getD, length-set, set, take}
 use lib.Seq.{take-take}
 use lib.Ieee.{Float}
 use Rattle.route.specs.F32.{f32}
+use Rattle.route.specs.Lists.{All}
+use Rattle.route.specs.Cursor.{advanceIn, seekIn}
+use Rattle.route.specs.Ordering.{sortBy, sweep}
+use Rattle.ordering.specs.Inner.Scorers.{Apart, byDoc, noScorer, slotOf}
+use Rattle.ordering.specs.Inner.Pivots.{Found}
 use Rattle.ordering.specs.declared.TermScorer.{TermScorer}
-use Rattle.term_scorer.specs.Inner.Slots.{held}
-use Rattle.block_wand_union.specs.Inner.Seats.{Seated, Terms, terms}
-use Rattle.block_wand_union.specs.Inner.Pairs.{BlockSought, both, fourteen}
+use Rattle.ordering.proofs.Places.{drop-take-cons}
+use Rattle.term_scorer.specs.Inner.Slots.{cursorAt, held, Held, listAt, MovedSlot, Sixteen}
+use Rattle.block_wand_union.specs.Inner.Seats.{Seated, Stand, Terms, alive, terms}
+use Rattle.block_wand_union.specs.Inner.Moves.{AdvancedAll, OnPivot, PastPivot}
+use Rattle.block_wand_union.specs.Inner.Pairs.{BlockSought, Brought, both, fourteen, inArray, onDoc}
+use Rattle.block_wand_union.specs.declared.turn.Span.{Span}
+use Rattle.block_wand_union.specs.declared.two.Pair.{Pair}
 use Rattle.block_wand_union.proofs.BlockBounds.{Bounding, bounding, bounds-next}
+use Rattle.block_wand_union.proofs.Alignments.{Seeking, all-on, goes-past, seeking, seeks}
+use Rattle.block_wand_union.proofs.Advances.{Advancing, advances, advancing, sorted-left, stand-at}
 
 -- ---- the array
 
@@ -31,3 +42,74 @@ module _ {file : List ℕ} {lists : List (List ℕ)} {T : Terms} {places : List 
   pub second-block : {places₂ : List (List ℕ)} {bounds₂ : List Float} {r₂ : Float} → BlockSought file lists (terms (T .scoring) (T .caches) bounds₁) doc (b .slot) places₁ places₂ bounds₂ r₂
       → Bounding file lists T places docs freqs doc (both a b) 2 places₂ bounds₂ (f32 .add (f32 .add (f32 .nil) r₁) r₂)
   second-block B = bounds-next file lists T places docs freqs doc (both a b) first-block (omega arith) (S .apart) b refl (B .sought) (B .bounded)
+
+-- ---- none, the first, or both advance
+
+module _ (file : List ℕ) (lists : List (List ℕ)) (h : Held) (a b : TermScorer) (apart : Apart (both a b)) (stands : All (Stand file lists h) (both a b)) where
+  abbrev array : List TermScorer
+  array = a ∷ b ∷ fourteen
+
+  pub none-advanced : Advancing file lists h array 2 0 h array
+  none-advanced = advancing file lists h array 2 refl apart stands
+
+  module _ {h₁ : Held} {doc₁ : ℕ} (A : MovedSlot file lists (a .slot) (λ s. advanceIn (listAt s file lists (a .slot)) 128 (cursorAt (h .places) (a .slot))) h h₁ doc₁) where
+    pub one-advanced : Advancing file lists h array 2 1 h₁ (onDoc a doc₁ ∷ b ∷ fourteen)
+    one-advanced = advances file lists h array 2 apart (omega arith) (omega arith) none-advanced (omega arith) A
+
+    pub second-stands : Stand file lists h₁ b
+    second-stands = stand-at file lists h array 2 apart (omega arith) (omega arith) one-advanced (omega arith)
+
+    pub both-advanced : {h₂ : Held} {doc₂ : ℕ} → MovedSlot file lists (b .slot) (λ s. advanceIn (listAt s file lists (b .slot)) 128 (cursorAt (h₁ .places) (b .slot))) h₁ h₂ doc₂
+        → Advancing file lists h array 2 2 h₂ (onDoc a doc₁ ∷ onDoc b doc₂ ∷ fourteen)
+    both-advanced B = advances file lists h array 2 apart (omega arith) (omega arith) one-advanced (omega arith) B
+
+  pub advanced-pair : {i : ℕ} {h′ : Held} {x y : TermScorer} → Advancing file lists h array 2 i h′ (x ∷ y ∷ fourteen) → (len : ℕ) → i ≡ len → (r : Pair)
+      → alive (inArray r) ≡ sortBy byDoc (sweep byDoc 2 (both x y)) → r .len ≤ 2 → AdvancedAll file lists h (both a b) 2 len h′ (inArray r)
+  advanced-pair S len e r now few = sorted-left file lists h array 2 apart (omega arith) (omega arith) S len e {r = inArray r} now few
+
+-- ---- the first comes to the pivot
+
+module _ {file : List ℕ} {lists : List (List ℕ)} {h : Held} {a b : TermScorer} {at : Span}
+    (F : Found (both a b) (at .«before_pivot_len») (at .«pivot_len») (at .«pivot_doc»)) (apart : Apart (both a b)) (stands : All (Stand file lists h) (both a b)) where
+  abbrev before : ℕ
+  before = at .«before_pivot_len»
+
+  abbrev p : ℕ
+  p = at .«pivot_doc»
+
+  -- the scorer at the pivot's place is on it
+  on-it : getD (both a b) before noScorer .doc ≡ p
+  on-it = rw (drop-take-cons (both a b) (at .«pivot_len») before noScorer (F .first) (F .inside)) at (F .on) .0
+
+  pub was-there : before ≡ 0 → Brought file lists h a b at h a
+  was-there e =
+      let on : a .doc ≡ p = rw e at on-it in
+      record {
+        came = λ _.
+            subst (λ (k : ℕ). OnPivot file lists p h (both a b) k h (both a b)) (sym e)
+            (all-on file lists p h (a ∷ b ∷ fourteen) 2 0 apart (omega arith) (omega arith) (omega arith) (seeking file lists p h (a ∷ b ∷ fourteen) 2 0 refl apart stands) (omega arith));
+        past = λ n. absurd (n on);
+      }
+
+  pub sought : (before ≡ 0 → ⊥) → {h′ : Held} {doc : ℕ} → MovedSlot file lists (a .slot) (λ s. seekIn (listAt s file lists (a .slot)) 128 p (cursorAt (h .places) (a .slot))) h h′ doc
+      → Brought file lists h a b at h′ (onDoc a doc)
+  sought n {h′} {doc} M =
+      let e : before ≡ 1 = omega (arith, F .first, F .inside) in
+      let S = seeking file lists p h (a ∷ b ∷ fourteen) 2 1 refl apart stands in
+      record {
+        came = λ q.
+            subst (λ (k : ℕ). OnPivot file lists p h (both a b) k h′ (both (onDoc a doc) b)) (sym e)
+            (all-on file lists p h (a ∷ b ∷ fourteen) 2 1 apart (omega arith) (omega arith) (omega arith)
+            (seeks file lists p h (a ∷ b ∷ fourteen) 2 1 apart (omega arith) (omega arith) (omega arith) S (omega arith) M q) (omega arith));
+        past = λ q. (
+          rw e at on-it,
+          λ z L. subst (λ (k : ℕ). PastPivot file lists p h (both a b) k h′ (alive z)) (sym e)
+              (goes-past file lists p h (a ∷ b ∷ fourteen) 2 1 apart (omega arith) (omega arith) (omega arith) S (omega arith) M q {r = z} L),
+        );
+      }
+
+-- ---- their slots are written back
+
+pub slots-kept : (r : Pair) (order : List ℕ) → r .len ≤ 2 → Sixteen order
+    → (take (r .len) (set (set order 0 (r .a .slot)) 1 (r .b .slot)) ≡ map slotOf (alive (inArray r))) × Sixteen (set (set order 0 (r .a .slot)) 1 (r .b .slot))
+slots-kept r order few room = (?, length-set (set order 0 (r .a .slot)) 1 (r .b .slot) ∙ length-set order 0 (r .a .slot) ∙ room)

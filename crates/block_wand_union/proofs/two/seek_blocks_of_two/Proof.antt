@@ -24,7 +24,7 @@ returns c =
 seek-block-requires-2 : tie.Need-seek-block-requires-2
 unfolding ofBits
 seek-block-requires-2 c κs =
-    let b = c .before .before .before .before .before in
+    let b = c .before .before .before .before in
     let a = start b in
     let B = first-block (a .args .docs .now) (a .args .freqs .now) (a .args .a) (a .args .b) (a .pre .3) (b .seek-block .ensures) in
     (a .pre .2, B .row, B .seats .1 .0)
