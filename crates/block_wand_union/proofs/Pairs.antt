@@ -1,7 +1,8 @@
 -- Two scorers by value: the laws over the array's scorers, on two of them.
-use mathlib.Core.List.{List, map, _∷_}
+use mathlib.Core.Bool.{Bool}
+use mathlib.Core.List.{List, map, [], _∷_}
 use mathlib.Core.Path.{ap, refl, subst, sym, _∙_, _≡_}
-use Prim.Native.Nat.{ℕ, _≤_}
+use Prim.Native.Nat.{suc, ℕ, _+_, _-_, _≤_}
 use native.Mathlib.Omega.{arith}
 use lib.ListN.{getD, length-set, set, take}
 use lib.Seq.{take-take}
@@ -10,10 +11,15 @@ use Rattle.route.specs.F32.{f32}
 use Rattle.route.specs.Lists.{All}
 use Rattle.route.specs.Cursor.{advanceIn, seekIn}
 use Rattle.route.specs.Ordering.{sortBy, sweep}
+use Rattle.route.specs.Route.{Turn}
 use Rattle.ordering.specs.Inner.Scorers.{Apart, byDoc, noScorer, slotOf}
 use Rattle.ordering.specs.Inner.Pivots.{Found}
 use Rattle.ordering.specs.declared.TermScorer.{TermScorer}
-use Rattle.ordering.proofs.Places.{drop-take-cons}
+use Rattle.ordering.proofs.Places.{drop-take-cons, map-take}
+use Rattle.reports.specs.Inner.Turns.{afterTurns, Went}
+use Rattle.reports.specs.declared.Event.{Event}
+use Rattle.reports.specs.declared.Event.the-variants.{Over, Paused, Report}
+use Rattle.reports.proofs.TurnLaws.{Quietly, and-then, at-end, at-pause, at-report}
 use Rattle.term_scorer.specs.Inner.Slots.{cursorAt, held, Held, listAt, MovedSlot, Sixteen}
 use Rattle.block_wand_union.specs.Inner.Seats.{Seated, Stand, Terms, alive, terms}
 use Rattle.block_wand_union.specs.Inner.Moves.{AdvancedAll, OnPivot, PastPivot}
@@ -108,8 +114,44 @@ module _ {file : List ℕ} {lists : List (List ℕ)} {h : Held} {a b : TermScore
         );
       }
 
--- ---- their slots are written back
+-- ---- read off the tables, and written back
+
+pub two-read : {A : Type 0} (f : ℕ → A) (n : ℕ) (order : List ℕ) → n ≡ 2 → Sixteen order → f (getD order 0 0) ∷ f (getD order 1 0) ∷ [] ≡ map f (take n order)
+two-read f n [] e room = absurd (omega arith)
+two-read f n (x ∷ []) e room = absurd (omega arith)
+two-read f n (x ∷ y ∷ order) e room = rw e
+
+written : (n x y : ℕ) (order : List ℕ) → n ≤ 2 → Sixteen order → take n (set (set order 0 x) 1 y) ≡ take n (x ∷ y ∷ [])
+written n x y [] h room = absurd (omega arith)
+written n x y (u ∷ []) h room = absurd (omega arith)
+written n x y (u ∷ v ∷ order) h room = sym (take-take n 2 (x ∷ y ∷ order) h)
 
 pub slots-kept : (r : Pair) (order : List ℕ) → r .len ≤ 2 → Sixteen order
     → (take (r .len) (set (set order 0 (r .a .slot)) 1 (r .b .slot)) ≡ map slotOf (alive (inArray r))) × Sixteen (set (set order 0 (r .a .slot)) 1 (r .b .slot))
-slots-kept r order few room = (?, length-set (set order 0 (r .a .slot)) 1 (r .b .slot) ∙ length-set order 0 (r .a .slot) ∙ room)
+slots-kept r order few room = (
+  written (r .len) (r .a .slot) (r .b .slot) order few room ∙ sym (ap (map slotOf) (first-of-two (r .a) (r .b) (r .len) few) ∙ map-take slotOf (r .len) (both (r .a) (r .b))),
+  length-set (set order 0 (r .a .slot)) 1 (r .b .slot) ∙ length-set order 0 (r .a .slot) ∙ room,
+)
+
+-- ---- a run goes on behind quiet turns
+
+module _ {P : Type 0} (turn : Float → P → Turn P Float) (ended : P → Bool) (t : Float) {p q r : P} {n m turns : ℕ} (Q : Quietly turn ended t p n q) (few : n ≤ turns) where
+  pub went-on : (event : Event) → Went turn ended t q (turns - n) m r event → Went turn ended t p turns (n + m) r event
+  went-on (Report doc score) W =
+      let S = W .stood in
+      let k = S .0 in
+      let Z = and-then turn ended t Q {m = k} {r = afterTurns turn ended t q k} (record { place-is = refl; silent = S .2 }) in
+      let room = W .few in
+      let one = S .1 in
+      let e : suc (n + k) ≡ n + m = omega arith in
+      subst (λ (i : ℕ). Went turn ended t p turns i r (Report doc score)) e
+      (at-report turn ended t Z (omega arith) (S .3) (S .4) (sym (W .place-is ∙ ap (afterTurns turn ended t q) one)))
+  went-on Over W =
+      let Z = and-then turn ended t Q {m = m} {r = r} (record { place-is = W .place-is; silent = W .stood .0 }) in
+      let room = W .few in
+      at-end turn ended t Z (omega arith) (ap ended (W .place-is) ∙ W .stood .1)
+  went-on Paused W =
+      let Z = and-then turn ended t Q {m = m} {r = r} (record { place-is = W .place-is; silent = W .stood .0 }) in
+      let all = W .stood .2 in
+      let e : n + m ≡ turns = omega arith in
+      subst (λ (i : ℕ). Went turn ended t p i (n + m) r Paused) e (at-pause turn ended t Z (ap ended (W .place-is) ∙ W .stood .1))

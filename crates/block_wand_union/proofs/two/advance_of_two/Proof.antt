@@ -5,6 +5,7 @@ use native.Mathlib.Omega.{arith}
 use borrow.Author.Needs.{needs}
 use Rattle.ordering.specs.Inner.Scorers.{noScorer}
 use Rattle.ordering.proofs.Places.{all-first}
+use Rattle.term_scorer.specs.Inner.Slots.{held}
 use Rattle.block_wand_union.specs.Inner.Seats.{Inside}
 use Rattle.block_wand_union.specs.Inner.Pairs.{both}
 use Rattle.block_wand_union.proofs.Advances.{inside-at}
@@ -13,7 +14,7 @@ use Rattle.block_wand_union.proofs.two.advance_of_two.Statement.{statem
 use Rattle.block_wand_union.proofs.two.advance_of_two.Tie as tie
 
 abbrev start : tie.After-advance → tie.Start
-start b = b .before .before .before .before .before
+start b = b .before .before .before .before .before .before
 
 left-requires : tie.Need-left-requires
 left-requires c κs = search needs
@@ -30,7 +31,7 @@ advance-requires c κs =
     let e = c .before .before .before in
     let a = e .before .before in
     let S = a .pre .2 .0 in
-    (S .slot-in, S .slot, all-first (Inside _ _ _) (both (a .args .a) (a .args .b)) (a .args .pivot-len) 0 noScorer (omega (arith, e .if1 .left)) (omega arith) (a .pre .3))
+    (S .slot-in, S .slot, all-first (Inside (a .args .file .now) (a .args .lists .now) (held (a .args .places .now) (a .args .docs .now) (a .args .freqs .now))) (both (a .args .a) (a .args .b)) (a .args .pivot-len) 0 noScorer (omega (arith, e .if1 .left)) (omega arith) (a .pre .3))
 
 on-doc-requires : tie.Need-on-doc-requires
 on-doc-requires c κs = search needs
@@ -55,7 +56,7 @@ advance-requires-2 c κs =
     let a = start b in
     let one = one-advanced _ _ _ _ _ (a .pre .1) (a .pre .2) (b .advance .ensures) in
     let S = second-stands _ _ _ _ _ (a .pre .1) (a .pre .2) (b .advance .ensures) in
-    let few : 1 < a .args .pivot-len = omega (arith, e .if2 .left, e .before .before .before .before .before .before .if1 .left) in (
+    let few : 1 < a .args .pivot-len = omega (arith, e .if2 .left, b .before .before .before .before .if1 .left) in (
       S .slot-in,
       S .slot,
       inside-at _ _ _ _ 2 (a .pre .1) (omega arith) (omega arith) one (omega arith) (a .args .pivot-len) few (omega arith)

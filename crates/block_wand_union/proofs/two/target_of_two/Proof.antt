@@ -10,7 +10,7 @@ use Rattle.block_wand_union.proofs.two.target_of_two.Statement.{stateme
 use Rattle.block_wand_union.proofs.two.target_of_two.Tie as tie
 
 last-doc-in-block-requires : tie.Need-last-doc-in-block-requires
-last-doc-in-block-requires c κs = all-first (LastRead _) (both (c .args .a) (c .args .b)) (c .args .pivot-len) 0 noScorer (omega arith) (omega arith) (c .pre .2)
+last-doc-in-block-requires c κs = all-first (LastRead (c .args .places .now)) (both (c .args .a) (c .args .b)) (c .args .pivot-len) 0 noScorer (omega arith) (omega arith) (c .pre .2)
 
 less-requires : tie.Need-less-requires
 less-requires c κs = search needs
@@ -30,7 +30,7 @@ returns c =
 last-doc-in-block-requires-2 : tie.Need-last-doc-in-block-requires-2
 last-doc-in-block-requires-2 c κs =
     let a = c .before .before .before in
-    all-first (LastRead _) (both (a .args .a) (a .args .b)) (a .args .pivot-len) 1 noScorer (omega (arith, c .if1 .left)) (omega arith) (a .pre .2)
+    all-first (LastRead (a .args .places .now)) (both (a .args .a) (a .args .b)) (a .args .pivot-len) 1 noScorer (omega (arith, c .if1 .left)) (omega arith) (a .pre .2)
 
 less-requires-3 : tie.Need-less-requires-3
 less-requires-3 c κs = search needs

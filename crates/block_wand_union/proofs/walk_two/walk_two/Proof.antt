@@ -1,39 +1,102 @@
-use borrow.Author.Needs.{needs}
+-- `walk_two::walk_two` meets its contract: each turn is the route's next, over two scorers.
+use mathlib.Core.Bool.{true≢false}
+use mathlib.Core.List.{_∷_}
+use mathlib.Core.Path.{subst, sym}
+use Prim.Native.Nat.{ℕ, _-_, _≤_, _<_}
 use native.Mathlib.Omega.{arith}
+use lib.ListN.{take}
+use borrow.Author.Needs.{needs}
+use Rattle.route.proofs.Cases.{lt-of-ne}
+use Rattle.term_scorer.specs.Inner.Slots.{held}
+use Rattle.block_wand_union.specs.Inner.Seats.{alive, terms}
+use Rattle.block_wand_union.specs.Inner.Turns.{Turned}
+use Rattle.block_wand_union.specs.Inner.Pairs.{fourteen, inArray, stepOf}
+use Rattle.block_wand_union.proofs.Runs.{OnWay, begun, quiet-turn, reports}
 use Rattle.block_wand_union.proofs.walk_two.walk_two.Statement.{statement}
 use Rattle.block_wand_union.proofs.walk_two.walk_two.Tie as tie
 
 abbrev Inv-loop : tie.InvT-loop
 Inv-loop file similarity lists caches threshold turns places₀ docs₀ freqs₀ bounds₀ left₀ now₀ taken₀ places docs freqs bounds left now taken =
-    ?
+    (left .len ≤ 2) × OnWay file lists (terms (similarity .scoring) caches bounds₀) threshold now₀ (held places₀ docs₀ freqs₀) (alive (inArray left₀)) turns (held places docs freqs) bounds (inArray left) now taken
 
 abbrev μ-loop : tie.MeasureT-loop
-μ-loop file similarity lists caches threshold turns places₀ docs₀ freqs₀ bounds₀ left₀ now₀ taken₀ places docs freqs bounds left now taken =
-    ?
+μ-loop file similarity lists caches threshold turns places₀ docs₀ freqs₀ bounds₀ left₀ now₀ taken₀ places docs freqs bounds left now taken = turns - taken
+
+abbrev at-loop : tie.Then1 Inv-loop μ-loop → tie.At-loop Inv-loop μ-loop
+at-loop t = t .before .before
+
+abbrev start : tie.At-loop Inv-loop μ-loop → tie.Start Inv-loop μ-loop
+start l = l .before .before
+
+abbrev then : tie.After-turn-of-two Inv-loop μ-loop → tie.Then1 Inv-loop μ-loop
+then n = n .before .before .before .before .before
+
+room : (t : tie.Then1 Inv-loop μ-loop) → at-loop t .loop .taken < start (at-loop t) .args .turns
+room t = lt-of-ne (at-loop t .loop .inv .1 .within) (t .before .goes-on .ensures (t .if1 .taken) .1)
 
 loop-holds : tie.Need-loop-holds Inv-loop μ-loop
-loop-holds c = search needs
+loop-holds c =
+    let a = c .before in
+    (a .pre .0, begun (a .args .threshold) (a .args .stage) (inArray (a .args .pair)) (a .args .turns) (omega arith) (a .pre .2) (a .pre .3))
 
 goes-on-requires : tie.Need-goes-on-requires Inv-loop μ-loop
 goes-on-requires c κs = search needs
 
 turn-of-two-requires : tie.Need-turn-of-two-requires Inv-loop μ-loop
-turn-of-two-requires c κs = search needs
+turn-of-two-requires c κs =
+    let t = c .before .before .before .before in
+    let l = at-loop t in
+    let S = l .loop .inv .1 in
+    let two = t .before .goes-on .ensures (t .if1 .taken) .0 in
+    (start l .pre .1, rw two at (S .seated), rw two at (S .kept))
 
 add-taken : tie.Need-add-taken Inv-loop μ-loop
-add-taken c = search needs
+add-taken c =
+    let t = then (c .before) in
+    omega (arith, room t, start (at-loop t) .fits .turns)
 
 returns : tie.Need-returns Inv-loop μ-loop
-returns c = search needs
+returns c =
+    let n = c .before .before in
+    let t = then n in
+    let l = at-loop t in
+    let G = t .before .goes-on .ensures (t .if1 .taken) in
+    let x = l .loop .left in
+    let D = n .turn-of-two .ensures in
+    let W = reports (l .loop .inv .1) (G .2) (room t)
+    (subst (λ (k : ℕ). Turned (start l .args .file .now) (start l .args .lists .now) (terms (start l .args .similarity .scoring) (start l .args .caches .now) (l .loop .bounds)) (start l .args .threshold) (l .loop .now)
+    (held (l .loop .places) (l .loop .docs) (l .loop .freqs)) (take k (x .a ∷ x .b ∷ fourteen)) k _ _ (stepOf (n .turn-of-two .result))) (sym (G .0)) D) (c .if2 .taken) in
+    record { few = D .few; seated = W .seated; kept = W .kept; within = W .went .few; silent = λ e. absurd (true≢false e); reported = λ _. W .went }
 
 loop-less : tie.Need-loop-less Inv-loop μ-loop
-loop-less c = search needs
+loop-less c = omega (arith, room (then (c .before .before)))
 
 loop-again : tie.Need-loop-again Inv-loop μ-loop
-loop-again c = search needs
+loop-again c =
+    let n = c .before .before in
+    let t = then n in
+    let l = at-loop t in
+    let G = t .before .goes-on .ensures (t .if1 .taken) in
+    let x = l .loop .left in
+    let D = n .turn-of-two .ensures in (
+      D .few,
+      quiet-turn (l .loop .inv .1) (G .2) (room t)
+          (subst (λ (k : ℕ). Turned (start l .args .file .now) (start l .args .lists .now) (terms (start l .args .similarity .scoring) (start l .args .caches .now) (l .loop .bounds)) (start l .args .threshold) (l .loop .now)
+          (held (l .loop .places) (l .loop .docs) (l .loop .freqs)) (take k (x .a ∷ x .b ∷ fourteen)) k _ _ (stepOf (n .turn-of-two .result))) (sym (G .0)) D) (c .if2 .left),
+    )
 
 returns-2 : tie.Need-returns-2 Inv-loop μ-loop
-returns-2 c = search needs
+returns-2 c =
+    let I = c .before .before .loop .inv in
+    let S = I .1 in
+    record {
+      few = I .0;
+      seated = S .seated;
+      kept = S .kept;
+      within = S .within;
+      silent = λ _. (S .quietly .place-is, S .quietly .silent);
+      reported = λ e. absurd (true≢false (sym e));
+    }
 
 pub walk-two-spec : {M : Type 1} → statement M
 walk-two-spec =
