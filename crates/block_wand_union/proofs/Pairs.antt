@@ -1,8 +1,8 @@
 -- Two scorers by value: the laws over the array's scorers, on two of them.
-use mathlib.Core.Bool.{Bool}
+use mathlib.Core.Bool.{Bool, false, true, true≢false}
 use mathlib.Core.List.{List, map, [], _∷_}
 use mathlib.Core.Path.{ap, refl, subst, sym, _∙_, _≡_}
-use Prim.Native.Nat.{suc, ℕ, _+_, _-_, _≤_}
+use Prim.Native.Nat.{suc, ℕ, _+_, _-_, _≤_, _<_}
 use native.Mathlib.Omega.{arith}
 use lib.ListN.{getD, length-set, set, take}
 use lib.Seq.{take-take}
@@ -12,23 +12,32 @@ use Rattle.route.specs.Lists.{All}
 use Rattle.route.specs.Cursor.{advanceIn, seekIn}
 use Rattle.route.specs.Ordering.{sortBy, sweep}
 use Rattle.route.specs.Route.{Turn}
+use Rattle.route.specs.Union.{isOver, unionTurn}
+use Rattle.route.specs.Inner.Unions.{UnionKept}
 use Rattle.ordering.specs.Inner.Scorers.{Apart, byDoc, noScorer, slotOf}
 use Rattle.ordering.specs.Inner.Pivots.{Found}
 use Rattle.ordering.specs.declared.TermScorer.{TermScorer}
 use Rattle.ordering.proofs.Places.{drop-take-cons, map-take}
+use Rattle.notefile.specs.Header.{documents}
 use Rattle.reports.specs.Inner.Turns.{afterTurns, Went}
 use Rattle.reports.specs.declared.Event.{Event}
 use Rattle.reports.specs.declared.Event.the-variants.{Over, Paused, Report}
 use Rattle.reports.proofs.TurnLaws.{Quietly, and-then, at-end, at-pause, at-report}
 use Rattle.term_scorer.specs.Inner.Slots.{cursorAt, held, Held, listAt, MovedSlot, Sixteen}
-use Rattle.block_wand_union.specs.Inner.Seats.{Seated, Stand, Terms, alive, terms}
+use Rattle.block_wand_union.specs.Inner.Seats.{Seated, Stand, Terms, alive, placeIn, stageOf, terms}
 use Rattle.block_wand_union.specs.Inner.Moves.{AdvancedAll, OnPivot, PastPivot}
-use Rattle.block_wand_union.specs.Inner.Pairs.{BlockSought, Brought, both, fourteen, inArray, onDoc}
+use Rattle.block_wand_union.specs.Inner.Turns.{Turned}
+use Rattle.block_wand_union.specs.Inner.Runs.{unionEnded}
+use Rattle.block_wand_union.specs.Inner.Pairs.{BlockSought, Brought, WalksTwo, both, fourteen, inArray, onDoc, stepOf}
+use Rattle.block_wand_union.specs.declared.Stage.{Stage}
 use Rattle.block_wand_union.specs.declared.turn.Span.{Span}
 use Rattle.block_wand_union.specs.declared.two.Pair.{Pair}
+use Rattle.block_wand_union.specs.declared.two.PairStep.{PairStep}
+use Rattle.block_wand_union.specs.declared.walk_two.PairWalked.{PairWalked}
 use Rattle.block_wand_union.proofs.BlockBounds.{Bounding, bounding, bounds-next}
 use Rattle.block_wand_union.proofs.Alignments.{Seeking, all-on, goes-past, seeking, seeks}
 use Rattle.block_wand_union.proofs.Advances.{Advancing, advances, advancing, sorted-left, stand-at}
+use Rattle.block_wand_union.proofs.Runs.{OnWay, quiet-turn, reports}
 
 -- ---- the array
 
@@ -116,10 +125,10 @@ module _ {file : List ℕ} {lists : List (List ℕ)} {h : Held} {a b : TermScore
 
 -- ---- read off the tables, and written back
 
-pub two-read : {A : Type 0} (f : ℕ → A) (n : ℕ) (order : List ℕ) → n ≡ 2 → Sixteen order → f (getD order 0 0) ∷ f (getD order 1 0) ∷ [] ≡ map f (take n order)
-two-read f n [] e room = absurd (omega arith)
-two-read f n (x ∷ []) e room = absurd (omega arith)
-two-read f n (x ∷ y ∷ order) e room = rw e
+pub two-read : (f : ℕ → TermScorer) (n : ℕ) (order : List ℕ) → n ≡ 2 → Sixteen order → {x y : TermScorer} → x ≡ f (getD order 0 0) → y ≡ f (getD order 1 0) → both x y ≡ map f (take n order)
+two-read f n [] e room a b = absurd (omega arith)
+two-read f n (u ∷ []) e room a b = absurd (omega arith)
+two-read f n (u ∷ v ∷ order) e room a b = rw (e, a, b)
 
 written : (n x y : ℕ) (order : List ℕ) → n ≤ 2 → Sixteen order → take n (set (set order 0 x) 1 y) ≡ take n (x ∷ y ∷ [])
 written n x y [] h room = absurd (omega arith)
@@ -133,7 +142,50 @@ slots-kept r order few room = (
   length-set (set order 0 (r .a .slot)) 1 (r .b .slot) ∙ length-set order 0 (r .a .slot) ∙ room,
 )
 
+-- ---- the loop of `walk_two`
+
+module _ {file : List ℕ} {lists : List (List ℕ)} {T : Terms} {t : Float} {stage₀ : Stage} {h₀ : Held} {l₀ : List TermScorer} {turns : ℕ}
+    {h : Held} {bounds : List Float} {x : Pair} {stage : Stage} {taken : ℕ} (S : OnWay file lists T t stage₀ h₀ l₀ turns h bounds (inArray x) stage taken) where
+  -- it stops without a report
+  pub two-stop : x .len ≤ 2 → (doc : ℕ) (score : Float)
+      → WalksTwo file lists T t stage₀ h₀ l₀ turns h bounds (record { pair = x; stage = stage; taken = taken; due = false; doc = doc; score = score })
+  two-stop few doc score = record {
+    few = few;
+    seated = S .seated;
+    kept = S .kept;
+    within = S .within;
+    silent = λ _. (S .quietly .place-is, S .quietly .silent);
+    reported = λ e. absurd (true≢false (sym e));
+  }
+
+  -- both are left
+  module _ (two : x .len ≡ 2) where
+    pub two-seated : Seated file lists (terms (T .scoring) (T .caches) bounds) h (both (x .a) (x .b))
+    two-seated = subst (λ (k : ℕ). Seated file lists (terms (T .scoring) (T .caches) bounds) h (take k (x .a ∷ x .b ∷ fourteen))) two (S .seated)
+
+    pub two-kept : UnionKept 128 (documents file) f32 (placeIn file lists (T .scoring) (h .places) stage (both (x .a) (x .b)))
+    two-kept = subst (λ (k : ℕ). UnionKept 128 (documents file) f32 (placeIn file lists (T .scoring) (h .places) stage (take k (x .a ∷ x .b ∷ fourteen)))) two (S .kept)
+
+    module _ (on : isOver (stageOf stage) ≡ false) (room : taken < turns) {h′ : Held} {bounds′ : List Float} (r : PairStep)
+        (D : Turned file lists (terms (T .scoring) (T .caches) bounds) t stage h (both (x .a) (x .b)) 2 h′ bounds′ (stepOf r)) where
+      turned : Turned file lists (terms (T .scoring) (T .caches) bounds) t stage h (alive (inArray x)) (x .len) h′ bounds′ (stepOf r)
+      turned = subst (λ (k : ℕ). Turned file lists (terms (T .scoring) (T .caches) bounds) t stage h (take k (x .a ∷ x .b ∷ fourteen)) k h′ bounds′ (stepOf r)) (sym two) D
+
+      pub two-quiet : r .due ≡ false → (r .pair .len ≤ 2) × OnWay file lists T t stage₀ h₀ l₀ turns h′ bounds′ (inArray (r .pair)) (r .stage) (taken + 1)
+      two-quiet e = (D .few, quiet-turn S on room turned e)
+
+      pub two-report : r .due ≡ true
+          → WalksTwo file lists T t stage₀ h₀ l₀ turns h′ bounds′ (record { pair = r .pair; stage = r .stage; taken = taken + 1; due = true; doc = r .doc; score = r .score })
+      two-report e =
+          let W = reports S on room turned e in
+          record { few = D .few; seated = W .seated; kept = W .kept; within = W .went .few; silent = λ q. absurd (true≢false q); reported = λ _. W .went }
+
 -- ---- a run goes on behind quiet turns
+
+pub quiet-walk : {file : List ℕ} {lists : List (List ℕ)} {T : Terms} {t : Float} {stage : Stage} {h h′ : Held} {l : List TermScorer} {turns : ℕ} {bounds′ : List Float} {r : PairWalked}
+    → WalksTwo file lists T t stage h l turns h′ bounds′ r → r .due ≡ false
+    → Quietly (unionTurn 128 f32) unionEnded t (placeIn file lists (T .scoring) (h .places) stage l) (r .taken) (placeIn file lists (T .scoring) (h′ .places) (r .stage) (alive (inArray (r .pair))))
+quiet-walk W e = let Z = W .silent e in record { place-is = Z .0; silent = Z .1 }
 
 module _ {P : Type 0} (turn : Float → P → Turn P Float) (ended : P → Bool) (t : Float) {p q r : P} {n m turns : ℕ} (Q : Quietly turn ended t p n q) (few : n ≤ turns) where
   pub went-on : (event : Event) → Went turn ended t q (turns - n) m r event → Went turn ended t p turns (n + m) r event

@@ -11,7 +11,7 @@ use Rattle.block_wand_union.specs.Inner.Seats.{Readable, termAt}
 use Rattle.block_wand_union.specs.Inner.Runs.{unionEnded}
 use Rattle.block_wand_union.specs.Inner.Pairs.{both}
 use Rattle.block_wand_union.proofs.Runs.{kept-read, place-kept, place-read, readables, seated-read, stands-kept}
-use Rattle.block_wand_union.proofs.Pairs.{two-read, went-on}
+use Rattle.block_wand_union.proofs.Pairs.{quiet-walk, two-read, went-on}
 use Rattle.block_wand_union.proofs.walk_two.go_two.Statement.{statement}
 use Rattle.block_wand_union.proofs.walk_two.go_two.Tie as tie
 
@@ -29,8 +29,8 @@ scorers-are : (r : tie.After-scorer-in2) → (let a = start (first r) in
     both (first r .scorer-in .result) (r .scorer-in2 .result) ≡ map (termAt (a .args .file .now) (a .args .lists .now) (a .args .similarity .scoring) (a .args .places .now)) (take (a .args .union .len) (a .args .order .now)))
 scorers-are r =
     let a = start (first r) in
-    rw (first r .scorer-in .ensures, r .scorer-in2 .ensures)
-    (two-read (termAt (a .args .file .now) (a .args .lists .now) (a .args .similarity .scoring) (a .args .places .now)) (a .args .union .len) (a .args .order .now) (a .pre .0) (a .pre .2 .room))
+    two-read (termAt (a .args .file .now) (a .args .lists .now) (a .args .similarity .scoring) (a .args .places .now)) (a .args .union .len) (a .args .order .now) (a .pre .0) (a .pre .2 .room)
+    (first r .scorer-in .ensures) (r .scorer-in2 .ensures)
 
 element-copy-out-scorer-in : tie.Need-element-copy-out-scorer-in
 element-copy-out-scorer-in c = search needs
@@ -103,11 +103,10 @@ returns-2 c =
     let a = start (first r) in
     let W = w .walk-two .ensures in
     let K = k .keep-pair .ensures in
-    let Z = W .silent (e .if1 .left) in
     let G = g .go-on .ensures in (
       G .0,
       went-on (unionTurn 128 f32) unionEnded (a .args .threshold)
-          (rw (place-read (a .pre .2) (scorers-are r), place-kept (W .seated) (w .walk-two .result .stage) (w .walk-two .result .pair .len) _ (K .0)) at (record { place-is = Z .0; silent = Z .1 }))
+          (rw (place-read (a .pre .2) (scorers-are r), place-kept (W .seated) (w .walk-two .result .stage) (w .walk-two .result .pair .len) _ (K .0)) at (quiet-walk W (e .if1 .left)))
           (W .within) _ (G .1),
     )
 

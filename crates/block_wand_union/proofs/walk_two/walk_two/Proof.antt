@@ -1,17 +1,13 @@
 -- `walk_two::walk_two` meets its contract: each turn is the route's next, over two scorers.
-use mathlib.Core.Bool.{true≢false}
-use mathlib.Core.List.{_∷_}
-use mathlib.Core.Path.{subst, sym}
-use Prim.Native.Nat.{ℕ, _-_, _≤_, _<_}
+use Prim.Native.Nat.{_-_, _≤_, _<_}
 use native.Mathlib.Omega.{arith}
-use lib.ListN.{take}
 use borrow.Author.Needs.{needs}
 use Rattle.route.proofs.Cases.{lt-of-ne}
 use Rattle.term_scorer.specs.Inner.Slots.{held}
 use Rattle.block_wand_union.specs.Inner.Seats.{alive, terms}
-use Rattle.block_wand_union.specs.Inner.Turns.{Turned}
-use Rattle.block_wand_union.specs.Inner.Pairs.{fourteen, inArray, stepOf}
-use Rattle.block_wand_union.proofs.Runs.{OnWay, begun, quiet-turn, reports}
+use Rattle.block_wand_union.specs.Inner.Pairs.{inArray}
+use Rattle.block_wand_union.proofs.Runs.{OnWay, begun}
+use Rattle.block_wand_union.proofs.Pairs.{two-kept, two-quiet, two-report, two-seated, two-stop}
 use Rattle.block_wand_union.proofs.walk_two.walk_two.Statement.{statement}
 use Rattle.block_wand_union.proofs.walk_two.walk_two.Tie as tie
 
@@ -48,7 +44,7 @@ turn-of-two-requires c κs =
     let l = at-loop t in
     let S = l .loop .inv .1 in
     let two = t .before .goes-on .ensures (t .if1 .taken) .0 in
-    (start l .pre .1, rw two at (S .seated), rw two at (S .kept))
+    (start l .pre .1, two-seated S two, two-kept S two)
 
 add-taken : tie.Need-add-taken Inv-loop μ-loop
 add-taken c =
@@ -59,14 +55,8 @@ returns : tie.Need-returns Inv-loop μ-loop
 returns c =
     let n = c .before .before in
     let t = then n in
-    let l = at-loop t in
     let G = t .before .goes-on .ensures (t .if1 .taken) in
-    let x = l .loop .left in
-    let D = n .turn-of-two .ensures in
-    let W = reports (l .loop .inv .1) (G .2) (room t)
-    (subst (λ (k : ℕ). Turned (start l .args .file .now) (start l .args .lists .now) (terms (start l .args .similarity .scoring) (start l .args .caches .now) (l .loop .bounds)) (start l .args .threshold) (l .loop .now)
-    (held (l .loop .places) (l .loop .docs) (l .loop .freqs)) (take k (x .a ∷ x .b ∷ fourteen)) k _ _ (stepOf (n .turn-of-two .result))) (sym (G .0)) D) (c .if2 .taken) in
-    record { few = D .few; seated = W .seated; kept = W .kept; within = W .went .few; silent = λ e. absurd (true≢false e); reported = λ _. W .went }
+    two-report (at-loop t .loop .inv .1) (G .0) (G .2) (room t) (n .turn-of-two .result) (n .turn-of-two .ensures) (c .if2 .taken)
 
 loop-less : tie.Need-loop-less Inv-loop μ-loop
 loop-less c = omega (arith, room (then (c .before .before)))
@@ -75,28 +65,11 @@ loop-again : tie.Need-loop-again Inv-loop μ-loop
 loop-again c =
     let n = c .before .before in
     let t = then n in
-    let l = at-loop t in
     let G = t .before .goes-on .ensures (t .if1 .taken) in
-    let x = l .loop .left in
-    let D = n .turn-of-two .ensures in (
-      D .few,
-      quiet-turn (l .loop .inv .1) (G .2) (room t)
-          (subst (λ (k : ℕ). Turned (start l .args .file .now) (start l .args .lists .now) (terms (start l .args .similarity .scoring) (start l .args .caches .now) (l .loop .bounds)) (start l .args .threshold) (l .loop .now)
-          (held (l .loop .places) (l .loop .docs) (l .loop .freqs)) (take k (x .a ∷ x .b ∷ fourteen)) k _ _ (stepOf (n .turn-of-two .result))) (sym (G .0)) D) (c .if2 .left),
-    )
+    two-quiet (at-loop t .loop .inv .1) (G .0) (G .2) (room t) (n .turn-of-two .result) (n .turn-of-two .ensures) (c .if2 .left)
 
 returns-2 : tie.Need-returns-2 Inv-loop μ-loop
-returns-2 c =
-    let I = c .before .before .loop .inv in
-    let S = I .1 in
-    record {
-      few = I .0;
-      seated = S .seated;
-      kept = S .kept;
-      within = S .within;
-      silent = λ _. (S .quietly .place-is, S .quietly .silent);
-      reported = λ e. absurd (true≢false (sym e));
-    }
+returns-2 c = let I = c .before .before .loop .inv in two-stop (I .1) (I .0) _ _
 
 pub walk-two-spec : {M : Type 1} → statement M
 walk-two-spec =
