@@ -27,7 +27,7 @@ use Rattle.ordering.proofs.Turns.{advanced-on-route}
 use Rattle.ordering.proofs.Moving.{moved-all, moves, moving}
 use Rattle.notefile.specs.Lists.{fullBlocks}
 use Rattle.term_scorer.specs.Inner.Slots.{cursorAt, Held, listAt, partAt, MovedSlot, Sixteen}
-use Rattle.block_wand_union.specs.Inner.Seats.{Carried, Inside, Stand, scorerAt}
+use Rattle.block_wand_union.specs.Inner.Seats.{Carried, Inside, Stand, alive, scorerAt}
 use Rattle.block_wand_union.specs.Inner.Moves.{AdvancedAll}
 use Rattle.block_wand_union.proofs.Seats.{carried-kept, carried-move, carried-refl, carried-trans, same-doc, same-off, scorer-is}
 use Rattle.block_wand_union.proofs.BlockBounds.{sum-snoc}
@@ -107,10 +107,9 @@ module _ (file : List ℕ) (lists : List (List ℕ)) (h : Held) (ss : List TermS
         }
 
     -- then the finished go, and the rest is sorted
-    pub advanced : (len : ℕ) → i ≡ len → {r : Scorers} → Left (sweep byDoc n (take n out)) n r → {sorted : List TermScorer} → take (r .len) sorted ≡ sortBy byDoc (take (r .len) (r .scorers)) → AdvancedAll file lists h l n len h′ (record { scorers = sorted; len = r .len })
-    advanced len e {r} L {sorted} q =
+    pub sorted-left : (len : ℕ) → i ≡ len → {r : Scorers} → alive r ≡ sortBy byDoc (sweep byDoc n (take n out)) → r .len ≤ n → AdvancedAll file lists h l n len h′ r
+    sorted-left len e now few =
         let out-n : length (take n out) ≡ n = let o = S .long in omega (arith, length-take n out) in
-        let now : take (r .len) sorted ≡ sortBy byDoc (sweep byDoc n (take n out)) = q ∙ ap (sortBy byDoc) (L .are) in
         record {
           carried = rw now (carried-trans file lists (S .carried)
               (carried-kept file lists h′ (kept-trans (sort-kept byDoc (sweep byDoc n (take n out))) (sweep-kept byDoc n (take n out))) (S .carried .apart) (S .carried .stands)));
@@ -121,5 +120,8 @@ module _ (file : List ℕ) (lists : List (List ℕ)) (h : Held) (ss : List TermS
               ∙ advanced-on-route 128 g (take n out) n (map f (take len l)) (map f (drop len l)) out-n
               (all-imp (Stand file lists h′) (SameDoc g) (take n out) (same-doc file lists scoring h′) (S .carried .stands))
               (rw e at (moved-all (advance 128) f l (S .on scoring)));
-          few = L .few;
+          few = few;
         }
+
+    pub advanced : (len : ℕ) → i ≡ len → {r : Scorers} → Left (sweep byDoc n (take n out)) n r → {sorted : List TermScorer} → take (r .len) sorted ≡ sortBy byDoc (take (r .len) (r .scorers)) → AdvancedAll file lists h l n len h′ (record { scorers = sorted; len = r .len })
+    advanced len e L q = sorted-left len e (q ∙ ap (sortBy byDoc) (L .are)) (L .few)

@@ -8,3 +8,4 @@ pub mod OnPivots
 pub mod Steps
 pub mod Runs
 pub mod Begins
+pub mod Pairs

@@ -5,11 +5,14 @@ pub mod low;
 pub mod order;
 pub mod pivot;
 pub mod turn;
+pub mod two;
 pub mod walk;
+pub mod walk_two;
 
 use crate::order::in_order;
 use crate::order::keep_order;
 use crate::walk::walk;
+use crate::walk_two::go_two;
 use ordering::Scorers;
 use ordering::sort_by_doc;
 use reports::Event;
@@ -63,8 +66,8 @@ pub fn begin(scorers: Scorers, order: &mut [usize; 16]) -> Union
     }
 }
 
-// From where the tables stand on to the next report, to the route's end, or through `turns` turns, under one threshold.
-pub fn go(
+// The same from where the tables stand, whatever scorers are left.
+pub fn go_on(
     file: &[u8],
     similarity: Similarity,
     union: Union,
@@ -126,4 +129,62 @@ pub fn go(
         taken: walked.taken,
         event,
     }
+}
+
+// From where the tables stand on to the next report, to the route's end, or through `turns` turns, under one threshold.
+pub fn go(
+    file: &[u8],
+    similarity: Similarity,
+    union: Union,
+    lists: &[[usize; 8]; 16],
+    caches: &[[f32; 256]; 16],
+    threshold: f32,
+    turns: usize,
+    order: &mut [usize; 16],
+    places: &mut [[usize; 8]; 16],
+    docs: &mut [[u32; 128]; 16],
+    freqs: &mut [[u32; 128]; 16],
+    bounds: &mut [f32; 128],
+) -> Gone
+    requires { let T = terms (similarity .scoring) (now caches) (now bounds) in
+        let slots = held (now places) (now docs) (now freqs) in
+        ⌜ (similarity .norms ≡ normReader (now file)) × Stands (now file) (now lists) T union (now order) slots ⌝ }
+    ensures { λ r.
+        let T = terms (similarity .scoring) (before caches) (after bounds) in
+        let slots = held (after places) (after docs) (after freqs) in
+        let from = placeOf (before file) (before lists) (similarity .scoring) union (before order) (before places) in
+        let to = placeOf (before file) (before lists) (similarity .scoring) (r .union) (after order) (after places) in
+        ⌜ Stands (before file) (before lists) T (r .union) (after order) slots
+        × Went (unionTurn 128 f32) unionEnded threshold from turns (r .taken) to (r .event) ⌝ }
+{
+    if union.len == 2 {
+        return go_two(
+            file,
+            similarity,
+            union,
+            lists,
+            caches,
+            threshold,
+            turns,
+            order,
+            places,
+            docs,
+            freqs,
+            bounds,
+        );
+    }
+    go_on(
+        file,
+        similarity,
+        union,
+        lists,
+        caches,
+        threshold,
+        turns,
+        order,
+        places,
+        docs,
+        freqs,
+        bounds,
+    )
 }

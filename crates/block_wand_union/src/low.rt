@@ -36,7 +36,7 @@ fn least_last_doc(scorers: [TermScorer; 16], pivot_len: usize, places: &[[usize;
 }
 
 // One document further, unless there is none.
-fn behind(last: u32) -> u32
+pub fn behind(last: u32) -> u32
     requires { ⌜ last ≤ 2147483647 ⌝ }
     ensures { λ r. ⌜ r ≡ behind last ⌝ }
 {

@@ -1,8 +1,8 @@
--- `go` meets its contract: the scorers are those of the tables' place, and their slots are written back in their order.
+-- `go_on` meets its contract: the scorers are those of the tables' place, and their slots are written back in their order.
 use native.Mathlib.Omega.{arith}
 use Rattle.block_wand_union.proofs.Runs.{kept-read, place-kept, place-read, readables, seated-read, stands-kept}
-use Rattle.block_wand_union.proofs.go.Statement.{statement}
-use Rattle.block_wand_union.proofs.go.Tie as tie
+use Rattle.block_wand_union.proofs.go_on.Statement.{statement}
+use Rattle.block_wand_union.proofs.go_on.Tie as tie
 
 abbrev start : tie.After-in-order → tie.Start
 start r = r .before .before .before .before .before
@@ -36,6 +36,6 @@ returns c =
       rw (place-read (start r .pre .1) (r .in-order .ensures .1), place-kept (W .seated) stage n _ (K .0)) at (W .went),
     )
 
-pub go-spec : {M : Type 1} → statement M
-go-spec =
+pub go-on-spec : {M : Type 1} → statement M
+go-on-spec =
     tie.close (tie.spec in-order-requires walk-requires keep-order-requires returns)
