@@ -35,7 +35,7 @@ use Rattle.block_wand_union.specs.declared.two.Pair.{Pair}
 use Rattle.block_wand_union.specs.declared.two.PairStep.{PairStep}
 use Rattle.block_wand_union.specs.declared.walk_two.PairWalked.{PairWalked}
 use Rattle.block_wand_union.proofs.BlockBounds.{Bounding, bounding, bounds-next}
-use Rattle.block_wand_union.proofs.Alignments.{Seeking, all-on, goes-past, seeking, seeks}
+use Rattle.block_wand_union.proofs.Alignments.{all-on, goes-past, seeking, seeks}
 use Rattle.block_wand_union.proofs.Advances.{Advancing, advances, advancing, sorted-left, stand-at}
 use Rattle.block_wand_union.proofs.Runs.{OnWay, quiet-turn, reports}
 

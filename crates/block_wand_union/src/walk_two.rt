@@ -3,13 +3,11 @@ use crate::Gone;
 use crate::Stage;
 use crate::Union;
 use crate::go_on;
+use crate::scorer_in;
 use crate::two::Pair;
 use crate::two::turn_of_two;
-use ordering::TermScorer;
 use reports::Event;
-use term_scorer::score;
 use term_scorer::score::Similarity;
-use term_scorer::slot;
 ghost use mathlib.Core.Bool.{false, true};
 ghost use mathlib.Core.List.{map};
 ghost use mathlib.Core.Path.{_≡_};
@@ -23,7 +21,7 @@ ghost use Rattle.reports.specs.Inner.Turns.{Went};
 ghost use Rattle.notefile.specs.Header.{documents, normReader};
 ghost use Rattle.ordering.specs.Inner.Scorers.{slotOf};
 ghost use Rattle.term_scorer.specs.Inner.Slots.{held, Sixteen};
-ghost use Rattle.block_wand_union.specs.Inner.Seats.{Readable, Seated, alive, placeIn, stageOf, termAt, terms};
+ghost use Rattle.block_wand_union.specs.Inner.Seats.{Seated, alive, placeIn, stageOf, terms};
 ghost use Rattle.block_wand_union.specs.Inner.Runs.{Stands, placeOf, unionEnded};
 ghost use Rattle.block_wand_union.specs.Inner.Pairs.{WalksTwo, inArray};
 
@@ -122,28 +120,6 @@ fn walk_two(
         due: false,
         doc: 0,
         score: 0.0,
-    }
-}
-
-// The scorer of slot q.
-fn scorer_in(
-    file: &[u8],
-    similarity: Similarity,
-    lists: &[[usize; 8]; 16],
-    caches: &[[f32; 256]; 16],
-    q: usize,
-    places: &[[usize; 8]; 16],
-    docs: &[[u32; 128]; 16],
-) -> TermScorer
-    requires { ⌜ Readable (now file) (now lists) (now caches) (now places) (now docs) q ⌝ }
-    ensures { λ r. ⌜ r ≡ termAt (before file) (before lists) (similarity .scoring) (before places) q ⌝ }
-{
-    let doc = slot::doc(q, places, docs);
-    let max_score = score::max_score(file, similarity, lists, caches, q);
-    TermScorer {
-        doc,
-        max_score,
-        slot: q,
     }
 }
 
