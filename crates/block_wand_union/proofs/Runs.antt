@@ -1,4 +1,4 @@
--- A union's run by turns: the scorers read off the tables and their slots written back, the loop of `walk`, and its beginning.
+-- A union's run by turns: the scorers read off the tables and their slots written back, and the loop of `walk`.
 use mathlib.Core.Bool.{Bool, false, not, true}
 use mathlib.Core.List.{List, map, [], _∷_}
 use mathlib.Core.Path.{ap, refl, sym, _∙_, _≡_}

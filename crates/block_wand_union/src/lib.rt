@@ -2,35 +2,31 @@
 pub mod align;
 pub mod blocks;
 pub mod low;
+pub mod order;
 pub mod pivot;
 pub mod turn;
 pub mod two;
+pub mod walk;
 pub mod walk_two;
 
-use crate::turn::turn;
+use crate::order::in_order;
+use crate::order::keep_order;
+use crate::walk::walk;
 use crate::walk_two::go_two;
 use ordering::Scorers;
-use ordering::TermScorer;
 use ordering::sort_by_doc;
 use reports::Event;
-use term_scorer::score;
 use term_scorer::score::Similarity;
-use term_scorer::slot;
 ghost use mathlib.Core.Path.{_≡_};
-ghost use mathlib.Core.List.{map};
 ghost use Prim.Native.Nat.{_≤_};
-ghost use lib.ListN.{take};
 ghost use Rattle.arrays.specs.Lent.{before, after};
 ghost use Rattle.route.specs.F32.{f32};
-ghost use Rattle.route.specs.Lists.{All};
-ghost use Rattle.route.specs.Union.{isOver, unionTurn};
-ghost use Rattle.route.specs.Inner.Unions.{UnionKept};
+ghost use Rattle.route.specs.Union.{unionTurn};
+ghost use Rattle.notefile.specs.Header.{normReader};
 ghost use Rattle.reports.specs.Inner.Turns.{Went};
-ghost use Rattle.notefile.specs.Header.{documents, normReader};
-ghost use Rattle.ordering.specs.Inner.Scorers.{slotOf};
 ghost use Rattle.term_scorer.specs.Inner.Slots.{held, Sixteen};
-ghost use Rattle.block_wand_union.specs.Inner.Seats.{Readable, Seated, alive, placeIn, stageOf, termAt, terms};
-ghost use Rattle.block_wand_union.specs.Inner.Runs.{Begins, Stands, Walks, placeOf, unionEnded, walkedTo};
+ghost use Rattle.block_wand_union.specs.Inner.Seats.{alive, terms};
+ghost use Rattle.block_wand_union.specs.Inner.Runs.{Begins, Stands, placeOf, unionEnded};
 
 // Before a pivot is looked for; behind a report, with so many scorers on its document that have still to go on; returned.
 pub enum Stage {
@@ -52,92 +48,6 @@ pub struct Gone {
     pub event: Event,
 }
 
-// The same with the scorers by value.
-pub struct Walked {
-    pub scorers: Scorers,
-    pub stage: Stage,
-    pub taken: usize,
-    pub event: Event,
-}
-
-fn is_over(stage: Stage) -> bool
-    ensures { λ r. ⌜ r ≡ isOver (stageOf stage) ⌝ }
-{
-    match stage {
-        Stage::Looking => false,
-        Stage::Called(_) => false,
-        Stage::Over => true,
-    }
-}
-
-// The scorer of slot q, read off the tables.
-pub fn scorer_in(
-    file: &[u8],
-    similarity: Similarity,
-    lists: &[[usize; 8]; 16],
-    caches: &[[f32; 256]; 16],
-    q: usize,
-    places: &[[usize; 8]; 16],
-    docs: &[[u32; 128]; 16],
-) -> TermScorer
-    requires { ⌜ Readable (now file) (now lists) (now caches) (now places) (now docs) q ⌝ }
-    ensures { λ r. ⌜ r ≡ termAt (before file) (before lists) (similarity .scoring) (before places) q ⌝ }
-{
-    let doc = slot::doc(q, places, docs);
-    let max_score = score::max_score(file, similarity, lists, caches, q);
-    TermScorer {
-        doc,
-        max_score,
-        slot: q,
-    }
-}
-
-// The scorers of the first slots in `order`.
-fn in_order(
-    file: &[u8],
-    similarity: Similarity,
-    lists: &[[usize; 8]; 16],
-    caches: &[[f32; 256]; 16],
-    len: usize,
-    order: &[usize; 16],
-    places: &[[usize; 8]; 16],
-    docs: &[[u32; 128]; 16],
-) -> Scorers
-    requires { ⌜ (len ≤ 16) × Sixteen (now order)
-        × All (Readable (now file) (now lists) (now caches) (now places) (now docs)) (take len (now order)) ⌝ }
-    ensures { λ r.
-        let ordered = map (termAt (before file) (before lists) (similarity .scoring) (before places)) (take len (before order)) in
-        ⌜ (r .len ≡ len) × (alive r ≡ ordered) ⌝ }
-{
-    let mut out = [TermScorer {
-        doc: 0,
-        max_score: 0.0,
-        slot: 0,
-    }; 16];
-    let mut i = 0usize;
-    while i < len {
-        let scorer = scorer_in(file, similarity, lists, caches, order[i], places, docs);
-        out[i] = scorer;
-        i += 1;
-    }
-    Scorers { scorers: out, len }
-}
-
-// The scorers' slots, in their order.
-fn keep_order(scorers: Scorers, order: &mut [usize; 16])
-    requires { ⌜ (scorers .len ≤ 16) × Sixteen (now order) ⌝ }
-    ensures { λ _. ⌜ (take (scorers .len) (after order) ≡ map slotOf (alive scorers)) × Sixteen (after order) ⌝ }
-{
-    let len = scorers.len;
-    let array = scorers.scorers;
-    let mut i = 0usize;
-    while i < len {
-        let scorer = array[i];
-        order[i] = scorer.slot;
-        i += 1;
-    }
-}
-
 // Scorers that were just opened, in the order of their documents: where a run begins.
 pub fn begin(scorers: Scorers, order: &mut [usize; 16]) -> Union
     requires { ⌜ (scorers .len ≤ 16) × Sixteen (now order) ⌝ }
@@ -156,77 +66,7 @@ pub fn begin(scorers: Scorers, order: &mut [usize; 16]) -> Union
     }
 }
 
-fn stopped(scorers: Scorers, stage: Stage, taken: usize, event: Event) -> Walked
-    ensures { λ r. ⌜ r ≡ walkedTo scorers stage taken event ⌝ }
-{
-    Walked {
-        scorers,
-        stage,
-        taken,
-        event,
-    }
-}
-
-// Turn after turn, until a report is due, the route is over, or `turns` turns are taken.
-fn walk(
-    file: &[u8],
-    similarity: Similarity,
-    lists: &[[usize; 8]; 16],
-    caches: &[[f32; 256]; 16],
-    threshold: f32,
-    turns: usize,
-    stage: Stage,
-    scorers: Scorers,
-    places: &mut [[usize; 8]; 16],
-    docs: &mut [[u32; 128]; 16],
-    freqs: &mut [[u32; 128]; 16],
-    bounds: &mut [f32; 128],
-) -> Walked
-    requires { let T = terms (similarity .scoring) (now caches) (now bounds) in
-        let slots = held (now places) (now docs) (now freqs) in
-        let place = placeIn (now file) (now lists) (similarity .scoring) (now places) stage (alive scorers) in
-        ⌜ (scorers .len ≤ 16) × (similarity .norms ≡ normReader (now file))
-        × Seated (now file) (now lists) T slots (alive scorers) × UnionKept 128 (documents (now file)) f32 place ⌝ }
-    ensures { λ r.
-        let T = terms (similarity .scoring) (before caches) (before bounds) in
-        let old = held (before places) (before docs) (before freqs) in
-        let new = held (after places) (after docs) (after freqs) in
-        ⌜ Walks (before file) (before lists) T threshold stage old (alive scorers) turns new (after bounds) r ⌝ }
-{
-    let mut left = scorers;
-    let mut now = stage;
-    let mut taken = 0usize;
-    while !is_over(now) {
-        if taken == turns {
-            return stopped(left, now, taken, Event::Paused);
-        }
-        let step = turn(
-            file,
-            similarity,
-            lists,
-            caches,
-            threshold,
-            now,
-            left,
-            places,
-            docs,
-            freqs,
-            bounds,
-        );
-        let scorers_left = step.scorers;
-        let next = step.stage;
-        left = scorers_left;
-        now = next;
-        taken += 1;
-        if step.due {
-            let event = Event::Report(step.doc, step.score);
-            return stopped(left, now, taken, event);
-        }
-    }
-    stopped(left, now, taken, Event::Over)
-}
-
-// The same from where the tables stand, by the array of scorers, whatever their number.
+// From where the tables stand, by the array of scorers, whatever their number.
 pub fn go_on(
     file: &[u8],
     similarity: Similarity,

@@ -21,7 +21,7 @@ use Rattle.block_wand_union.specs.Inner.Seats.{Seated, Terms, alive, pla
 use Rattle.block_wand_union.specs.declared.Stage.{Stage}
 use Rattle.block_wand_union.specs.declared.Stage.the-variants.{Looking}
 use Rattle.block_wand_union.specs.declared.Union.{Union}
-use Rattle.block_wand_union.specs.declared.Walked.{Walked}
+use Rattle.block_wand_union.specs.declared.walk.Walked.{Walked}
 
 -- the route's end
 abbrev pub unionEnded : UnionPlace Float → Bool

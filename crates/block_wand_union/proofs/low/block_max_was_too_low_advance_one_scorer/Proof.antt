@@ -9,10 +9,10 @@ use Rattle.route.proofs.Union.Pivot.{behind-is}
 use Rattle.ordering.specs.Inner.Scorers.{noScorer}
 use Rattle.ordering.proofs.Places.{all-first}
 use Rattle.term_scorer.specs.Inner.Slots.{held, Sixteen}
-use Rattle.block_wand_union.specs.Inner.Moves.{LastRead}
 use Rattle.block_wand_union.specs.Inner.Seats.{Stand}
-use Rattle.block_wand_union.proofs.Lowest.{last-read, least-low, lowest-low, seeks-inside, too-low}
+use Rattle.block_wand_union.specs.Inner.Moves.{LastRead}
 use Rattle.block_wand_union.proofs.Seats.{first-of}
+use Rattle.block_wand_union.proofs.Lowest.{last-read, least-low, lowest-low, seeks-inside, too-low}
 use Rattle.block_wand_union.proofs.low.block_max_was_too_low_advance_one_scorer.Statement.{
   statement,
 }
@@ -24,6 +24,7 @@ start c = c .before .before .before .before
 abbrev read : tie.After-scorer-to-seek → tie.After-least-last-doc
 read c = c .before .before .before
 
+-- an array of 16, by the struct's type
 sixteen : (a : tie.Start) → Sixteen (a .args .scorers .scorers)
 sixteen a = sym (length-map (a .args .scorers .scorers) _) ∙ a .good .1 .1 .0 .1 .1 .0 .1 .0 .1
 

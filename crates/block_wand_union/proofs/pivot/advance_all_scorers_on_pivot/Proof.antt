@@ -19,6 +19,7 @@ abbrev μ-loop : tie.MeasureT-loop
 abbrev start : tie.After-out Inv-loop μ-loop → tie.Start Inv-loop μ-loop
 start o = o .before .before
 
+-- an array of 16, by the struct's type
 sixteen : (a : tie.Start Inv-loop μ-loop) → Sixteen (a .args .scorers .scorers)
 sixteen a = sym (length-map (a .args .scorers .scorers) _) ∙ a .good .1 .1 .0 .1 .1 .0 .1 .0 .1
 

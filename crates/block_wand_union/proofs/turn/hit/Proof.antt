@@ -10,6 +10,7 @@ use Rattle.block_wand_union.proofs.OnPivots.{hit-due, hit-quiet}
 use Rattle.block_wand_union.proofs.turn.hit.Statement.{statement}
 use Rattle.block_wand_union.proofs.turn.hit.Tie as tie
 
+-- an array of 16, by the struct's type
 sixteen : (a : tie.Start) → Sixteen (a .args .scorers .scorers)
 sixteen a = sym (length-map (a .args .scorers .scorers) _) ∙ a .good .1 .1 .1 .1 .1 .0 .1 .1 .0 .1 .0 .1
 

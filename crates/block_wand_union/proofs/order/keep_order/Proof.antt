@@ -1,4 +1,4 @@
--- `keep_order` meets its contract: each turn writes the next scorer's slot.
+-- `order::keep_order` meets its contract: each turn writes the next scorer's slot.
 use mathlib.Core.List.{map}
 use mathlib.Core.Path.{refl, sym, _∙_, _≡_}
 use Prim.Native.Nat.{_-_, _≤_}
@@ -8,8 +8,8 @@ use borrow.Author.Needs.{needs}
 use Rattle.ordering.specs.Inner.Scorers.{noScorer, slotOf}
 use Rattle.term_scorer.specs.Inner.Slots.{Sixteen}
 use Rattle.block_wand_union.proofs.Runs.{fills}
-use Rattle.block_wand_union.proofs.keep_order.Statement.{statement}
-use Rattle.block_wand_union.proofs.keep_order.Tie as tie
+use Rattle.block_wand_union.proofs.order.keep_order.Statement.{statement}
+use Rattle.block_wand_union.proofs.order.keep_order.Tie as tie
 
 abbrev Inv-loop : tie.InvT-loop
 Inv-loop order₀ len array i₀ order i = (i ≤ len) × Sixteen order × (take i order ≡ map slotOf (take i array))
@@ -17,6 +17,7 @@ Inv-loop order₀ len array i₀ order i = (i ≤ len) × Sixteen order × (take
 abbrev μ-loop : tie.MeasureT-loop
 μ-loop order₀ len array i₀ order i = len - i
 
+-- an array of 16, by the struct's type
 sixteen : (a : tie.Start Inv-loop μ-loop) → Sixteen (a .args .scorers .scorers)
 sixteen a = sym (length-map (a .args .scorers .scorers) _) ∙ a .good .0 .1 .1 .0 .1 .0 .1
 

@@ -1,4 +1,4 @@
--- `walk` meets its contract: each turn is the route's next, and the loop stops where a report is due, at the end, or after so many turns.
+-- `walk::walk` meets its contract: each turn is the route's next, and the loop stops where a report is due, at the end, or after so many turns.
 use mathlib.Core.Bool.{false}
 use mathlib.Core.Path.{sym, _∙_, _≡_}
 use Prim.Native.Nat.{_-_, _<_}
@@ -9,8 +9,8 @@ use Rattle.route.proofs.Cases.{lt-of-ne}
 use Rattle.term_scorer.specs.Inner.Slots.{held}
 use Rattle.block_wand_union.specs.Inner.Seats.{alive, stageOf, terms}
 use Rattle.block_wand_union.proofs.Runs.{OnWay, begun, not-false, not-true, over, paused, quiet-turn, reports}
-use Rattle.block_wand_union.proofs.walk.Statement.{statement}
-use Rattle.block_wand_union.proofs.walk.Tie as tie
+use Rattle.block_wand_union.proofs.walk.walk.Statement.{statement}
+use Rattle.block_wand_union.proofs.walk.walk.Tie as tie
 
 abbrev Inv-loop : tie.InvT-loop
 Inv-loop file similarity lists caches threshold turns places₀ docs₀ freqs₀ bounds₀ left₀ now₀ taken₀ places docs freqs bounds left now taken =

@@ -1,4 +1,4 @@
--- `in_order` meets its contract: each turn reads the next slot's scorer off the tables.
+-- `order::in_order` meets its contract: each turn reads the next slot's scorer off the tables.
 use mathlib.Core.List.{map}
 use mathlib.Core.Path.{refl, _∙_, _≡_}
 use Prim.Native.Nat.{_-_, _≤_}
@@ -9,8 +9,8 @@ use Rattle.ordering.proofs.Places.{all-first}
 use Rattle.term_scorer.specs.Inner.Slots.{Sixteen}
 use Rattle.block_wand_union.specs.Inner.Seats.{Readable, termAt}
 use Rattle.block_wand_union.proofs.Runs.{fills}
-use Rattle.block_wand_union.proofs.in_order.Statement.{statement}
-use Rattle.block_wand_union.proofs.in_order.Tie as tie
+use Rattle.block_wand_union.proofs.order.in_order.Statement.{statement}
+use Rattle.block_wand_union.proofs.order.in_order.Tie as tie
 
 abbrev Inv-loop : tie.InvT-loop
 Inv-loop file similarity lists caches len order places docs out₀ i₀ out i =
