@@ -28,14 +28,14 @@ use Rattle.block_wand_union.specs.Inner.Seats.{Seated, Stand, Terms, ali
 use Rattle.block_wand_union.specs.Inner.Moves.{AdvancedAll, OnPivot, PastPivot}
 use Rattle.block_wand_union.specs.Inner.Turns.{Turned}
 use Rattle.block_wand_union.specs.Inner.Runs.{unionEnded}
-use Rattle.block_wand_union.specs.Inner.Pairs.{BlockSought, Brought, WalksTwo, both, fourteen, inArray, onDoc, stepOf}
+use Rattle.block_wand_union.specs.Inner.Pairs.{BlockSought, Brought, WalksTwo, both, fourteen, inArray, onDoc, stepOf, unreportedAt}
 use Rattle.block_wand_union.specs.declared.Stage.{Stage}
 use Rattle.block_wand_union.specs.declared.turn.Span.{Span}
 use Rattle.block_wand_union.specs.declared.two.Pair.{Pair}
 use Rattle.block_wand_union.specs.declared.two.PairStep.{PairStep}
 use Rattle.block_wand_union.specs.declared.walk_two.PairWalked.{PairWalked}
 use Rattle.block_wand_union.proofs.BlockBounds.{Bounding, bounding, bounds-next}
-use Rattle.block_wand_union.proofs.Alignments.{Seeking, all-on, goes-past, seeking, seeks}
+use Rattle.block_wand_union.proofs.Alignments.{all-on, goes-past, seeking, seeks}
 use Rattle.block_wand_union.proofs.Advances.{Advancing, advances, advancing, sorted-left, stand-at}
 use Rattle.block_wand_union.proofs.Runs.{OnWay, quiet-turn, reports}
 
@@ -147,9 +147,8 @@ slots-kept r order few room = (
 module _ {file : List ℕ} {lists : List (List ℕ)} {T : Terms} {t : Float} {stage₀ : Stage} {h₀ : Held} {l₀ : List TermScorer} {turns : ℕ}
     {h : Held} {bounds : List Float} {x : Pair} {stage : Stage} {taken : ℕ} (S : OnWay file lists T t stage₀ h₀ l₀ turns h bounds (inArray x) stage taken) where
   -- it stops without a report
-  pub two-stop : x .len ≤ 2 → (doc : ℕ) (score : Float)
-      → WalksTwo file lists T t stage₀ h₀ l₀ turns h bounds (record { pair = x; stage = stage; taken = taken; due = false; doc = doc; score = score })
-  two-stop few doc score = record {
+  pub two-stop : x .len ≤ 2 → WalksTwo file lists T t stage₀ h₀ l₀ turns h bounds (unreportedAt x stage taken)
+  two-stop few = record {
     few = few;
     seated = S .seated;
     kept = S .kept;

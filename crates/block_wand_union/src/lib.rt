@@ -66,7 +66,7 @@ pub fn begin(scorers: Scorers, order: &mut [usize; 16]) -> Union
     }
 }
 
-// The same from where the tables stand, whatever scorers are left.
+// From where the tables stand, by the array of scorers, whatever their number.
 pub fn go_on(
     file: &[u8],
     similarity: Similarity,

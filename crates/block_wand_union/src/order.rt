@@ -14,6 +14,28 @@ ghost use Rattle.ordering.specs.Inner.Scorers.{slotOf};
 ghost use Rattle.term_scorer.specs.Inner.Slots.{Sixteen};
 ghost use Rattle.block_wand_union.specs.Inner.Seats.{Readable, alive, termAt};
 
+// The scorer of slot q, read off the tables.
+pub fn scorer_in(
+    file: &[u8],
+    similarity: Similarity,
+    lists: &[[usize; 8]; 16],
+    caches: &[[f32; 256]; 16],
+    q: usize,
+    places: &[[usize; 8]; 16],
+    docs: &[[u32; 128]; 16],
+) -> TermScorer
+    requires { ⌜ Readable (now file) (now lists) (now caches) (now places) (now docs) q ⌝ }
+    ensures { λ r. ⌜ r ≡ termAt (before file) (before lists) (similarity .scoring) (before places) q ⌝ }
+{
+    let doc = slot::doc(q, places, docs);
+    let max_score = score::max_score(file, similarity, lists, caches, q);
+    TermScorer {
+        doc,
+        max_score,
+        slot: q,
+    }
+}
+
 // The scorers of the first slots in `order`.
 pub fn in_order(
     file: &[u8],
@@ -38,14 +60,8 @@ pub fn in_order(
     }; 16];
     let mut i = 0usize;
     while i < len {
-        let q = order[i];
-        let doc = slot::doc(q, places, docs);
-        let max_score = score::max_score(file, similarity, lists, caches, q);
-        out[i] = TermScorer {
-            doc,
-            max_score,
-            slot: q,
-        };
+        let scorer = scorer_in(file, similarity, lists, caches, order[i], places, docs);
+        out[i] = scorer;
         i += 1;
     }
     Scorers { scorers: out, len }

@@ -3,29 +3,28 @@ use crate::Gone;
 use crate::Stage;
 use crate::Union;
 use crate::go_on;
+use crate::order::scorer_in;
 use crate::two::Pair;
 use crate::two::turn_of_two;
-use ordering::TermScorer;
 use reports::Event;
-use term_scorer::score;
 use term_scorer::score::Similarity;
-use term_scorer::slot;
 ghost use mathlib.Core.Bool.{false, true};
 ghost use mathlib.Core.List.{map};
 ghost use mathlib.Core.Path.{_≡_};
-ghost use Prim.Native.Nat.{_≤_};
+ghost use Prim.Native.Nat.{_+_, _≤_, _<_};
 ghost use lib.ListN.{take};
 ghost use Rattle.arrays.specs.Lent.{before, after};
 ghost use Rattle.route.specs.F32.{f32};
 ghost use Rattle.route.specs.Union.{isOver, unionTurn};
 ghost use Rattle.route.specs.Inner.Unions.{UnionKept};
-ghost use Rattle.reports.specs.Inner.Turns.{Went};
-ghost use Rattle.notefile.specs.Header.{documents, normReader};
 ghost use Rattle.ordering.specs.Inner.Scorers.{slotOf};
+ghost use Rattle.notefile.specs.Header.{documents, normReader};
+ghost use Rattle.reports.specs.Inner.Turns.{Went};
+ghost use Rattle.reports.specs.declared.Event.the-variants.{Report};
 ghost use Rattle.term_scorer.specs.Inner.Slots.{held, Sixteen};
-ghost use Rattle.block_wand_union.specs.Inner.Seats.{Readable, Seated, alive, placeIn, stageOf, termAt, terms};
+ghost use Rattle.block_wand_union.specs.Inner.Seats.{Seated, alive, placeIn, stageOf, terms};
 ghost use Rattle.block_wand_union.specs.Inner.Runs.{Stands, placeOf, unionEnded};
-ghost use Rattle.block_wand_union.specs.Inner.Pairs.{WalksTwo, inArray};
+ghost use Rattle.block_wand_union.specs.Inner.Pairs.{WalksTwo, inArray, unionOf, unreportedAt};
 
 // Where two scorers stand after `taken` turns, and whether document doc is due with its score: if not, they took no more because the
 // route is over, all turns are taken, or one of them is finished.
@@ -52,6 +51,20 @@ fn goes_on(stage: Stage, len: usize, taken: usize, turns: usize) -> bool
         Stage::Looking => true,
         Stage::Called(_) => true,
         Stage::Over => false,
+    }
+}
+
+// No document is due.
+fn unreported(pair: Pair, stage: Stage, taken: usize) -> PairWalked
+    ensures { λ r. ⌜ r ≡ unreportedAt pair stage taken ⌝ }
+{
+    PairWalked {
+        pair,
+        stage,
+        taken,
+        due: false,
+        doc: 0,
+        score: 0.0,
     }
 }
 
@@ -115,35 +128,45 @@ fn walk_two(
             };
         }
     }
-    PairWalked {
-        pair: left,
-        stage: now,
-        taken,
-        due: false,
-        doc: 0,
-        score: 0.0,
+    unreported(left, now, taken)
+}
+
+// What of the run then stands in no table.
+fn standing(walked: PairWalked) -> Union
+    ensures { λ r. ⌜ r ≡ unionOf walked ⌝ }
+{
+    let pair = walked.pair;
+    let stage = walked.stage;
+    Union {
+        len: pair.len,
+        stage,
     }
 }
 
-// The scorer of slot q.
-fn scorer_in(
-    file: &[u8],
-    similarity: Similarity,
-    lists: &[[usize; 8]; 16],
-    caches: &[[f32; 256]; 16],
-    q: usize,
-    places: &[[usize; 8]; 16],
-    docs: &[[u32; 128]; 16],
-) -> TermScorer
-    requires { ⌜ Readable (now file) (now lists) (now caches) (now places) (now docs) q ⌝ }
-    ensures { λ r. ⌜ r ≡ termAt (before file) (before lists) (similarity .scoring) (before places) q ⌝ }
+// A report is due.
+fn reported(walked: PairWalked) -> Gone
+    ensures { λ r. ⌜ r ≡ record { union = unionOf walked; taken = walked .taken; event = Report (walked .doc) (walked .score) } ⌝ }
 {
-    let doc = slot::doc(q, places, docs);
-    let max_score = score::max_score(file, similarity, lists, caches, q);
-    TermScorer {
-        doc,
-        max_score,
-        slot: q,
+    let union = standing(walked);
+    let event = Event::Report(walked.doc, walked.score);
+    Gone {
+        union,
+        taken: walked.taken,
+        event,
+    }
+}
+
+// The rest of a run, so many turns later.
+fn later(rest: Gone, turns: usize) -> Gone
+    requires { ⌜ turns + rest .taken < 18446744073709551616 ⌝ }
+    ensures { λ r. ⌜ r ≡ record { union = rest .union; taken = turns + rest .taken; event = rest .event } ⌝ }
+{
+    let union = rest.union;
+    let event = rest.event;
+    Gone {
+        union,
+        taken: turns + rest.taken,
+        event,
     }
 }
 
@@ -205,19 +228,10 @@ pub fn go_two(
     );
     let left = walked.pair;
     keep_pair(left, order);
-    let stage = walked.stage;
-    let now = Union {
-        len: left.len,
-        stage,
-    };
     if walked.due {
-        let event = Event::Report(walked.doc, walked.score);
-        return Gone {
-            union: now,
-            taken: walked.taken,
-            event,
-        };
+        return reported(walked);
     }
+    let now = standing(walked);
     let rest = go_on(
         file,
         similarity,
@@ -232,11 +246,5 @@ pub fn go_two(
         freqs,
         bounds,
     );
-    let union = rest.union;
-    let event = rest.event;
-    Gone {
-        union,
-        taken: walked.taken + rest.taken,
-        event,
-    }
+    later(rest, walked.taken)
 }

@@ -21,6 +21,7 @@ use Rattle.block_wand_union.specs.Inner.Seats.{Seated, Terms, alive, pla
 use Rattle.block_wand_union.specs.Inner.Moves.{OnPivot, PastPivot}
 use Rattle.block_wand_union.specs.Inner.Runs.{unionEnded}
 use Rattle.block_wand_union.specs.declared.Stage.{Stage}
+use Rattle.block_wand_union.specs.declared.Union.{Union}
 use Rattle.block_wand_union.specs.declared.turn.Span.{Span}
 use Rattle.block_wand_union.specs.declared.turn.Step.{Step}
 use Rattle.block_wand_union.specs.declared.two.Pair.{Pair}
@@ -45,6 +46,14 @@ inArray p = record { scorers = p .a ∷ p .b ∷ fourteen; len = p .len }
 
 abbrev pub stepOf : PairStep → Step
 stepOf r = record { scorers = inArray (r .pair); stage = r .stage; due = r .due; doc = r .doc; score = r .score }
+
+-- where `walk_two` stopped without a report
+abbrev pub unreportedAt : Pair → Stage → ℕ → PairWalked
+unreportedAt p stage taken = record { pair = p; stage = stage; taken = taken; due = false; doc = 0; score = f32 .nil }
+
+-- what of the run then stands in no table
+abbrev pub unionOf : PairWalked → Union
+unionOf r = record { len = r .pair .len; stage = r .stage }
 
 module _ (file : List ℕ) (lists : List (List ℕ)) where
   -- slot q's skip reader has shallowly sought doc, and r is the bound of its block

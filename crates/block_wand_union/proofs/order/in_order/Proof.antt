@@ -1,14 +1,12 @@
 -- `order::in_order` meets its contract: each turn reads the next slot's scorer off the tables.
 use mathlib.Core.List.{map}
-use mathlib.Core.Path.{ap, refl, _∙_, _≡_}
-use Prim.Native.Nat.{ℕ, _-_, _≤_}
+use mathlib.Core.Path.{refl, _∙_, _≡_}
+use Prim.Native.Nat.{_-_, _≤_}
 use native.Mathlib.Omega.{arith}
 use lib.ListN.{getD, length-set, take}
-use lib.Ieee.{Float}
 use borrow.Author.Needs.{needs}
 use Rattle.ordering.proofs.Places.{all-first}
-use Rattle.postings.specs.Inner.Decoded.{docIn}
-use Rattle.term_scorer.specs.Inner.Slots.{cursorAt, partAt, Sixteen}
+use Rattle.term_scorer.specs.Inner.Slots.{Sixteen}
 use Rattle.block_wand_union.specs.Inner.Seats.{Readable, termAt}
 use Rattle.block_wand_union.proofs.Runs.{fills}
 use Rattle.block_wand_union.proofs.order.in_order.Statement.{statement}
@@ -30,17 +28,14 @@ read c =
 loop-holds : tie.Need-loop-holds Inv-loop μ-loop
 loop-holds c = (omega arith, search needs, refl)
 
-mul-q : tie.Need-mul-q Inv-loop μ-loop
-mul-q c = search needs
+mul-scorer-in : tie.Need-mul-scorer-in Inv-loop μ-loop
+mul-scorer-in c = search needs
 
-element-copy-out-q : tie.Need-element-copy-out-q Inv-loop μ-loop
-element-copy-out-q c = search needs
+element-copy-out-scorer-in : tie.Need-element-copy-out-scorer-in Inv-loop μ-loop
+element-copy-out-scorer-in c = search needs
 
-doc-requires : tie.Need-doc-requires Inv-loop μ-loop
-doc-requires c κs = let R = read (c .before) in (R .slot-in, R .inside)
-
-max-score-requires : tie.Need-max-score-requires Inv-loop μ-loop
-max-score-requires c κs = let R = read (c .before .before) in (R .slot-in, R .part-row, R .list, R .weighed)
+scorer-in-requires : tie.Need-scorer-in-requires Inv-loop μ-loop
+scorer-in-requires c κs = read (c .before)
 
 mul-out : tie.Need-mul-out Inv-loop μ-loop
 mul-out c = search needs
@@ -56,19 +51,13 @@ loop-less c = search needs
 
 loop-again : tie.Need-loop-again Inv-loop μ-loop
 loop-again c =
-    let b = c .before .before .before in
-    let l = b .before in
+    let l = c .before .before .before in
     let a = l .before .before in
-    let q = getD (a .args .order .now) (l .loop .i) 0 in
-    let R = read b in
-    let d = c .before .doc .ensures ∙ R .doc-is in
-    let m = c .max-score .ensures in
     let w = a .pre .1 in (
       omega arith,
       length-set (l .loop .out) (l .loop .i) _ ∙ l .loop .inv .1,
       fills (termAt (a .args .file .now) (a .args .lists .now) (a .args .similarity .scoring) (a .args .places .now)) (a .args .order .now) (l .loop .out) (l .loop .i) 0 (omega arith) (omega (arith, l .loop .inv .1)) (l .loop .inv .2)
-          (ap (λ (x : ℕ). record { doc = x; «max_score» = c .max-score .result; slot = q }) d
-          ∙ ap (λ (x : Float). record { doc = docIn (a .args .file .now) (partAt (a .args .lists .now) q) (cursorAt (a .args .places .now) q .at); «max_score» = x; slot = q }) m),
+          (c .scorer-in .ensures),
     )
 
 returns : tie.Need-returns Inv-loop μ-loop
@@ -85,10 +74,9 @@ in-order-spec =
     Inv-loop
     μ-loop
     loop-holds
-    mul-q
-    element-copy-out-q
-    doc-requires
-    max-score-requires
+    mul-scorer-in
+    element-copy-out-scorer-in
+    scorer-in-requires
     mul-out
     array-set-from-out
     add-i

@@ -3,7 +3,7 @@ use mathlib.Core.Path.{refl, sym, _∙_}
 use Prim.Native.Nat.{_≤_, _<_}
 use native.Mathlib.Omega.{arith}
 use borrow.Author.Needs.{needs}
-use Rattle.block_wand_union.specs.Inner.Pairs.{Brought, inArray}
+use Rattle.block_wand_union.specs.Inner.Pairs.{inArray}
 use Rattle.block_wand_union.proofs.OnPivots.{miss, on-document, on-hit, pivot-low, stands-at}
 use Rattle.block_wand_union.proofs.two.on_pivot_of_two.Statement.{statement}
 use Rattle.block_wand_union.proofs.two.on_pivot_of_two.Tie as tie

@@ -61,49 +61,61 @@ keep-pair-requires c κs =
     let w = c .before .before in
     (w .walk-two .ensures .few, start (first (read w)) .pre .2 .room)
 
+reported-requires : tie.Need-reported-requires
+reported-requires c κs = search needs
+
 returns : tie.Need-returns
 returns c =
-    let k = c .before in
+    let t = c .before in
+    let k = t .before in
     let w = k .before .before .before in
     let r = read w in
     let W = w .walk-two .ensures in
     let K = k .keep-pair .ensures in
     let n = w .walk-two .result .pair .len in
-    let stage = w .walk-two .result .stage in (
+    let stage = w .walk-two .result .stage in
+    rw (c .reported .ensures) (
       stands-kept (W .seated) stage n _ (K .0) (omega (arith, W .few)) (K .1) (W .kept),
-      rw (place-read (start (first r) .pre .2) (scorers-are r), place-kept (W .seated) stage n _ (K .0)) at (W .reported (c .if1 .taken)),
+      rw (place-read (start (first r) .pre .2) (scorers-are r), place-kept (W .seated) stage n _ (K .0)) at (W .reported (t .if1 .taken)),
     )
 
+standing-requires : tie.Need-standing-requires
+standing-requires c κs = search needs
+
 sub-go-on : tie.Need-sub-go-on
-sub-go-on c = let w = c .before .before .before .before .before in w .walk-two .ensures .within
+sub-go-on c = let w = c .before .before .before .before .before .before in w .walk-two .ensures .within
 
 go-on-requires : tie.Need-go-on-requires
 go-on-requires c κs =
-    let k = c .before .before .before .before .before .before .before in
+    let s = c .before .before .before .before .before .before in
+    let k = s .before .before in
     let w = k .before .before .before in
     let W = w .walk-two .ensures in
     let K = k .keep-pair .ensures in
-    (start (first (read w)) .pre .1, stands-kept (W .seated) (w .walk-two .result .stage) (w .walk-two .result .pair .len) _ (K .0) (omega (arith, W .few)) (K .1) (W .kept))
+    (start (first (read w)) .pre .1, rw (s .standing .ensures) (stands-kept (W .seated) (w .walk-two .result .stage) (w .walk-two .result .pair .len) _ (K .0) (omega (arith, W .few)) (K .1) (W .kept)))
 
-add-t27 : tie.Need-add-t27
-add-t27 c =
-    let g = c .before .before .before in
-    let e = g .before .before .before .before .before .before .before in
-    let w = e .before .before .before .before in
+abbrev before-rest : tie.After-go-on → tie.After-standing
+before-rest g = g .before .before .before .before .before .before .before
+
+later-requires : tie.Need-later-requires
+later-requires c κs =
+    let w = before-rest c .before .before .before .before .before in
     let a = start (first (read w)) in
-    omega (arith, w .walk-two .ensures .within, g .go-on .ensures .1 .few, a .fits .turns)
+    omega (arith, w .walk-two .ensures .within, c .go-on .ensures .1 .few, a .fits .turns)
 
 returns-2 : tie.Need-returns-2
 returns-2 c =
-    let g = c .before .before .before in
-    let e = g .before .before .before .before .before .before .before in
+    let g = c .before in
+    let s = before-rest g in
+    let e = s .before in
     let k = e .before in
     let w = k .before .before .before in
     let r = read w in
     let a = start (first r) in
     let W = w .walk-two .ensures in
     let K = k .keep-pair .ensures in
-    let G = g .go-on .ensures in (
+    let G = rw (s .standing .ensures) at (g .go-on .ensures) in
+    rw (c .later .ensures) (
       G .0,
       went-on (unionTurn 128 f32) unionEnded (a .args .threshold)
           (rw (place-read (a .pre .2) (scorers-are r), place-kept (W .seated) (w .walk-two .result .stage) (w .walk-two .result .pair .len) _ (K .0)) at (quiet-walk W (e .if1 .left)))
@@ -120,8 +132,10 @@ go-two-spec =
     scorer-in-requires-2
     walk-two-requires
     keep-pair-requires
+    reported-requires
     returns
+    standing-requires
     sub-go-on
     go-on-requires
-    add-t27
+    later-requires
     returns-2)

@@ -1,6 +1,6 @@
 -- `walk_two::goes_on` meets its contract: by its tests.
 use mathlib.Core.Bool.{true≢false}
-use mathlib.Core.Path.{refl, sym}
+use mathlib.Core.Path.{sym}
 use native.Mathlib.Omega.{arith}
 use borrow.Author.Needs.{needs}
 use Rattle.block_wand_union.proofs.walk_two.goes_on.Statement.{statement}

@@ -1,6 +1,4 @@
 -- `walk_two::keep_pair` meets its contract: both slots are written, and the first len count.
-use mathlib.Core.Path.{_∙_}
-use lib.ListN.{length-set}
 use borrow.Author.Needs.{needs}
 use Rattle.block_wand_union.proofs.Pairs.{slots-kept}
 use Rattle.block_wand_union.proofs.walk_two.keep_pair.Statement.{statement}

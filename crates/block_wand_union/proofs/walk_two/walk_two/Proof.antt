@@ -68,8 +68,11 @@ loop-again c =
     let G = t .before .goes-on .ensures (t .if1 .taken) in
     two-quiet (at-loop t .loop .inv .1) (G .0) (G .2) (room t) (n .turn-of-two .result) (n .turn-of-two .ensures) (c .if2 .left)
 
+unreported-requires : tie.Need-unreported-requires Inv-loop μ-loop
+unreported-requires c κs = search needs
+
 returns-2 : tie.Need-returns-2 Inv-loop μ-loop
-returns-2 c = let I = c .before .before .loop .inv in two-stop (I .1) (I .0) _ _
+returns-2 c = let I = c .before .before .before .loop .inv in rw (c .unreported .ensures) (two-stop (I .1) (I .0))
 
 pub walk-two-spec : {M : Type 1} → statement M
 walk-two-spec =
@@ -84,4 +87,5 @@ walk-two-spec =
     returns
     loop-less
     loop-again
+    unreported-requires
     returns-2)

@@ -1,12 +1,11 @@
--- `walk_two::scorer_in` meets its contract: the document and the list bound are those of the slot's place.
+-- `order::scorer_in` meets its contract: the document and the list bound are those of the slot's place.
 use mathlib.Core.Path.{ap, _∙_}
 use Prim.Native.Nat.{ℕ}
 use lib.Ieee.{Float}
-use borrow.Author.Needs.{needs}
 use Rattle.postings.specs.Inner.Decoded.{docIn}
 use Rattle.term_scorer.specs.Inner.Slots.{cursorAt, partAt}
-use Rattle.block_wand_union.proofs.walk_two.scorer_in.Statement.{statement}
-use Rattle.block_wand_union.proofs.walk_two.scorer_in.Tie as tie
+use Rattle.block_wand_union.proofs.order.scorer_in.Statement.{statement}
+use Rattle.block_wand_union.proofs.order.scorer_in.Tie as tie
 
 doc-requires : tie.Need-doc-requires
 doc-requires c κs = let R = c .before .pre in (R .slot-in, R .inside)
