@@ -1,6 +1,6 @@
 // The public entry points: a skipping run, a plain run, and both side by side. None asks anything of its arguments.
-pub mod answer;
-pub mod begin;
+mod answer;
+mod begin;
 pub mod both;
 pub mod outcome;
 pub mod plain;

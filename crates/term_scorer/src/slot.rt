@@ -18,7 +18,8 @@ ghost use Rattle.notefile.specs.Lists.{fullBlocks};
 ghost use Rattle.notefile.specs.declared.part.Part.{Part};
 ghost use Rattle.postings.specs.Inner.Decoded.{docIn, ListIn};
 ghost use Rattle.slot_rows.specs.Inner.Rows.{firstOf};
-ghost use Rattle.term_scorer.specs.Inner.Slots.{cursorAt, held, lastAt, listAt, partAt, MovedSlot, Opened, Shallowed, SlotIn, StandingIn, Sixteen};
+ghost use Rattle.term_scorer.specs.Inner.Slots.{cursorAt, held, lastAt, listAt, partAt};
+ghost use Rattle.term_scorer.specs.Inner.Slots.{MovedSlot, Opened, Shallowed, SlotIn, StandingIn, Sixteen};
 
 // A list's scorer in slot q, on the list's first posting.
 pub fn open(
