@@ -18,13 +18,15 @@ use Rattle.route.specs.Scorer.{Scorer, blockMaxScore, lastDocInBlock, seekBlock
 use Rattle.route.specs.Union.{leastLastDoc}
 use Rattle.route.specs.Intersection.{allRemain, hasRemainingDocs, seekBlockAll}
 use Rattle.decoded.specs.Lists.{listOf}
+use Rattle.bm25.specs.declared.Scoring.{Scoring}
+use Rattle.postings.specs.Inner.Decoded.{docIn}
 use Rattle.slot_rows.specs.Inner.Rows.{cursorIn}
-use Rattle.term_scorer.specs.Inner.Slots.{Held, MovedSlot, cursorAt, held, lastAt, listAt, partAt}
+use Rattle.term_scorer.specs.Inner.Slots.{Held, MovedSlot, Shallowed, cursorAt, held, lastAt, listAt, partAt}
 use Rattle.term_scorer.specs.Inner.Weights.{Bounded}
 use Rattle.intersection_window.specs.Inner.Scorers.{BoundsKept, InOrder, Query, Ready, SlotsIn, listIn, scorerAt, scorersBetween, secondariesIn, slotAt}
 use Rattle.intersection_window.specs.Inner.Windows.{Gathers, RunOut, boundsOf}
 use Rattle.intersection_window.proofs.Parts.{part-first, part-none, part-same}
-use Rattle.intersection_window.proofs.Seats.{known-bound, known-cursor, known-only, known-others, known-ready, last-here, moved-only, scorer-is, still-kept, still-seated}
+use Rattle.intersection_window.proofs.Seats.{known-bound, known-cursor, known-only, known-others, known-ready, last-here, moved-only, scorer-is, shallow-moves, still-kept, still-seated}
 
 pub map-map : {A B C : Type 0} (g : B → C) (f : A → B) (l : List A) → map g (map f l) ≡ map (λ a. g (f a)) l
 map-map g f [] = refl
@@ -147,8 +149,13 @@ module _ (x : Query) (d leaderEnd : ℕ) (h₀ : Held) where
         apart : (k : ℕ) → k < x .len → (k ≡ i → ⊥) → slotAt x k ≡ q → ⊥
         apart k hk n e = n (O .apart k i hk hi e)
 
-        module _ {places₁ : List (List ℕ)} {doc : ℕ}
-            (M : MovedSlot (x .file) (x .lists) q (λ k. seekBlockIn (listAt k (x .file) (x .lists) q) 128 d (cursorAt places q)) h (held places₁ (h₀ .docs) (h₀ .freqs)) doc) where
+        abbrev to : Scoring → Cursor
+        to k = seekBlockIn (listAt k (x .file) (x .lists) q) 128 d (cursorAt places q)
+
+        module _ {places₁ : List (List ℕ)} (W : Shallowed (x .file) (x .lists) q to places places₁) where
+          M : MovedSlot (x .file) (x .lists) q to h (held places₁ (h₀ .docs) (h₀ .freqs)) (docIn (x .file) (partAt (x .lists) q) (cursorAt places q .at))
+          M = shallow-moves (G .ready .seated .slot q hq) W
+
           pub seated-there : SlotsIn x (held places₁ (h₀ .docs) (h₀ .freqs))
           seated-there = still-seated x (G .ready .seated) hq M
 

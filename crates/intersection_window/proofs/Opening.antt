@@ -15,14 +15,16 @@ use Rattle.route.specs.Scorer.{Scorer, blockMaxScore, lastDocInBlock, seekBlock
 use Rattle.route.specs.Union.{leastLastDoc}
 use Rattle.route.specs.Intersection.{InterPlace, Stage, allRemain, candidatesIn, hasRemainingDocs, loadLeader, over, seekBlockAll, window, windowTurn, within}
 use Rattle.route.proofs.Cases.{on-test}
+use Rattle.bm25.specs.declared.Scoring.{Scoring}
+use Rattle.postings.specs.Inner.Decoded.{docIn}
 use Rattle.slot_rows.specs.Inner.Rows.{cursorIn, firstOf}
-use Rattle.term_scorer.specs.Inner.Slots.{Held, MovedSlot, cursorAt, held, lastAt, listAt}
+use Rattle.term_scorer.specs.Inner.Slots.{Held, MovedSlot, Shallowed, cursorAt, held, lastAt, listAt, partAt}
 use Rattle.term_scorer.specs.Inner.Weights.{Bounded}
 use Rattle.intersection_window.specs.Inner.Scorers.{BoundsKept, InOrder, Query, Ready, SlotsIn, leaderIn, listIn, scorerAt, secondariesIn, slotAt}
 use Rattle.intersection_window.specs.Inner.Windows.{Gathered, Gathers, Turns, boundsOf}
 use Rattle.intersection_window.specs.declared.window.Secondaries.{Secondaries}
 use Rattle.intersection_window.specs.declared.window.Window.the-variants.{Low, Open, Over}
-use Rattle.intersection_window.proofs.Seats.{known-cursor, known-only, known-ready, last-here, last-low, moved-only, others-stay, scorer-is, still-kept, still-seated}
+use Rattle.intersection_window.proofs.Seats.{known-cursor, known-only, known-ready, last-here, last-low, moved-only, others-stay, scorer-is, shallow-moves, still-kept, still-seated}
 use Rattle.intersection_window.proofs.Gathering.{not-back}
 
 all-sought : (d : ℕ) (ss : List (Scorer Float)) → allRemain 128 d ss ≡ true → seekBlockAll 128 d ss ≡ map (seekBlock 128 d) ss
@@ -66,8 +68,13 @@ module _ (x : Query) (O : InOrder x) (t : Float) (d : ℕ) (live : d < 214748364
   abbrev ss : List (Scorer Float)
   ss = secondariesIn x (h .places)
 
-  module _ {places₁ : List (List ℕ)} {doc : ℕ}
-      (M : MovedSlot (x .file) (x .lists) q (λ k. seekBlockIn (listAt k (x .file) (x .lists) q) 128 d (cursorAt (h .places) q)) h (held places₁ (h .docs) (h .freqs)) doc) where
+  abbrev to : Scoring → Cursor
+  to k = seekBlockIn (listAt k (x .file) (x .lists) q) 128 d (cursorAt (h .places) q)
+
+  module _ {places₁ : List (List ℕ)} (W : Shallowed (x .file) (x .lists) q to (h .places) places₁) where
+    M : MovedSlot (x .file) (x .lists) q to h (held places₁ (h .docs) (h .freqs)) (docIn (x .file) (partAt (x .lists) q) (cursorAt (h .places) q .at))
+    M = shallow-moves (R .seated .slot q hq) W
+
     pub leader-seated : SlotsIn x (held places₁ (h .docs) (h .freqs))
     leader-seated = still-seated x (R .seated) hq M
 

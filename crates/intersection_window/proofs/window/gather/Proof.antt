@@ -4,7 +4,7 @@ use lib.Ieee.{ofBits}
 use borrow.Author.Needs.{needs}
 use Rattle.term_scorer.specs.Inner.Slots.{held}
 use Rattle.intersection_window.specs.Inner.Scorers.{query}
-use Rattle.intersection_window.proofs.Seats.{last-fits, shallow-moves, slot-small, standing-in}
+use Rattle.intersection_window.proofs.Seats.{last-fits, slot-small, standing-in}
 use Rattle.intersection_window.proofs.Gathering.{Gathering, begun, ended, goes-on, kept-there, runs-out, seated-there}
 use Rattle.intersection_window.proofs.window.gather.Statement.{statement}
 use Rattle.intersection_window.proofs.window.gather.Tie as tie
@@ -46,8 +46,7 @@ has-remaining-docs-requires c κs =
     let G = l .before .loop .inv in
     let hi = l .loop-test .taken in
     let hq = O .below _ hi in
-    let M = shallow-moves (G .ready .seated .slot _ hq) (s .shallow-seek .ensures) in
-    (slot-small O hi, standing-in (seated-there _ _ _ _ O G hi M .slot _ hq))
+    (slot-small O hi, standing-in (seated-there _ _ _ _ O G hi (s .shallow-seek .ensures) .slot _ hq))
 
 returns : tie.Need-returns Inv-loop μ-loop
 returns c =
@@ -59,8 +58,7 @@ returns c =
     let G = l .before .loop .inv in
     let hi = l .loop-test .taken in
     let hq = O .below _ hi in
-    let M = shallow-moves (G .ready .seated .slot _ hq) (s .shallow-seek .ensures) in
-    runs-out _ _ _ _ O G hi M (h .has-remaining-docs .ensures) (c .if1 .taken)
+    runs-out _ _ _ _ O G hi (s .shallow-seek .ensures) (h .has-remaining-docs .ensures) (c .if1 .taken)
 
 last-doc-in-block-requires : tie.Need-last-doc-in-block-requires Inv-loop μ-loop
 last-doc-in-block-requires c κs =
@@ -71,8 +69,7 @@ last-doc-in-block-requires c κs =
     let G = l .before .loop .inv in
     let hi = l .loop-test .taken in
     let hq = O .below _ hi in
-    let M = shallow-moves (G .ready .seated .slot _ hq) (s .shallow-seek .ensures) in
-    (slot-small O hi, last-fits (seated-there _ _ _ _ O G hi M) hq)
+    (slot-small O hi, last-fits (seated-there _ _ _ _ O G hi (s .shallow-seek .ensures)) hq)
 
 least-requires : tie.Need-least-requires Inv-loop μ-loop
 least-requires c κs = search needs
@@ -86,8 +83,7 @@ block-max-requires c κs =
     let G = l .before .loop .inv in
     let hi = l .loop-test .taken in
     let hq = O .below _ hi in
-    let M = shallow-moves (G .ready .seated .slot _ hq) (s .shallow-seek .ensures) in
-    (slot-small O hi, O .norms-are, seated-there _ _ _ _ O G hi M .slot _ hq, O .weighed _ hq, kept-there _ _ _ _ O G hi M _ hq, G .ready .long)
+    (slot-small O hi, O .norms-are, seated-there _ _ _ _ O G hi (s .shallow-seek .ensures) .slot _ hq, O .weighed _ hq, kept-there _ _ _ _ O G hi (s .shallow-seek .ensures) _ hq, G .ready .long)
 
 add-i : tie.Need-add-i Inv-loop μ-loop
 add-i c = search needs
@@ -108,8 +104,7 @@ loop-again c =
     let G = l .before .loop .inv in
     let hi = l .loop-test .taken in
     let hq = O .below _ hi in
-    let M = shallow-moves (G .ready .seated .slot _ hq) (s .shallow-seek .ensures) in
-    goes-on _ _ _ _ O G hi M (h .has-remaining-docs .ensures) (e .if1 .left) (t .last-doc-in-block .ensures) (m .least .ensures) (c .block-max .ensures)
+    goes-on _ _ _ _ O G hi (s .shallow-seek .ensures) (h .has-remaining-docs .ensures) (e .if1 .left) (t .last-doc-in-block .ensures) (m .least .ensures) (c .block-max .ensures)
 
 returns-2 : tie.Need-returns-2 Inv-loop μ-loop
 returns-2 c = ended _ _ _ _ (c .before .before .before .pre .0) (c .before .loop .inv) (c .loop-test .left)

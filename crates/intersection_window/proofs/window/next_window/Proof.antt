@@ -1,7 +1,7 @@
 -- `next_window` meets its contract: it tests what the route's turn tests, in its order.
 use native.Mathlib.Omega.{arith}
 use borrow.Author.Needs.{needs}
-use Rattle.intersection_window.proofs.Seats.{last-fits, shallow-moves, slot-small, standing-in}
+use Rattle.intersection_window.proofs.Seats.{last-fits, slot-small, standing-in}
 use Rattle.intersection_window.proofs.Opening.{gathered, leader-kept, leader-seated, ready-there, window-low, window-open, window-over}
 use Rattle.intersection_window.proofs.window.next_window.Statement.{statement}
 use Rattle.intersection_window.proofs.window.next_window.Tie as tie
@@ -32,8 +32,7 @@ block-max-requires c κs =
     let O = a .pre .0 in
     let R = a .pre .1 in
     let hq = O .below 0 (O .leader) in
-    let M = shallow-moves (R .seated .slot _ hq) (s .seek-block .ensures) in
-    (slot-small O (O .leader), O .norms-are, leader-seated _ O (a .args .threshold) _ (a .pre .2) R M .slot _ hq, O .weighed _ hq, leader-kept _ O (a .args .threshold) _ (a .pre .2) R M _ hq, R .long)
+    (slot-small O (O .leader), O .norms-are, leader-seated _ O (a .args .threshold) _ (a .pre .2) R (s .seek-block .ensures) .slot _ hq, O .weighed _ hq, leader-kept _ O (a .args .threshold) _ (a .pre .2) R (s .seek-block .ensures) _ hq, R .long)
 
 last-doc-in-block-requires : tie.Need-last-doc-in-block-requires
 last-doc-in-block-requires c κs =
@@ -43,8 +42,7 @@ last-doc-in-block-requires c κs =
     let O = a .pre .0 in
     let R = a .pre .1 in
     let hq = O .below 0 (O .leader) in
-    let M = shallow-moves (R .seated .slot _ hq) (s .seek-block .ensures) in
-    (slot-small O (O .leader), last-fits (ready-there _ O (a .args .threshold) _ (a .pre .2) R M (b .block-max .ensures) .seated) hq)
+    (slot-small O (O .leader), last-fits (ready-there _ O (a .args .threshold) _ (a .pre .2) R (s .seek-block .ensures) (b .block-max .ensures) .seated) hq)
 
 gather-requires : tie.Need-gather-requires
 gather-requires c κs =
@@ -54,8 +52,7 @@ gather-requires c κs =
     let O = a .pre .0 in
     let R = a .pre .1 in
     let hq = O .below 0 (O .leader) in
-    let M = shallow-moves (R .seated .slot _ hq) (s .seek-block .ensures) in
-    (O, ready-there _ O (a .args .threshold) _ (a .pre .2) R M (b .block-max .ensures), omega (arith, a .pre .2))
+    (O, ready-there _ O (a .args .threshold) _ (a .pre .2) R (s .seek-block .ensures) (b .block-max .ensures), omega (arith, a .pre .2))
 
 returns : tie.Need-returns
 returns c =
@@ -67,8 +64,7 @@ returns c =
     let O = a .pre .0 in
     let R = a .pre .1 in
     let hq = O .below 0 (O .leader) in
-    let M = shallow-moves (R .seated .slot _ hq) (s .seek-block .ensures) in
-    window-over _ O (a .args .threshold) _ (a .pre .2) R M (b .block-max .ensures) (l .last-doc-in-block .ensures) (g .gather .ensures) (c .if1 .taken)
+    window-over _ O (a .args .threshold) _ (a .pre .2) R (s .seek-block .ensures) (b .block-max .ensures) (l .last-doc-in-block .ensures) (g .gather .ensures) (c .if1 .taken)
 
 load-requires : tie.Need-load-requires
 load-requires c κs =
@@ -81,8 +77,7 @@ load-requires c κs =
     let O = a .pre .0 in
     let R = a .pre .1 in
     let hq = O .below 0 (O .leader) in
-    let M = shallow-moves (R .seated .slot _ hq) (s .seek-block .ensures) in
-    (slot-small O (O .leader), gathered _ O (a .args .threshold) _ (a .pre .2) R M (b .block-max .ensures) (l .last-doc-in-block .ensures) (g .gather .ensures) (e .if1 .left) .ready .seated .slot _ hq)
+    (slot-small O (O .leader), gathered _ O (a .args .threshold) _ (a .pre .2) R (s .seek-block .ensures) (b .block-max .ensures) (l .last-doc-in-block .ensures) (g .gather .ensures) (e .if1 .left) .ready .seated .slot _ hq)
 
 returns-2 : tie.Need-returns-2
 returns-2 c =
@@ -96,8 +91,7 @@ returns-2 c =
     let O = a .pre .0 in
     let R = a .pre .1 in
     let hq = O .below 0 (O .leader) in
-    let M = shallow-moves (R .seated .slot _ hq) (s .seek-block .ensures) in
-    window-open _ O (a .args .threshold) _ (a .pre .2) R M (b .block-max .ensures) (l .last-doc-in-block .ensures) (g .gather .ensures) (e .if1 .left) (f .if2 .taken) (c .load .ensures)
+    window-open _ O (a .args .threshold) _ (a .pre .2) R (s .seek-block .ensures) (b .block-max .ensures) (l .last-doc-in-block .ensures) (g .gather .ensures) (e .if1 .left) (f .if2 .taken) (c .load .ensures)
 
 returns-3 : tie.Need-returns-3
 returns-3 c =
@@ -110,8 +104,7 @@ returns-3 c =
     let O = a .pre .0 in
     let R = a .pre .1 in
     let hq = O .below 0 (O .leader) in
-    let M = shallow-moves (R .seated .slot _ hq) (s .seek-block .ensures) in
-    window-low _ O (a .args .threshold) _ (a .pre .2) R M (b .block-max .ensures) (l .last-doc-in-block .ensures) (g .gather .ensures) (e .if1 .left) (c .if2 .left)
+    window-low _ O (a .args .threshold) _ (a .pre .2) R (s .seek-block .ensures) (b .block-max .ensures) (l .last-doc-in-block .ensures) (g .gather .ensures) (e .if1 .left) (c .if2 .left)
 
 pub next-window-spec : {M : Type 1} → statement M
 next-window-spec =
