@@ -1,11 +1,18 @@
 -- `main` is safe: what `render` says is in its buffer.
-use mathlib.Core.Path.{sym, ap}
+use mathlib.Core.List.{List, _++_}
+use mathlib.Core.Path.{sym, _≡_}
+use Prim.Native.Nat.{ℕ, _≤_}
 use native.Mathlib.Omega.{arith}
 use lib.ListN.{length, length-append}
 use lib.Seq.{length-take-le}
 use borrow.Author.Needs.{needs}
+use Rattle.print.specs.Text.{printed}
 use Rattle.print.proofs.main.Statement.{statement}
 use Rattle.print.proofs.main.Tie as tie
+
+-- what is written is within the buffer
+inside : (file rest : List ℕ) {new : List ℕ} {n : ℕ} → new ≡ printed file ++ rest → n ≡ length (printed file) → n ≤ length new
+inside file rest e f = rw (e, f) (simp length-append (omega arith))
 
 slice-aggregate-read-full : tie.Need-slice-aggregate-read-full
 slice-aggregate-read-full c = search needs
@@ -32,12 +39,12 @@ render-requires : tie.Need-render-requires
 render-requires c κs = search needs
 
 array-share-prefix-out : tie.Need-array-share-prefix-out
-array-share-prefix-out c = let e = c .render .ensures in omega (arith, e .1, simp length-append at (ap length (e .0)))
+array-share-prefix-out c = inside _ _ (c .render .ensures .0) (c .render .ensures .1)
 
 slice-aggregate-write-all-2 : tie.Need-slice-aggregate-write-all-2
 slice-aggregate-write-all-2 c =
     let e = c .before .render .ensures in
-    sym (length-take-le (c .before .render .result) _ (omega (arith, e .1, simp length-append at (ap length (e .0)))))
+    sym (length-take-le (c .before .render .result) _ (inside _ _ (e .0) (e .1)))
 
 write-all-requires-2 : tie.Need-write-all-requires-2
 write-all-requires-2 c κs = search needs
