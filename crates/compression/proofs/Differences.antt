@@ -3,11 +3,13 @@ use mathlib.Core.Path.{_≡_, refl, sym, ap, _∙_, subst}
 use mathlib.Core.List.{List}
 use mathlib.Core.Bool.{Bool, true, false, _&&_, true≢false}
 use mathlib.Core.Logic.{_⊎_, inl, inr, ⊎-elim}
-use Prim.Native.Nat.{ℕ, zero, suc, _+_, _-_, _%_, _≤_, _<_}
+use Prim.Native.Nat.{ℕ, zero, suc, _+_, _-_, _*_, _%_, _≤_, _<_}
 use native.Mathlib.Nat.{add-assoc, add-mod, add-mod-mod, mod-eq-of-lt}
 use native.Mathlib.Numerals.{add-one}
 use native.Mathlib.Omega.{arith}
 use lib.Dec.{ltb}
+use mir.Syntax.{w64}
+use mir.Val.{Fits}
 use lib.ListN.{length, getD, set}
 use borrow.Author.Tests.{lt-ltb, ltb-true}
 use Rattle.arrays.specs.Every.{every}
@@ -28,6 +30,35 @@ onto p b e f = f ∙ ap (λ (z : ℕ). (p + z) % 4294967296) e ∙ add-mod-mod p
 pub gap-small : (strict : Bool) → gapOf strict ≤ 1
 gap-small true = omega arith
 gap-small false = omega arith
+
+-- what the code asks of the places of four values from place i on, each value of 4 bytes
+pub record Four-places (i : ℕ) : Type 0 where
+  pub in-1 : i + 1 < 128
+  pub in-2 : i + 2 < 128
+  pub in-3 : i + 3 < 128
+  pub fits-1 : Fits w64 (i + 1)
+  pub fits-2 : Fits w64 (i + 2)
+  pub fits-3 : Fits w64 (i + 3)
+  pub fits-4 : Fits w64 (i + 4)
+  pub bytes-0 : Fits w64 (i * 4)
+  pub bytes-1 : Fits w64 ((i + 1) * 4)
+  pub bytes-2 : Fits w64 ((i + 2) * 4)
+  pub bytes-3 : Fits w64 ((i + 3) * 4)
+
+pub four-places : {i : ℕ} → i % 4 ≡ 0 → i < 128 → Four-places i
+four-places f h = record {
+  in-1 = omega arith;
+  in-2 = omega arith;
+  in-3 = omega arith;
+  fits-1 = omega arith;
+  fits-2 = omega arith;
+  fits-3 = omega arith;
+  fits-4 = omega arith;
+  bytes-0 = omega arith;
+  bytes-1 = omega arith;
+  bytes-2 = omega arith;
+  bytes-3 = omega arith;
+}
 
 module _ (vs : List ℕ) (strict first : Bool) (previous : ℕ) where
   abbrev value : ℕ → ℕ
