@@ -134,19 +134,19 @@ tail-loaded = refl
 abbrev evens : Postings ℕ
 evens = record { len = 130; full = 1; doc = λ p. 2 * p; score = λ p. 1 + p % 7; bound = λ b. 7; top = 8 }
 
--- documents 0, 3, 6 .. 297: a tail of a hundred
+-- documents 0, 3, 6 .. 57: a tail of twenty
 abbrev threes : Postings ℕ
-threes = record { len = 100; full = 0; doc = λ p. 3 * p; score = λ p. 1 + p % 5; bound = λ b. 0; top = 6 }
+threes = record { len = 20; full = 0; doc = λ p. 3 * p; score = λ p. 1 + p % 5; bound = λ b. 0; top = 6 }
 
-single-128 : Gives 128 single (evens ∷ []) (best 2) 5 300 (row 10 6 ∷ row 12 7 ∷ row 26 7 ∷ [])
+single-128 : Gives 128 single (evens ∷ []) (best 2) 5 260 (row 10 6 ∷ row 12 7 ∷ row 26 7 ∷ [])
 unfolding start
 single-128 = (record { steps = 140; ended = refl; leaves = refl }, refl)
 
-union-128 : Gives 128 union (evens ∷ threes ∷ []) (best 1) 9 300 (row 12 12 ∷ [])
+union-128 : Gives 128 union (evens ∷ threes ∷ []) (best 1) 9 260 (row 12 12 ∷ [])
 unfolding start
 union-128 = (record { steps = 140; ended = refl; leaves = refl }, refl)
 
-intersection-128 : Gives 128 intersection (evens ∷ threes ∷ []) (best 2) 8 300 (row 12 12 ∷ row 24 10 ∷ row 54 11 ∷ row 222 12 ∷ [])
+intersection-128 : Gives 128 intersection (evens ∷ threes ∷ []) (best 2) 8 260 (row 12 12 ∷ row 24 10 ∷ row 54 11 ∷ [])
 unfolding start
 intersection-128 = (record { steps = 200; ended = refl; leaves = refl }, refl)
 
