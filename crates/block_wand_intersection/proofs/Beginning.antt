@@ -21,7 +21,7 @@ use Rattle.route.proofs.Ordering.{sort-perm}
 use Rattle.ordering.proofs.Carried.{sort-map}
 use Rattle.ordering.proofs.Places.{all-at, all-first}
 use Rattle.decoded.specs.Lists.{listOf}
-use Rattle.postings.specs.Inner.Decoded.{doc-is}
+use Rattle.skip_reader.specs.Inner.Decoded.{doc-is}
 use Rattle.slot_rows.specs.Inner.Rows.{partIn}
 use Rattle.term_scorer.specs.Inner.Slots.{Held, cursorAt, listsFrom, partAt, slotsFrom}
 use Rattle.intersection_window.specs.Inner.Scorers.{InOrder, Query, SlotsIn, leaderIn, listIn, placeAt, scorerAt, secondariesIn, slotAt}

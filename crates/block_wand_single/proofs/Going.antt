@@ -18,7 +18,7 @@ use Rattle.reports.specs.Inner.Turns.{afterTurns, Went}
 use Rattle.reports.specs.declared.Event.{Event}
 use Rattle.reports.specs.declared.Event.the-variants.{Over, Paused, Report}
 use Rattle.reports.proofs.TurnLaws.{Quietly, and-then, at-end, at-pause, at-report, none-yet, one-more}
-use Rattle.postings.specs.Inner.Decoded.{doc-is, docIn}
+use Rattle.skip_reader.specs.Inner.Decoded.{doc-is, docIn}
 use Rattle.term_scorer.specs.Inner.Slots.{Held, cursorAt, listAt, partAt, SlotIn}
 use Rattle.term_scorer.specs.Inner.Weights.{FloatRows, Weighed}
 use Rattle.term_scorer.specs.declared.score.Similarity.{Similarity}

@@ -21,7 +21,7 @@ use Rattle.bm25.specs.declared.Scoring.{Scoring}
 use Rattle.notefile.specs.Header.{documents}
 use Rattle.notefile.specs.declared.part.Part.{Part}
 use Rattle.decoded.specs.Lists.{listOf}
-use Rattle.postings.specs.Inner.Decoded.{doc-is, docIn}
+use Rattle.skip_reader.specs.Inner.Decoded.{doc-is, docIn}
 use Rattle.postings.proofs.BlockBounds.{score-at}
 use Rattle.slot_rows.specs.Inner.Rows.{cursorIn, postingsIn, PlaceIn}
 use Rattle.slot_rows.proofs.Rows.{cur-inside, doc-in-array}

@@ -19,10 +19,10 @@ use Rattle.bm25.specs.declared.Scoring.{Scoring}
 use Rattle.bm25.specs.declared.Scoring.the-variants.{Unstepped}
 use Rattle.notefile.specs.Header.{documents}
 use Rattle.decoded.proofs.AcceptedLists.{list-ok}
-use Rattle.postings.specs.Inner.Decoded.{docIn}
+use Rattle.skip_reader.specs.Inner.Decoded.{docIn}
 use Rattle.postings.specs.Inner.Places.{cursorOf, Moved}
 use Rattle.postings.specs.declared.cursor.SegmentPostings.{SegmentPostings}
-use Rattle.postings.proofs.Readers.{end-is}
+use Rattle.skip_reader.proofs.Readers.{end-is}
 use Rattle.slot_rows.specs.Inner.Rows.{cursorIn, partIn, postingsIn, MovedRow, PlaceIn}
 use Rattle.slot_rows.proofs.Rows.{bound-in, last-is, moves-in}
 use Rattle.term_scorer.specs.Inner.Slots.{Held, cursorAt, held, lastAt, listAt, partAt, Shallowed, Sixteen, SlotIn, StandingIn}

@@ -25,7 +25,7 @@ use Rattle.reports.specs.declared.Event.the-variants.{Over, Paused, Report}
 use Rattle.reports.proofs.TurnLaws.{Quietly, at-end, at-pause, none-yet}
 use Rattle.reports.proofs.RunLaws.{went-near}
 use Rattle.decoded.specs.Lists.{listOf}
-use Rattle.postings.specs.Inner.Decoded.{doc-is}
+use Rattle.skip_reader.specs.Inner.Decoded.{doc-is}
 use Rattle.slot_rows.specs.Inner.Rows.{cursorIn, partIn, postingsIn}
 use Rattle.term_scorer.specs.Inner.Slots.{Held, cursorAt, held, listAt, partAt}
 use Rattle.term_scorer.specs.declared.score.Similarity.{Similarity}

@@ -13,7 +13,7 @@ ghost use mathlib.Core.Path.{_≡_};
 ghost use Prim.Native.Nat.{_≤_, _<_};
 ghost use Rattle.arrays.specs.Lent.{before, after};
 ghost use Rattle.notefile.specs.Header.{normReader};
-ghost use Rattle.postings.specs.Inner.Decoded.{ListIn};
+ghost use Rattle.skip_reader.specs.Inner.Decoded.{ListIn};
 ghost use Rattle.slot_rows.specs.Inner.Rows.{partIn, PartRow};
 ghost use Rattle.term_scorer.specs.Inner.Slots.{held, StandingIn};
 ghost use Rattle.term_scorer.specs.Inner.Weights.{NormsIn};

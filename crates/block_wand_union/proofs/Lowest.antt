@@ -25,7 +25,7 @@ use Rattle.ordering.proofs.Kept.{moved-kept}
 use Rattle.ordering.proofs.Turns.{leastLast, too-low-on-route}
 use Rattle.notefile.specs.Header.{documents}
 use Rattle.decoded.proofs.AcceptedLists.{list-ok}
-use Rattle.postings.proofs.Readers.{end-is}
+use Rattle.skip_reader.proofs.Readers.{end-is}
 use Rattle.slot_rows.specs.Inner.Rows.{cursorIn}
 use Rattle.slot_rows.proofs.Rows.{last-is, last-small}
 use Rattle.term_scorer.specs.Inner.Slots.{cursorAt, Held, lastAt, listAt, partAt, MovedSlot}

@@ -20,8 +20,8 @@ use Rattle.ordering.proofs.OnRoute.{Fair, SameDoc}
 use Rattle.ordering.proofs.Places.{all-at, all-take}
 use Rattle.ordering.proofs.Turns.{SameOff, replaced-all, replaced-slots}
 use Rattle.notefile.specs.declared.part.Part.{Part}
-use Rattle.postings.specs.Inner.Decoded.{docIn, doc-is}
-use Rattle.postings.specs.Inner.Reader.{readerAt}
+use Rattle.skip_reader.specs.Inner.Decoded.{docIn, doc-is}
+use Rattle.skip_reader.specs.Inner.Reader.{readerAt}
 use Rattle.slot_rows.specs.Inner.Rows.{cursorIn, placeRow, PlaceIn, postingsIn}
 use Rattle.term_scorer.specs.Inner.Slots.{cursorAt, held, Held, listAt, partAt, MovedSlot, Shallowed, Sixteen, StandingIn}
 use Rattle.term_scorer.specs.Inner.Weights.{Bounded, FloatRow}

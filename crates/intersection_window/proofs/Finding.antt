@@ -24,8 +24,8 @@ use Rattle.bm25.specs.declared.Scoring.{Scoring}
 use Rattle.notefile.specs.Header.{documents}
 use Rattle.notefile.specs.declared.part.Part.{Part}
 use Rattle.decoded.proofs.AcceptedLists.{list-ok}
-use Rattle.postings.specs.Inner.Decoded.{Decoded, doc-is, docIn}
-use Rattle.postings.proofs.Blocks.{decoded-sorted}
+use Rattle.skip_reader.specs.Inner.Decoded.{Decoded, doc-is, docIn}
+use Rattle.skip_reader.proofs.Blocks.{decoded-sorted}
 use Rattle.postings.proofs.Moves.{find-is}
 use Rattle.slot_rows.specs.Inner.Rows.{cursorIn, postingsIn}
 use Rattle.term_scorer.specs.Inner.Slots.{Held, SlotIn, cursorAt, listAt, partAt}

@@ -19,7 +19,7 @@ use Rattle.route.specs.Union.{leastLastDoc}
 use Rattle.route.specs.Intersection.{allRemain, hasRemainingDocs, seekBlockAll}
 use Rattle.decoded.specs.Lists.{listOf}
 use Rattle.bm25.specs.declared.Scoring.{Scoring}
-use Rattle.postings.specs.Inner.Decoded.{docIn}
+use Rattle.skip_reader.specs.Inner.Decoded.{docIn}
 use Rattle.slot_rows.specs.Inner.Rows.{cursorIn}
 use Rattle.term_scorer.specs.Inner.Slots.{Held, MovedSlot, Shallowed, cursorAt, held, lastAt, listAt, partAt}
 use Rattle.term_scorer.specs.Inner.Weights.{Bounded}

@@ -16,7 +16,7 @@ use Rattle.route.specs.Union.{leastLastDoc}
 use Rattle.route.specs.Intersection.{InterPlace, Stage, allRemain, candidatesIn, hasRemainingDocs, loadLeader, over, seekBlockAll, window, windowTurn, within}
 use Rattle.route.proofs.Cases.{on-test}
 use Rattle.bm25.specs.declared.Scoring.{Scoring}
-use Rattle.postings.specs.Inner.Decoded.{docIn}
+use Rattle.skip_reader.specs.Inner.Decoded.{docIn}
 use Rattle.slot_rows.specs.Inner.Rows.{cursorIn, firstOf}
 use Rattle.term_scorer.specs.Inner.Slots.{Held, MovedSlot, Shallowed, cursorAt, held, lastAt, listAt, partAt}
 use Rattle.term_scorer.specs.Inner.Weights.{Bounded}

@@ -18,8 +18,8 @@ use Rattle.route.proofs.Places.{last-cap}
 use Rattle.bm25.specs.declared.Scoring.{Scoring}
 use Rattle.notefile.specs.Header.{documents}
 use Rattle.decoded.proofs.AcceptedLists.{list-ok}
-use Rattle.postings.specs.Inner.Decoded.{docIn}
-use Rattle.postings.proofs.Readers.{end-is}
+use Rattle.skip_reader.specs.Inner.Decoded.{docIn}
+use Rattle.skip_reader.proofs.Readers.{end-is}
 use Rattle.slot_rows.specs.Inner.Rows.{PlaceIn, cursorIn}
 use Rattle.slot_rows.proofs.Rows.{bound-in, cur-inside, doc-in-array, last-is, last-small}
 use Rattle.term_scorer.specs.Inner.Slots.{Held, MovedSlot, Shallowed, Sixteen, SlotIn, StandingIn, cursorAt, held, lastAt, partAt}

@@ -16,7 +16,7 @@ use Rattle.route.specs.Score.{sumBack}
 use Rattle.route.specs.Cursor.{seekIn}
 use Rattle.route.specs.Scorer.{Scorer, docOf, scoreHere, seek}
 use Rattle.route.specs.Intersection.{Tried, dropped, pushSec, tailOf, tryCandidate}
-use Rattle.postings.specs.Inner.Decoded.{doc-is, docIn}
+use Rattle.skip_reader.specs.Inner.Decoded.{doc-is, docIn}
 use Rattle.term_scorer.specs.Inner.Slots.{Held, MovedSlot, cursorAt, listAt, partAt}
 use Rattle.intersection_window.specs.Inner.Scorers.{InOrder, Query, SlotsIn, StillKept, Unmoved, scorerAt, scorersBetween, secondariesIn, slotAt}
 use Rattle.intersection_window.specs.Inner.Candidates.{Rests, Tries, candidateOf}

@@ -21,7 +21,7 @@ use Rattle.notefile.specs.Header.{documents}
 use Rattle.notefile.specs.Lists.{fullBlocks}
 use Rattle.decoded.specs.Lists.{listOf}
 use Rattle.decoded.proofs.AcceptedLists.{list-ok}
-use Rattle.postings.specs.Inner.Decoded.{docIn, doc-is}
+use Rattle.skip_reader.specs.Inner.Decoded.{docIn, doc-is}
 use Rattle.term_scorer.specs.Inner.Slots.{Held, Sixteen, SlotIn, MovedSlot, partAt, listAt, cursorAt}
 use Rattle.plain_scan.specs.Inner.Heads.{StandsFrom}
 

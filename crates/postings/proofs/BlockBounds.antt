@@ -32,11 +32,11 @@ use Rattle.notefile.specs.declared.part.Part.{Part}
 use Rattle.notefile.proofs.Scores.{apart, score-of-doc}
 use Rattle.decoded.specs.Lists.{listOf}
 use Rattle.postings.specs.Inner.Bounds.{mostFrom, mostOf}
-use Rattle.postings.specs.Inner.Decoded.{Decoded}
-use Rattle.postings.specs.Inner.Reader.{remaining}
+use Rattle.skip_reader.specs.Inner.Decoded.{Decoded}
+use Rattle.skip_reader.specs.Inner.Reader.{remaining}
 use Rattle.postings.specs.Inner.Places.{cursorOf}
 use Rattle.postings.specs.declared.cursor.SegmentPostings.{SegmentPostings}
-use Rattle.postings.proofs.Readers.{Packed}
+use Rattle.skip_reader.proofs.Readers.{Packed}
 
 -- the largest of the values from i on is what is left to find
 pub record Finding (f : ℕ → Float) (n i : ℕ) (most : Float) : Type 0 where

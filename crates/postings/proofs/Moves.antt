@@ -21,13 +21,13 @@ use Rattle.notefile.specs.Lists.{fullBlocks}
 use Rattle.notefile.specs.declared.part.Part.{Part}
 use Rattle.notefile.proofs.ListLaws.{last-is}
 use Rattle.decoded.specs.Lists.{listOf}
-use Rattle.postings.specs.Inner.Decoded.{docIn, doc-is, Decoded, ListIn}
-use Rattle.postings.specs.Inner.Reader.{lastIn, readerAt, Stands, Sought}
+use Rattle.skip_reader.specs.Inner.Decoded.{docIn, doc-is, Decoded, ListIn}
+use Rattle.skip_reader.specs.Inner.Reader.{lastIn, readerAt, Stands, Sought}
 use Rattle.postings.specs.Inner.Places.{cursorOf, Placed, Moved, Shallow, Here}
-use Rattle.postings.specs.declared.skip.SkipReader.{SkipReader}
+use Rattle.skip_reader.specs.declared.skip.SkipReader.{SkipReader}
 use Rattle.postings.specs.declared.cursor.SegmentPostings.{SegmentPostings}
-use Rattle.postings.proofs.Readers.{block-is, stands-on, last-here, end-is}
-use Rattle.postings.proofs.Blocks.{decoded-sorted}
+use Rattle.skip_reader.proofs.Readers.{block-is, stands-on, last-here, end-is}
+use Rattle.skip_reader.proofs.Blocks.{decoded-sorted}
 
 -- the route's search over blocks
 module _ (l : Postings Float) (t : ℕ) where

@@ -1,10 +1,10 @@
 // Block bounds: a full block's from its skip entry, a tail's from its scores once they are loaded.
 use crate::cursor::SegmentPostings;
-use crate::skip::BlockInfo;
 use bm25::Bm25Weight;
 use bm25::Scoring;
 use fieldnorm::FieldNormReader;
 use notefile::part::Part;
+use skip_reader::skip::BlockInfo;
 ghost use mathlib.Core.Path.{_≡_};
 ghost use Prim.Native.Nat.{_≤_};
 ghost use lib.ListN.{getD};
@@ -18,7 +18,7 @@ ghost use Rattle.notefile.specs.Inner.Given.{WeightIn};
 ghost use Rattle.notefile.specs.Inner.Reads.{scoreAmong};
 ghost use Rattle.decoded.specs.Lists.{listOf};
 ghost use Rattle.postings.specs.Inner.Bounds.{mostOf};
-ghost use Rattle.postings.specs.Inner.Decoded.{ListIn};
+ghost use Rattle.skip_reader.specs.Inner.Decoded.{ListIn};
 ghost use Rattle.postings.specs.Inner.Places.{Placed, cursorOf};
 
 // The largest of the first n scores, or 0 where there is none.

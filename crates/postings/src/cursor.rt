@@ -1,8 +1,8 @@
 // A scorer's place in its list: the block cursor and the place in the block that it decoded last.
-use crate::block::load_block;
-use crate::skip::SkipReader;
 use block_search::search_block;
 use notefile::part::Part;
+use skip_reader::block::load_block;
+use skip_reader::skip::SkipReader;
 ghost use mathlib.Core.Path.{_≡_};
 ghost use Prim.Native.Nat.{min, suc, _≤_, _<_};
 ghost use Rattle.arrays.specs.Lent.{before, after};
@@ -10,8 +10,8 @@ ghost use Rattle.route.specs.Cursor.{Cursor, advanceIn, fresh, loadAt, seekBloc
 ghost use Rattle.bm25.specs.declared.Scoring.{Scoring};
 ghost use Rattle.notefile.specs.Lists.{fullBlocks};
 ghost use Rattle.decoded.specs.Lists.{listOf};
-ghost use Rattle.postings.specs.Inner.Decoded.{Decoded, ListIn};
-ghost use Rattle.postings.specs.Inner.Reader.{Stands};
+ghost use Rattle.skip_reader.specs.Inner.Decoded.{Decoded, ListIn};
+ghost use Rattle.skip_reader.specs.Inner.Reader.{Stands};
 ghost use Rattle.postings.specs.Inner.Places.{Here, Moved, Placed, Shallow, cursorOf};
 
 // The Rust's block cursor and its `cur`. The decoded block stands in two arrays beside it, and `decoded` is its number.

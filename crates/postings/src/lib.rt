@@ -1,5 +1,3 @@
-// One list of an accepted file while a run goes over it: its skip reader, its decoded block, and a scorer's place in them.
-pub mod block;
+// One list of an accepted file while a run goes over it: a scorer's place in the blocks that its skip reader finds, and their bounds.
 pub mod bound;
 pub mod cursor;
-pub mod skip;

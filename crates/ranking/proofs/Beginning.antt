@@ -34,7 +34,7 @@ use Rattle.notefile.specs.Header.{documents, normReader}
 use Rattle.notefile.specs.Parts.{partOf}
 use Rattle.notefile.specs.declared.part.Part.{Part}
 use Rattle.decoded.specs.Lists.{listOf, postingsOf, queried}
-use Rattle.postings.specs.Inner.Decoded.{docIn, doc-is}
+use Rattle.skip_reader.specs.Inner.Decoded.{docIn, doc-is}
 use Rattle.reports.specs.Inner.Runs.{callbackOf}
 use Rattle.term_scorer.specs.Inner.Slots.{Sixteen, cursorAt, listAt, listsFrom, partAt}
 use Rattle.term_scorer.specs.Inner.Weights.{FloatRows}

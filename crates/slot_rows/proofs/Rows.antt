@@ -19,12 +19,12 @@ use Rattle.bm25.specs.declared.Scoring.the-variants.{Unstepped}
 use Rattle.notefile.specs.Lists.{fullBlocks}
 use Rattle.notefile.specs.declared.part.Part.{Part}
 use Rattle.decoded.specs.Lists.{listOf}
-use Rattle.postings.specs.Inner.Decoded.{docIn, doc-is, Decoded, ListIn}
-use Rattle.postings.specs.Inner.Reader.{lastIn, placeIn, previousIn, readerAt, Stands}
+use Rattle.skip_reader.specs.Inner.Decoded.{docIn, doc-is, Decoded, ListIn}
+use Rattle.skip_reader.specs.Inner.Reader.{lastIn, placeIn, previousIn, readerAt, Stands}
 use Rattle.postings.specs.Inner.Places.{cursorOf, Placed, Moved, Shallow, Here}
-use Rattle.postings.specs.declared.skip.SkipReader.{SkipReader}
+use Rattle.skip_reader.specs.declared.skip.SkipReader.{SkipReader}
 use Rattle.postings.specs.declared.cursor.SegmentPostings.{SegmentPostings}
-use Rattle.postings.proofs.Readers.{block-is, stands-on}
+use Rattle.skip_reader.proofs.Readers.{block-is, stands-on}
 use Rattle.postings.proofs.Moves.{advanced-in, doc-here, sought-here, sought-next, sought-within, stays}
 use Rattle.slot_rows.specs.Inner.Rows.{partIn, partRow, flag, firstOf, placeRow, Narrow, cursorIn, postingsIn, Standing, PlaceIn, MovedRow, ShallowRow}
 

@@ -1,7 +1,7 @@
 // A slot's two rows of numbers: those of its list's part, and those of its place. Structs are made of them at a block change only.
 use notefile::part::Part;
 use postings::cursor::SegmentPostings;
-use postings::skip::SkipReader;
+use skip_reader::skip::SkipReader;
 ghost use mathlib.Core.Path.{_≡_};
 ghost use mathlib.Core.Bool.{true};
 ghost use lib.Ieee.{binary32, ofBits};

@@ -7,9 +7,9 @@ use crate::place::part_of;
 use crate::place::postings_of;
 use block_search::search_block;
 use notefile::part::Part;
-use postings::block::load_block;
 use postings::cursor::SegmentPostings;
 use postings::cursor::next_place;
+use skip_reader::block::load_block;
 ghost use mathlib.Core.Path.{_≡_};
 ghost use Prim.Native.Nat.{_≤_};
 ghost use lib.ListN.{getD};
@@ -18,7 +18,7 @@ ghost use Rattle.route.specs.Cursor.{Cursor, advanceIn, fresh, seekBlockIn, see
 ghost use Rattle.bm25.specs.declared.Scoring.{Scoring};
 ghost use Rattle.notefile.specs.Lists.{fullBlocks};
 ghost use Rattle.decoded.specs.Lists.{listOf};
-ghost use Rattle.postings.specs.Inner.Decoded.{docIn, ListIn};
+ghost use Rattle.skip_reader.specs.Inner.Decoded.{docIn, ListIn};
 ghost use Rattle.slot_rows.specs.Inner.Rows.{cursorIn, firstOf, partIn, MovedRow, PartRow, PlaceIn, ShallowRow, Standing};
 
 // On the list's first posting.

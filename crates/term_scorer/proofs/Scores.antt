@@ -32,12 +32,12 @@ use Rattle.notefile.specs.declared.part.Part.{Part}
 use Rattle.notefile.proofs.Headers.{norm-code-small}
 use Rattle.notefile.proofs.Scores.{score-by-is}
 use Rattle.decoded.specs.Lists.{listOf}
-use Rattle.postings.specs.Inner.Decoded.{docIn}
-use Rattle.postings.specs.Inner.Reader.{Stands}
+use Rattle.skip_reader.specs.Inner.Decoded.{docIn}
+use Rattle.skip_reader.specs.Inner.Reader.{Stands}
 use Rattle.postings.specs.Inner.Places.{cursorOf}
-use Rattle.postings.specs.declared.skip.BlockInfo.the-variants.{BitPacked, VInt}
+use Rattle.skip_reader.specs.declared.skip.BlockInfo.the-variants.{BitPacked, VInt}
 use Rattle.postings.specs.declared.cursor.SegmentPostings.{SegmentPostings}
-use Rattle.postings.proofs.Readers.{packed-info, tail-info}
+use Rattle.skip_reader.proofs.Readers.{packed-info, tail-info}
 use Rattle.postings.proofs.BlockBounds.{full-bound, unloaded-bound}
 use Rattle.slot_rows.specs.Inner.Rows.{cursorIn, partIn, postingsIn, PlaceIn}
 use Rattle.slot_rows.proofs.Rows.{cursor-is, block-for}

@@ -16,7 +16,7 @@ ghost use Rattle.route.specs.Cursor.{advanceIn, seekBlockIn, seekIn};
 ghost use Rattle.route.specs.Postings.{start};
 ghost use Rattle.notefile.specs.Lists.{fullBlocks};
 ghost use Rattle.notefile.specs.declared.part.Part.{Part};
-ghost use Rattle.postings.specs.Inner.Decoded.{docIn, ListIn};
+ghost use Rattle.skip_reader.specs.Inner.Decoded.{docIn, ListIn};
 ghost use Rattle.slot_rows.specs.Inner.Rows.{firstOf};
 ghost use Rattle.term_scorer.specs.Inner.Slots.{cursorAt, held, lastAt, listAt, partAt};
 ghost use Rattle.term_scorer.specs.Inner.Slots.{MovedSlot, Opened, Shallowed, SlotIn, StandingIn, Sixteen};

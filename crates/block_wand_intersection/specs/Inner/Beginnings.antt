@@ -10,7 +10,7 @@ use Rattle.route.specs.Cursor.{fresh}
 use Rattle.route.specs.Scorer.{scorersFrom, sizeHint}
 use Rattle.route.specs.Intersection.{leaderRoute}
 use Rattle.notefile.specs.Header.{normReader}
-use Rattle.postings.specs.Inner.Decoded.{ListIn}
+use Rattle.skip_reader.specs.Inner.Decoded.{ListIn}
 use Rattle.slot_rows.specs.Inner.Rows.{PartRow}
 use Rattle.term_scorer.specs.Inner.Slots.{Held, Sixteen, SlotIn, cursorAt, listsFrom, partAt}
 use Rattle.term_scorer.specs.Inner.Weights.{FloatRows, Weighed}

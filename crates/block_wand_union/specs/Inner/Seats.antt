@@ -13,7 +13,7 @@ use Rattle.ordering.specs.Inner.Scorers.{Apart}
 use Rattle.ordering.specs.declared.Scorers.{Scorers}
 use Rattle.ordering.specs.declared.TermScorer.{TermScorer}
 use Rattle.notefile.specs.Lists.{fullBlocks}
-use Rattle.postings.specs.Inner.Decoded.{docIn, ListIn}
+use Rattle.skip_reader.specs.Inner.Decoded.{docIn, ListIn}
 use Rattle.slot_rows.specs.Inner.Rows.{PartRow}
 use Rattle.term_scorer.specs.Inner.Slots.{cursorAt, Held, listAt, partAt, SlotIn}
 use Rattle.term_scorer.specs.Inner.Weights.{BoundKept, FloatRow, Weighed}

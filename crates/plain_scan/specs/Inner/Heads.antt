@@ -7,7 +7,7 @@ use lib.Ieee.{Float}
 use Rattle.route.specs.Plain.{present}
 use Rattle.route.specs.Inner.Cursors.{Wf, Past}
 use Rattle.bm25.specs.declared.Scoring.{Scoring}
-use Rattle.postings.specs.Inner.Decoded.{docIn}
+use Rattle.skip_reader.specs.Inner.Decoded.{docIn}
 use Rattle.term_scorer.specs.Inner.Slots.{Held, Sixteen, SlotIn, partAt, listAt, cursorAt, listsFrom, Blank}
 use Rattle.term_scorer.specs.Inner.Weights.{Weighed}
 use Rattle.plain_scan.specs.Inner.Found.{foundOf}

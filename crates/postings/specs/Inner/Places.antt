@@ -9,8 +9,8 @@ use Rattle.bm25.specs.declared.Scoring.{Scoring}
 use Rattle.notefile.specs.Lists.{fullBlocks}
 use Rattle.notefile.specs.declared.part.Part.{Part}
 use Rattle.decoded.specs.Lists.{listOf}
-use Rattle.postings.specs.Inner.Decoded.{Decoded}
-use Rattle.postings.specs.Inner.Reader.{Stands}
+use Rattle.skip_reader.specs.Inner.Decoded.{Decoded}
+use Rattle.skip_reader.specs.Inner.Reader.{Stands}
 use Rattle.postings.specs.declared.cursor.SegmentPostings.{SegmentPostings}
 
 unfoldable pub cursorOf : SegmentPostings → Cursor

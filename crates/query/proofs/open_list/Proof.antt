@@ -4,8 +4,8 @@ use borrow.Author.Needs.{needs}
 use Rattle.bm25.proofs.Numbers.{weight-number, average-number}
 use Rattle.notefile.specs.Inner.Given.{HeaderIn, Limits}
 use Rattle.notefile.proofs.Accepted.{header-inside, list-limits}
-use Rattle.postings.specs.Inner.Decoded.{ListIn}
-use Rattle.postings.proofs.AcceptedList.{list-in}
+use Rattle.skip_reader.specs.Inner.Decoded.{ListIn}
+use Rattle.skip_reader.proofs.AcceptedList.{list-in}
 use Rattle.query.proofs.Opening.{listed, one-opened}
 use Rattle.query.proofs.open_list.Statement.{statement}
 use Rattle.query.proofs.open_list.Tie as tie

@@ -12,7 +12,7 @@ use Rattle.ordering.specs.declared.TermScorer.{TermScorer}
 use Rattle.notefile.specs.Header.{listCount}
 use Rattle.notefile.specs.Parts.{partOf}
 use Rattle.decoded.specs.Lists.{listOf}
-use Rattle.postings.specs.Inner.Decoded.{docIn}
+use Rattle.skip_reader.specs.Inner.Decoded.{docIn}
 use Rattle.term_scorer.specs.Inner.Slots.{Held, held, Sixteen, SlotIn, partAt, cursorAt, Blank}
 use Rattle.term_scorer.specs.Inner.Weights.{Weighed}
 

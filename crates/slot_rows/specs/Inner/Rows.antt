@@ -10,8 +10,8 @@ use Rattle.route.specs.Cursor.{Cursor}
 use Rattle.bm25.specs.declared.Scoring.{Scoring}
 use Rattle.notefile.specs.Lists.{fullBlocks}
 use Rattle.notefile.specs.declared.part.Part.{Part}
-use Rattle.postings.specs.Inner.Decoded.{docIn}
-use Rattle.postings.specs.Inner.Reader.{readerAt}
+use Rattle.skip_reader.specs.Inner.Decoded.{docIn}
+use Rattle.skip_reader.specs.Inner.Reader.{readerAt}
 use Rattle.postings.specs.Inner.Places.{Placed}
 use Rattle.postings.specs.declared.cursor.SegmentPostings.{SegmentPostings}
 

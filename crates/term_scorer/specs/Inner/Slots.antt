@@ -9,7 +9,7 @@ use Rattle.route.specs.Cursor.{Cursor, fresh}
 use Rattle.bm25.specs.declared.Scoring.{Scoring}
 use Rattle.notefile.specs.declared.part.Part.{Part}
 use Rattle.decoded.specs.Lists.{listOf}
-use Rattle.postings.specs.Inner.Decoded.{ListIn}
+use Rattle.skip_reader.specs.Inner.Decoded.{ListIn}
 use Rattle.slot_rows.specs.Inner.Rows.{partIn, partRow, PartRow, cursorIn, Standing, PlaceIn, MovedRow, ShallowRow}
 
 -- an array of 16 slots

@@ -2,7 +2,7 @@
 use mathlib.Core.Path.{ap, _∙_}
 use Prim.Native.Nat.{ℕ}
 use lib.Ieee.{Float}
-use Rattle.postings.specs.Inner.Decoded.{docIn}
+use Rattle.skip_reader.specs.Inner.Decoded.{docIn}
 use Rattle.term_scorer.specs.Inner.Slots.{cursorAt, partAt}
 use Rattle.block_wand_union.proofs.order.scorer_in.Statement.{statement}
 use Rattle.block_wand_union.proofs.order.scorer_in.Tie as tie

@@ -1,7 +1,7 @@
 -- `bound::block_max_score` meets its contract: the pair of a full block, the scores of a loaded tail, the list bound of one that is not loaded.
 use native.Mathlib.Omega.{arith}
 use borrow.Author.Needs.{needs}
-use Rattle.postings.proofs.Readers.{packed-info, tail-info}
+use Rattle.skip_reader.proofs.Readers.{packed-info, tail-info}
 use Rattle.postings.proofs.BlockBounds.{full-bound, unloaded-bound, loaded-bound}
 use Rattle.postings.proofs.bound.block_max_score.Statement.{statement}
 use Rattle.postings.proofs.bound.block_max_score.Tie as tie

@@ -4,7 +4,7 @@ use native.Mathlib.Omega.{arith}
 use lib.Dec.{eqb}
 use lib.ListN.{getD}
 use borrow.Author.Needs.{needs}
-use Rattle.postings.specs.declared.skip.SkipReader.{SkipReader}
+use Rattle.skip_reader.specs.declared.skip.SkipReader.{SkipReader}
 use Rattle.slot_rows.specs.Inner.Rows.{postingsIn}
 use Rattle.slot_rows.proofs.Rows.{previous-small, offset-is, previous-is}
 use Rattle.slot_rows.proofs.place.postings_of.Statement.{statement}

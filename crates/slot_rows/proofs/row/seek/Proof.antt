@@ -2,7 +2,7 @@
 use Prim.Native.Nat.{_<_}
 use native.Mathlib.Omega.{arith}
 use borrow.Author.Needs.{needs}
-use Rattle.postings.proofs.Blocks.{decoded-sorted}
+use Rattle.skip_reader.proofs.Blocks.{decoded-sorted}
 use Rattle.slot_rows.proofs.Rows.{cur-inside, seeks-here, seeks-next, seeks-within, within-inside}
 use Rattle.slot_rows.proofs.row.seek.Statement.{statement}
 use Rattle.slot_rows.proofs.row.seek.Tie as tie

@@ -1,7 +1,7 @@
 -- `SegmentPostings::advance` meets its contract: the next place, or the first of the next block.
 use native.Mathlib.Omega.{arith}
 use borrow.Author.Needs.{needs}
-use Rattle.postings.proofs.Readers.{stands-on}
+use Rattle.skip_reader.proofs.Readers.{stands-on}
 use Rattle.postings.proofs.Moves.{advanced-in, advanced-on}
 use Rattle.postings.proofs.cursor.SegmentPostings.advance.Statement.{statement}
 use Rattle.postings.proofs.cursor.SegmentPostings.advance.Tie as tie

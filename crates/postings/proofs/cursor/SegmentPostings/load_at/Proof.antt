@@ -1,5 +1,5 @@
 -- `SegmentPostings::load_at` meets its contract: in a sorted block the count of documents below the target is the first place from it on.
-use Rattle.postings.proofs.Blocks.{decoded-sorted}
+use Rattle.skip_reader.proofs.Blocks.{decoded-sorted}
 use Rattle.postings.proofs.Moves.{lands}
 use Rattle.postings.proofs.cursor.SegmentPostings.load_at.Statement.{statement}
 use Rattle.postings.proofs.cursor.SegmentPostings.load_at.Tie as tie

@@ -1,5 +1,5 @@
 -- `SegmentPostings::open` meets its contract: the first block is loaded, and its first place is the list's.
-use Rattle.postings.proofs.Readers.{stands-on}
+use Rattle.skip_reader.proofs.Readers.{stands-on}
 use Rattle.postings.proofs.Moves.{opened}
 use Rattle.postings.proofs.cursor.SegmentPostings.open.Statement.{statement}
 use Rattle.postings.proofs.cursor.SegmentPostings.open.Tie as tie

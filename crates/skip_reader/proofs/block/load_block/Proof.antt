@@ -3,10 +3,10 @@ use mathlib.Core.Path.{sym, _∙_}
 use native.Mathlib.Nat.{le-refl}
 use native.Mathlib.Omega.{arith}
 use borrow.Author.Needs.{needs}
-use Rattle.postings.proofs.Readers.{packed-info, tail-info}
-use Rattle.postings.proofs.Blocks.{right-here, place-here, full-here, on-tail, loaded-is, empty-is}
-use Rattle.postings.proofs.block.load_block.Statement.{statement}
-use Rattle.postings.proofs.block.load_block.Tie as tie
+use Rattle.skip_reader.proofs.Readers.{packed-info, tail-info}
+use Rattle.skip_reader.proofs.Blocks.{right-here, place-here, full-here, on-tail, loaded-is, empty-is}
+use Rattle.skip_reader.proofs.block.load_block.Statement.{statement}
+use Rattle.skip_reader.proofs.block.load_block.Tie as tie
 
 enum-told : tie.Need-enum-told
 enum-told c = search needs

@@ -7,7 +7,7 @@ use Rattle.notefile.specs.Parts.{partOf}
 use Rattle.notefile.specs.Refusal.{fileRefusal}
 use Rattle.notefile.proofs.Accepted.{header-right, list-accepted, list-blocks, list-limits}
 use Rattle.notefile.proofs.Headers.{few-documents}
-use Rattle.postings.specs.Inner.Decoded.{ListIn}
+use Rattle.skip_reader.specs.Inner.Decoded.{ListIn}
 
 pub list-in : (file : List ℕ) → fileRefusal file ≡ 0 → (l : ℕ) → l < listCount file → ListIn file (partOf file l)
 list-in file accepted l h = record {

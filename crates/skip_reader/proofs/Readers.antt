@@ -21,10 +21,10 @@ use Rattle.notefile.specs.declared.skip.SkipEntry.{SkipEntry}
 use Rattle.notefile.proofs.FullBlocks.{packed-in}
 use Rattle.notefile.proofs.ListLaws.{last-is}
 use Rattle.decoded.specs.Lists.{listOf}
-use Rattle.postings.specs.Inner.Decoded.{ListIn}
-use Rattle.postings.specs.Inner.Reader.{remaining, lastIn, previousIn, placeIn, infoIn, readerAt, Stands, Sought}
-use Rattle.postings.specs.declared.skip.BlockInfo.the-variants.{BitPacked, VInt}
-use Rattle.postings.specs.declared.skip.SkipReader.{SkipReader}
+use Rattle.skip_reader.specs.Inner.Decoded.{ListIn}
+use Rattle.skip_reader.specs.Inner.Reader.{remaining, lastIn, previousIn, placeIn, infoIn, readerAt, Stands, Sought}
+use Rattle.skip_reader.specs.declared.skip.BlockInfo.the-variants.{BitPacked, VInt}
+use Rattle.skip_reader.specs.declared.skip.SkipReader.{SkipReader}
 
 -- fewer than 128 documents are left from the tail on, and only from there
 pub no-more : (x : Part) (b : ℕ) → remaining x b < 128 → fullBlocks x ≤ b

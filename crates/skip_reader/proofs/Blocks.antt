@@ -20,10 +20,10 @@ use Rattle.notefile.specs.Inner.Reads.{Loaded, Padded}
 use Rattle.notefile.specs.declared.part.Part.{Part}
 use Rattle.notefile.proofs.FullBlocks.{packed-in, previous-same}
 use Rattle.notefile.proofs.ListLaws.{place-in, list-doc-below, list-docs-rise}
-use Rattle.postings.specs.Inner.Decoded.{docIn, freqIn, Decoded, ListIn}
-use Rattle.postings.specs.Inner.Reader.{Stands, remaining}
-use Rattle.postings.specs.declared.skip.SkipReader.{SkipReader}
-use Rattle.postings.proofs.Readers.{place-is, previous-is}
+use Rattle.skip_reader.specs.Inner.Decoded.{docIn, freqIn, Decoded, ListIn}
+use Rattle.skip_reader.specs.Inner.Reader.{Stands, remaining}
+use Rattle.skip_reader.specs.declared.skip.SkipReader.{SkipReader}
+use Rattle.skip_reader.proofs.Readers.{place-is, previous-is}
 
 module _ {file : List ℕ} {x : Part} (L : ListIn file x) where
   -- the skip entry's last document serves as the previous one

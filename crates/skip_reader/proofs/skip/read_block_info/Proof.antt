@@ -1,8 +1,8 @@
 -- `skip::read_block_info` meets its contract: the tail or a block behind it where fewer than 128 documents are left, else the entry's block.
 use native.Mathlib.Omega.{arith}
-use Rattle.postings.proofs.Readers.{still-full, tail-reader, full-reader}
-use Rattle.postings.proofs.skip.read_block_info.Statement.{statement}
-use Rattle.postings.proofs.skip.read_block_info.Tie as tie
+use Rattle.skip_reader.proofs.Readers.{still-full, tail-reader, full-reader}
+use Rattle.skip_reader.proofs.skip.read_block_info.Statement.{statement}
+use Rattle.skip_reader.proofs.skip.read_block_info.Tie as tie
 
 returns : tie.Need-returns
 returns c = let a = c .before .before in tail-reader (a .args .file .now) (a .args .x) (a .args .b) (a .pre .1) (a .pre .2) (a .pre .3) (c .if1 .taken)

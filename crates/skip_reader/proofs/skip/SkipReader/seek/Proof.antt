@@ -1,9 +1,9 @@
 -- `SkipReader::seek` meets its contract: each turn leaves one block that ends before the target.
 use Prim.Native.Nat.{_-_}
 use native.Mathlib.Omega.{arith}
-use Rattle.postings.proofs.Readers.{Seeking, begun, at-tail, found, goes-on, block-is}
-use Rattle.postings.proofs.skip.SkipReader.seek.Statement.{statement}
-use Rattle.postings.proofs.skip.SkipReader.seek.Tie as tie
+use Rattle.skip_reader.proofs.Readers.{Seeking, begun, at-tail, found, goes-on, block-is}
+use Rattle.skip_reader.proofs.skip.SkipReader.seek.Statement.{statement}
+use Rattle.skip_reader.proofs.skip.SkipReader.seek.Tie as tie
 
 abbrev Inv-loop : tie.InvT-loop
 Inv-loop file x target blocks reader₀ reader = Seeking file x target (reader₀ .block) reader

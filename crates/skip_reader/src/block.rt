@@ -6,8 +6,8 @@ use notefile::block::load_tail;
 use notefile::block::pad;
 use notefile::part::Part;
 ghost use Rattle.arrays.specs.Lent.{before, after};
-ghost use Rattle.postings.specs.Inner.Decoded.{Decoded, ListIn};
-ghost use Rattle.postings.specs.Inner.Reader.{Stands};
+ghost use Rattle.skip_reader.specs.Inner.Decoded.{Decoded, ListIn};
+ghost use Rattle.skip_reader.specs.Inner.Reader.{Stands};
 
 // The reader's block, filled up with TERMINATED. A tail of no documents has no bytes.
 pub fn load_block(

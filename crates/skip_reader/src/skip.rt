@@ -6,8 +6,8 @@ ghost use mathlib.Core.Path.{_≡_};
 ghost use Prim.Native.Nat.{suc, _<_};
 ghost use Rattle.arrays.specs.Lent.{before};
 ghost use Rattle.notefile.specs.Inner.Given.{BlocksIn};
-ghost use Rattle.postings.specs.Inner.Decoded.{ListIn};
-ghost use Rattle.postings.specs.Inner.Reader.{Sought, Stands, placeIn, previousIn, readerAt, remaining};
+ghost use Rattle.skip_reader.specs.Inner.Decoded.{ListIn};
+ghost use Rattle.skip_reader.specs.Inner.Reader.{Sought, Stands, placeIn, previousIn, readerAt, remaining};
 
 // What the reader knows of its block: of a packed one the widths and the pair of codes of its bound, of the tail its count.
 pub enum BlockInfo {

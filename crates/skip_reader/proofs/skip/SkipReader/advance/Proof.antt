@@ -2,9 +2,9 @@
 use native.Mathlib.Omega.{arith}
 use native.Mathlib.Numerals.{add-one}
 use borrow.Author.Needs.{needs}
-use Rattle.postings.proofs.Readers.{packed-info, tail-info, narrow, ends-inside, next-place, next-previous, next-left, left-full, behind-place, behind-previous, behind-left}
-use Rattle.postings.proofs.skip.SkipReader.advance.Statement.{statement}
-use Rattle.postings.proofs.skip.SkipReader.advance.Tie as tie
+use Rattle.skip_reader.proofs.Readers.{packed-info, tail-info, narrow, ends-inside, next-place, next-previous, next-left, left-full, behind-place, behind-previous, behind-left}
+use Rattle.skip_reader.proofs.skip.SkipReader.advance.Statement.{statement}
+use Rattle.skip_reader.proofs.skip.SkipReader.advance.Tie as tie
 
 add-b : tie.Need-add-b
 add-b c = search needs

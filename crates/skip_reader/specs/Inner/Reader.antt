@@ -11,9 +11,9 @@ use Rattle.notefile.specs.Lists.{fullBlocks, isFull, blockAt}
 use Rattle.notefile.specs.Inner.Structs.{lastBefore}
 use Rattle.notefile.specs.declared.part.Part.{Part}
 use Rattle.decoded.specs.Lists.{listOf}
-use Rattle.postings.specs.declared.skip.BlockInfo.{BlockInfo}
-use Rattle.postings.specs.declared.skip.BlockInfo.the-variants.{BitPacked, VInt}
-use Rattle.postings.specs.declared.skip.SkipReader.{SkipReader}
+use Rattle.skip_reader.specs.declared.skip.BlockInfo.{BlockInfo}
+use Rattle.skip_reader.specs.declared.skip.BlockInfo.the-variants.{BitPacked, VInt}
+use Rattle.skip_reader.specs.declared.skip.SkipReader.{SkipReader}
 
 -- how many documents stand from block b on
 abbrev pub remaining : Part → ℕ → ℕ

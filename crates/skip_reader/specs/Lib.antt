@@ -1,0 +1,2 @@
+-- What the contracts of `skip_reader` cite.
+pub mod Inner

@@ -1,0 +1,3 @@
+// The skip reader of one list of an accepted file, and the blocks that are loaded where it stands.
+pub mod block;
+pub mod skip;
