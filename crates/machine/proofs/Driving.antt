@@ -43,16 +43,16 @@ module _ (file : List ℕ) (script : List Float) (lists : List (List ℕ)) (cach
   N = header.documents file
 
   -- a run on its way
-  pub record Driving (t : Threshold) (h : Tables) (m : Machine) (documents : List ℕ) (values : List Float) : Type 0 where
+  pub record Driving (t : Threshold) (best : List Float) (h : Tables) (m : Machine) (documents : List ℕ) (values : List Float) : Type 0 where
     pub stands : StandsIn file (task .similarity) lists caches h m
-    pub going : Going W (task .rule) script documents₀ scores₀ t documents values (at h m)
+    pub going : Going W (task .rule) script documents₀ scores₀ t best documents values (at h m)
     pub kept : KeptIn N (at h m)
 
   pub driving-begun : StandsIn file (task .similarity) lists caches old (task .machine) → KeptIn N (at old (task .machine))
-      → {t : Threshold} → Follows (task .rule) script [] t → Driving t old (task .machine) documents₀ scores₀
+      → {t : Threshold} {best : List Float} → Follows (task .rule) script [] t best → Driving t best old (task .machine) documents₀ scores₀
   driving-begun S k f = record { stands = S; going = run-begun W (task .rule) script documents₀ scores₀ f; kept = k }
 
-  module _ {t : Threshold} {h : Tables} {m : Machine} {documents : List ℕ} {values : List Float} (D : Driving t h m documents values) where
+  module _ {t : Threshold} {best : List Float} {h : Tables} {m : Machine} {documents : List ℕ} {values : List Float} (D : Driving t best h m documents values) where
     -- a row is left
     pub has-row : (t .reports ≡ rowsOf documents₀ scores₀ → ⊥) → (t .reports < rowsOf documents₀ scores₀) × (t .reports < length documents) × (t .reports < length values)
     has-row ne =
@@ -73,8 +73,8 @@ module _ (file : List ℕ) (script : List Float) (lists : List (List ℕ)) (cach
 
       -- a report that has a row
       pub reports-on : {doc : ℕ} {score : Float} → r .event ≡ Report doc score → (t .reports ≡ rowsOf documents₀ scores₀ → ⊥)
-          → {t′ : Threshold} {documents′ : List ℕ} {values′ : List Float} → Reported (task .rule) script t doc score documents values t′ documents′ values′
-          → Driving t′ h′ (r .machine) documents′ values′
+          → {t′ : Threshold} {best′ : List Float} {documents′ : List ℕ} {values′ : List Float}
+          → Reported (task .rule) script doc score t best documents values t′ best′ documents′ values′ → Driving t′ best′ h′ (r .machine) documents′ values′
       reports-on e ne R = record {
         stands = G .stands;
         going = went-reports W (task .rule) script documents₀ scores₀ (D .going) (went-as e) (has-row ne .0) R;
@@ -103,7 +103,7 @@ module _ (file : List ℕ) (script : List Float) (lists : List (List ℕ)) (cach
           (record { stands = G .stands; ran = went-over W (task .rule) script documents₀ scores₀ (D .going) (went-as e) })
 
       -- turns that were taken without a report
-      pub pauses-on : r .event ≡ Paused → Driving t h′ (r .machine) documents values
+      pub pauses-on : r .event ≡ Paused → Driving t best h′ (r .machine) documents values
       pauses-on e = record { stands = G .stands; going = went-paused W (task .rule) script documents₀ scores₀ (D .going) (went-as e); kept = near .0 }
 
       pub pauses-nearer : r .event ≡ Paused → 0 < turns → costIn N (at h′ (r .machine)) < costIn N (at h m)

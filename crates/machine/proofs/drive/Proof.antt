@@ -1,6 +1,7 @@
 -- `drive` meets its contract: between two turns of its loop the run has gone its route so far, and has a row for each report.
 use mathlib.Core.Path.{sym, _∙_}
 use native.Mathlib.Omega.{arith}
+use lib.Ieee.{ofBits}
 use borrow.Author.Needs.{needs}
 use Rattle.notefile.specs.Header as header
 use Rattle.reports.proofs.RowLaws.{documents-long, scores-long}
@@ -11,12 +12,12 @@ use Rattle.machine.proofs.drive.Statement.{statement}
 use Rattle.machine.proofs.drive.Tie as tie
 
 abbrev Inv-loop : tie.InvT-loop
-Inv-loop file script lists caches order₀ places₀ docs₀ freqs₀ floats₀ documents₀ scores₀ similarity rule room machine₀ threshold₀ order places docs freqs floats documents scores machine threshold =
+Inv-loop file script lists caches order₀ places₀ docs₀ freqs₀ floats₀ documents₀ scores₀ similarity rule room machine₀ t₀ best₀ order places docs freqs floats documents scores machine t best =
     Driving file script lists caches (record { similarity = similarity; machine = machine₀; rule = rule }) (tables order₀ places₀ docs₀ freqs₀ floats₀) documents₀ scores₀
-    threshold (tables order places docs freqs floats) machine documents scores
+    t best (tables order places docs freqs floats) machine documents scores
 
 abbrev μ-loop : tie.MeasureT-loop
-μ-loop file script lists caches order₀ places₀ docs₀ freqs₀ floats₀ documents₀ scores₀ similarity rule room machine₀ threshold₀ order places docs freqs floats documents scores machine threshold =
+μ-loop file script lists caches order₀ places₀ docs₀ freqs₀ floats₀ documents₀ scores₀ similarity rule room machine₀ t₀ best₀ order places docs freqs floats documents scores machine t best =
     costIn (header.documents file) (placeIn file similarity lists caches (tables order places docs freqs floats) machine)
 
 -- the places that the answers look back to
@@ -36,6 +37,7 @@ new-requires : tie.Need-new-requires Inv-loop μ-loop
 new-requires c κs = start-of c .pre .1
 
 loop-holds : tie.Need-loop-holds Inv-loop μ-loop
+unfolding ofBits
 loop-holds c =
     let a = start-of (c .before) in
     driving-begun (a .args .file .now) (a .args .script .now) (a .args .lists .now) (a .args .caches .now) (a .args .task) _ _ _ (a .pre .2) (a .pre .3) (c .new .ensures (a .args .script .now))
@@ -67,15 +69,15 @@ returns c =
 
 report-requires : tie.Need-report-requires Inv-loop μ-loop
 report-requires c κs =
-    let f = c .before .before in
+    let f = c .before .before .before in
     let l = loop-of (reported-of (f .before) .before .before) in
     let w = l .before .before in
     let r = has-row _ _ _ _ _ _ _ _ (l .loop .inv) (λ z. f .if1 .left (z ∙ sym (w .rows .ensures))) in
-    (start-of w .pre .1, r .1, r .2)
+    (start-of w .pre .1, l .loop .inv .going .kept .follows .long, r .1, r .2)
 
 loop-less : tie.Need-loop-less Inv-loop μ-loop
 loop-less c =
-    let f = c .before .before .before .before .before .before .before in
+    let f = c .before .before .before .before .before .before .before .before in
     let e = reported-of (f .before) in
     let g = e .before .before in
     reports-nearer _ _ _ _ _ _ _ _ (loop-of g .loop .inv) (g .go-on .ensures) (e .event .given .1)
@@ -83,7 +85,7 @@ loop-less c =
 loop-again : tie.Need-loop-again Inv-loop μ-loop
 loop-again c =
     let p = c .before .before .before .before in
-    let f = p .before .before .before in
+    let f = p .before .before .before .before in
     let e = reported-of (f .before) in
     let g = e .before .before in
     let l = loop-of g in
