@@ -7,7 +7,7 @@ use crate::data::Collection;
 use crate::file::{write, Packed};
 
 const SEED: u64 = 7;
-const MOST_LISTS: usize = 16;
+pub const MOST_LISTS: usize = 16;
 const MOST_DOCUMENTS: usize = 1_048_576;
 const SHORTEST: f64 = 50_000.0;
 const LONGEST: f64 = 800_000.0;
@@ -45,12 +45,12 @@ impl Corpus {
         Corpus::of_lengths(MOST_DOCUMENTS, (0..MOST_LISTS as i32).map(length))
     }
 
-    /// A file of about so many postings: always sixteen lists that hold 60 in 100 documents.
-    pub fn of_postings(postings: usize) -> Prepared {
-        let length = postings / MOST_LISTS;
+    /// A file of about so many postings, in lists that hold 60 in 100 documents each.
+    pub fn of_postings(lists: usize, postings: usize) -> Prepared {
+        let length = postings / lists;
         let documents = (length * 5 / 3).min(MOST_DOCUMENTS);
-        let corpus = Corpus::of_lengths(documents, (0..MOST_LISTS).map(|_| length));
-        corpus.prepare(MOST_LISTS)
+        let corpus = Corpus::of_lengths(documents, (0..lists).map(|_| length));
+        corpus.file_of(&corpus.lists.iter().collect::<Vec<_>>())
     }
 
     /// A file with these many of the lists and no others, from the shortest to the longest in even
@@ -60,10 +60,13 @@ impl Corpus {
             1 => MOST_LISTS / 2,
             _ => i * (MOST_LISTS - 1) / (lists - 1),
         };
-        let chosen: Vec<&Packed> = (0..lists).map(|i| &self.lists[place(i)]).collect();
-        let file = write(&self.collection, &chosen);
+        self.file_of(&(0..lists).map(|i| &self.lists[place(i)]).collect::<Vec<_>>())
+    }
+
+    fn file_of(&self, chosen: &[&Packed]) -> Prepared {
+        let file = write(&self.collection, chosen);
         Prepared {
-            lists,
+            lists: chosen.len(),
             postings: chosen.iter().map(|list| list.count).sum(),
             source: Source::read(&file),
             file,

@@ -3,13 +3,13 @@
 use std::ptr;
 
 use oracle::archive::{c, SKIPPING};
-use oracle::case::Case;
+use oracle::case::{Case, BEST_K};
 use oracle::engine::{self, Source};
 
 use crate::check;
 
-/// Rows enough for every report of a best 64.
-const ROWS: usize = 1 << 16;
+/// A row for every document.
+const ROWS: usize = 1 << 20;
 
 pub struct Rows {
     documents: Vec<u32>,
@@ -72,12 +72,18 @@ pub fn our_run(file: &[u8], case: &Case, rows: &mut Rows) -> u32 {
     code
 }
 
-/// The published run over opened bytes; nothing is checked.
+/// The published run over opened bytes, by best k or a fixed threshold; nothing is checked.
 pub fn rust_run(source: &Source, case: &Case, rows: &mut Rows) {
+    rows.count = 0;
+    if case.rule != BEST_K {
+        return engine::rank(source, case, &mut |document, score| {
+            rows.push(document, score);
+            case.start
+        });
+    }
     let k = case.k as usize;
     // The best scores so far, the highest first.
     let mut best: Vec<f32> = Vec::with_capacity(k + 1);
-    rows.count = 0;
     engine::rank(source, case, &mut |document, score| {
         rows.push(document, score);
         let place = best.partition_point(|&better| better >= score);

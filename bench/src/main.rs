@@ -11,11 +11,12 @@ mod options;
 mod saved;
 mod tables;
 
+use std::cell::LazyCell;
 use std::collections::HashMap;
 use std::process::ExitCode;
 use std::time::Duration;
 
-use corpus::{Corpus, Prepared};
+use corpus::{Corpus, Prepared, MOST_LISTS};
 use engines::{our_run, rust_run, Rows};
 use measure::{Shape, Times, LISTS};
 use options::{Loop, Options, Work};
@@ -30,32 +31,35 @@ const CASES: u64 = 5_000;
 fn time_runs(options: &Options) -> Result<Vec<RunRow>, String> {
     let wanted = |shape: &Shape| options.only.iter().all(|word| shape.words().contains(word));
     let shapes: Vec<Shape> = Shape::all().into_iter().filter(wanted).collect();
-    if shapes.is_empty() {
-        return Ok(Vec::new());
-    }
-    let corpus = Corpus::new();
-    let files: HashMap<usize, Prepared> =
-        LISTS.into_iter().map(|lists| (lists, corpus.prepare(lists))).collect();
+    let corpus = LazyCell::new(Corpus::new);
+    let mut files: HashMap<(usize, Option<usize>), Prepared> = HashMap::new();
     let mut rows = Vec::new();
     for shape in shapes {
-        let file = &files[&shape.lists];
+        let file = files.entry((shape.lists, shape.small)).or_insert_with(|| match shape.small {
+            Some(postings) => Corpus::of_postings(shape.lists, postings),
+            None => corpus.prepare(shape.lists),
+        });
         measure::same_check(&file.file)?;
         measure::same_rows(file, &shape)?;
         rows.push(RunRow { shape, postings: file.postings, times: Times::NONE });
     }
     for _ in 0..options.rounds {
         for row in &mut rows {
-            measure::runs(&files[&row.shape.lists], &row.shape, &mut row.times);
+            let Shape { lists, small, .. } = row.shape;
+            measure::runs(&files[&(lists, small)], &row.shape, &mut row.times);
         }
     }
     Ok(rows)
 }
 
-/// The check of each file that was run on: the least time over all of its rows.
+/// The check of each large file that was run on: the least time over all of its rows.
 fn checks_of(rows: &[RunRow]) -> Vec<CheckRow> {
     let mut checks = Vec::new();
     for lists in LISTS {
-        let of_file: Vec<&RunRow> = rows.iter().filter(|row| row.shape.lists == lists).collect();
+        let of_file: Vec<&RunRow> = rows
+            .iter()
+            .filter(|row| row.shape.lists == lists && row.shape.small.is_none())
+            .collect();
         let mut times = Times::NONE;
         for row in &of_file {
             times.our_check = times.our_check.min(row.times.our_check);
@@ -72,7 +76,7 @@ fn time_growth(options: &Options) -> Result<Vec<CheckRow>, String> {
     }
     let powers = if options.quick { 4..=6 } else { 4..=7 };
     let files: Vec<Prepared> =
-        powers.map(|power| Corpus::of_postings(10usize.pow(power))).collect();
+        powers.map(|power| Corpus::of_postings(MOST_LISTS, 10usize.pow(power))).collect();
     let mut rows = Vec::new();
     for file in &files {
         measure::same_check(&file.file)?;
@@ -106,6 +110,7 @@ fn print_tables(options: &Options) -> Result<(), String> {
     }
     if !runs.is_empty() {
         tables::runs(&runs, earlier.as_ref());
+        tables::small(&runs);
         tables::growth(&runs);
     }
     tables::targets(&checks, &runs);

@@ -3,7 +3,7 @@
 use std::hint::black_box;
 use std::time::Duration;
 
-use oracle::case::{Case, BEST_K, INTERSECTION, SINGLE, STEPPED, UNION, UNSTEPPED};
+use oracle::case::{Case, BEST_K, INTERSECTION, SCRIPT, SINGLE, STEPPED, UNION, UNSTEPPED};
 use oracle::{generate, plain};
 
 use crate::clock;
@@ -13,6 +13,9 @@ use crate::engines::{our_check, our_run, rust_check, rust_run, Rows};
 /// The least that is spent on a row before the next has its turn.
 const TURN: Duration = Duration::from_millis(50);
 
+/// Calls on a smaller file are timed several at once, about so many postings in all.
+const TIMED: usize = 100_000;
+
 pub const LISTS: [usize; 7] = [1, 2, 3, 5, 8, 12, 16];
 
 /// One run that is timed.
@@ -20,8 +23,11 @@ pub const LISTS: [usize; 7] = [1, 2, 3, 5, 8, 12, 16];
 pub struct Shape {
     pub mode: u32,
     pub lists: usize,
-    pub k: u32,
+    /// None: the threshold stays 0, and every match is a report.
+    pub best: Option<u32>,
     pub scoring: u32,
+    /// The postings of a small file, about so many; None: a file of the corpus.
+    pub small: Option<usize>,
 }
 
 /// Nanoseconds of one call, the least so far.
@@ -61,27 +67,43 @@ impl Shape {
         for (mode, least, most) in [(SINGLE, 1, 1), (UNION, 1, 16), (INTERSECTION, 2, 16)] {
             for lists in LISTS.into_iter().filter(|&lists| lists >= least && lists <= most) {
                 for k in [10, 64] {
-                    shapes.extend([UNSTEPPED, STEPPED].map(|scoring| Shape {
-                        mode,
-                        lists,
-                        k,
-                        scoring,
-                    }));
+                    shapes.extend(Shape::in_both_scorings(mode, lists, Some(k), None));
                 }
+            }
+        }
+        shapes.extend(Shape::in_both_scorings(UNION, 3, None, None));
+        for postings in [1_000, 10_000] {
+            for (mode, lists) in [(SINGLE, 1), (UNION, 2), (UNION, 3), (INTERSECTION, 2)] {
+                shapes.extend(Shape::in_both_scorings(mode, lists, Some(10), Some(postings)));
             }
         }
         shapes
     }
 
+    fn in_both_scorings(
+        mode: u32,
+        lists: usize,
+        best: Option<u32>,
+        small: Option<usize>,
+    ) -> [Shape; 2] {
+        [UNSTEPPED, STEPPED].map(|scoring| Shape { mode, lists, best, scoring, small })
+    }
+
     /// How it is named in tables, filters and saved times: no two words of it can be mistaken.
-    pub fn words(&self) -> [String; 4] {
+    pub fn words(&self) -> Vec<String> {
         let mode = match self.mode {
             UNION => "union",
             INTERSECTION => "intersection",
             _ => "single",
         };
         let scoring = if self.scoring == STEPPED { "stepped" } else { "unstepped" };
-        [mode.into(), self.lists.to_string(), self.k.to_string(), scoring.into()]
+        let best = self.best.map_or("every".to_string(), |k| k.to_string());
+        let mut words = vec![mode.into(), self.lists.to_string(), best, scoring.into()];
+        match self.small {
+            Some(postings) => words.extend(["small".into(), postings.to_string()]),
+            None => words.push("large".into()),
+        }
+        words
     }
 
     /// The file is handed over beside the case.
@@ -90,28 +112,30 @@ impl Shape {
             query: (0..self.lists as u32).collect(),
             mode: self.mode,
             scoring: self.scoring,
-            rule: BEST_K,
-            k: self.k,
+            rule: if self.best.is_some() { BEST_K } else { SCRIPT },
+            k: self.best.unwrap_or(0),
             ..Case::default()
         }
     }
 }
 
-/// The time of the faster of two calls: the first may find the caches full of other work.
-fn least(time: &mut f64, mut call: impl FnMut()) {
+/// The time of a call on this file, by the faster of two goes: the first may find the caches full
+/// of other work.
+fn least(time: &mut f64, prepared: &Prepared, mut call: impl FnMut()) {
+    let calls = (TIMED / prepared.postings).max(1);
     for _ in 0..2 {
         let start = clock::now();
-        call();
-        *time = time.min((clock::now() - start).as_nanos() as f64);
+        (0..calls).for_each(|_| call());
+        *time = time.min((clock::now() - start).as_nanos() as f64 / calls as f64);
     }
 }
 
-fn time_checks(file: &[u8], times: &mut Times) {
-    least(&mut times.our_check, || {
-        black_box(our_check(black_box(file)));
+fn time_checks(prepared: &Prepared, times: &mut Times) {
+    least(&mut times.our_check, prepared, || {
+        black_box(our_check(black_box(&prepared.file)));
     });
-    least(&mut times.rust_check, || {
-        black_box(rust_check(black_box(file)));
+    least(&mut times.rust_check, prepared, || {
+        black_box(rust_check(black_box(&prepared.file)));
     });
 }
 
@@ -127,18 +151,20 @@ fn for_a_turn(mut calls: impl FnMut()) {
 
 /// The checks alone.
 pub fn checks(prepared: &Prepared, times: &mut Times) {
-    for_a_turn(|| time_checks(&prepared.file, times));
+    for_a_turn(|| time_checks(prepared, times));
 }
 
 /// The checks and the runs, in close turns.
 pub fn runs(prepared: &Prepared, shape: &Shape, times: &mut Times) {
     let (case, mut rows) = (shape.case(), Rows::new());
     for_a_turn(|| {
-        time_checks(&prepared.file, times);
-        least(&mut times.our_run, || {
+        time_checks(prepared, times);
+        least(&mut times.our_run, prepared, || {
             black_box(our_run(black_box(&prepared.file), &case, &mut rows));
         });
-        least(&mut times.rust_run, || rust_run(black_box(&prepared.source), &case, &mut rows));
+        least(&mut times.rust_run, prepared, || {
+            rust_run(black_box(&prepared.source), &case, &mut rows);
+        });
     });
 }
 

@@ -7,11 +7,13 @@ use crate::measure::Shape;
 pub const USAGE: &str = "\
 run [ROUNDS]             every table; each time is the least of these rounds (5)
     --quick              two rounds, and no file over a million postings
-    --only WORD,WORD     only rows with all of these words, as union,8,10,stepped; or check
+    --only WORD,WORD     only rows with all of these words, as union,8,10,stepped; large or small
+                         for the file, 1000 or 10000 for its postings, every for a threshold that
+                         stays 0; or check alone
     --save FILE          keeps the times
     --against FILE       adds the ranking's ratio now over then, by times kept earlier
-run --loop MODE LISTS K SCORING SECONDS [ours|rust]
-                         runs one row again and again, for a profiler";
+run --loop MODE LISTS BEST SCORING SECONDS [ours|rust]
+                         runs one row of a large file again and again, for a profiler";
 
 pub struct Options {
     pub rounds: u32,
@@ -56,7 +58,7 @@ fn read_tables(words: &[String]) -> Option<Options> {
 }
 
 fn read_loop(words: &[String]) -> Option<Loop> {
-    let [mode, lists, k, scoring, seconds, engine @ ..] = words else {
+    let [mode, lists, best, scoring, seconds, engine @ ..] = words else {
         return None;
     };
     let shape = Shape {
@@ -67,8 +69,12 @@ fn read_loop(words: &[String]) -> Option<Loop> {
             _ => return None,
         },
         lists: lists.parse().ok().filter(|lists| (1..=16).contains(lists))?,
-        k: k.parse().ok().filter(|k| (1..=64).contains(k))?,
+        best: match best.as_str() {
+            "every" => None,
+            k => Some(k.parse().ok().filter(|k| (1..=64).contains(k))?),
+        },
         scoring: if scoring == "stepped" { STEPPED } else { UNSTEPPED },
+        small: None,
     };
     let ours = engine.first().is_none_or(|engine| engine != "rust");
     Some(Loop { shape, seconds: seconds.parse().ok()?, ours })

@@ -19,11 +19,12 @@ pub fn save(path: &str, rows: &[RunRow]) -> Result<(), String> {
 
 fn read_line(line: &str) -> Option<(String, Times)> {
     let words: Vec<&str> = line.split(' ').collect();
-    let times: Vec<f64> = words.get(4..)?.iter().filter_map(|word| word.parse().ok()).collect();
+    let (shape, times) = words.split_at(words.len().checked_sub(4)?);
+    let times: Vec<f64> = times.iter().filter_map(|word| word.parse().ok()).collect();
     let &[our_check, rust_check, our_run, rust_run] = times.as_slice() else {
         return None;
     };
-    Some((words[..4].join(" "), Times { our_check, rust_check, our_run, rust_run }))
+    Some((shape.join(" "), Times { our_check, rust_check, our_run, rust_run }))
 }
 
 impl Saved {

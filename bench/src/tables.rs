@@ -1,5 +1,7 @@
 //! What is printed: tables, means, worst rows, and whether the targets are met.
 
+use oracle::case::UNION;
+
 use crate::measure::{Shape, Times};
 use crate::saved::Saved;
 
@@ -18,6 +20,19 @@ pub struct RunRow {
 
 fn ms(nanoseconds: f64) -> f64 {
     nanoseconds / 1e6
+}
+
+fn us(nanoseconds: f64) -> f64 {
+    nanoseconds / 1e3
+}
+
+/// Ours, the Rust's and their ratio.
+fn beside(ours: f64, rusts: f64, unit: fn(f64) -> f64) -> String {
+    format!("{:>9.3} {:>9.3} {:>6.2}", unit(ours), unit(rusts), ours / rusts)
+}
+
+fn of_files(rows: &[RunRow], small: bool) -> Vec<&RunRow> {
+    rows.iter().filter(|row| row.shape.small.is_some() == small).collect()
 }
 
 pub fn checks(title: &str, rows: &[CheckRow]) {
@@ -44,9 +59,13 @@ pub fn checks(title: &str, rows: &[CheckRow]) {
 
 /// Ranking alone, then check and ranking; with earlier times a last column.
 pub fn runs(rows: &[RunRow], earlier: Option<&Saved>) {
+    let rows = of_files(rows, false);
+    if rows.is_empty() {
+        return;
+    }
     println!("\nRuns: ranking alone, and the whole (check and ranking)\n");
     println!(
-        "{:<12} {:>5} {:>4} {:<9} {:>9} {:>9} {:>6} {:>9} {:>9} {:>6}{}",
+        "{:<12} {:>5} {:>5} {:<9} {:>9} {:>9} {:>6} {:>9} {:>9} {:>6}{}",
         "mode",
         "lists",
         "best",
@@ -60,15 +79,15 @@ pub fn runs(rows: &[RunRow], earlier: Option<&Saved>) {
         if earlier.is_some() { "  now/then" } else { "" }
     );
     for RunRow { shape, times, .. } in rows {
-        let [mode, lists, k, scoring] = shape.words();
+        let words = shape.words();
         print!(
-            "{mode:<12} {lists:>5} {k:>4} {scoring:<9} {:>9.3} {:>9.3} {:>6.2} {:>9.3} {:>9.3} {:>6.2}",
-            ms(times.our_ranking()),
-            ms(times.rust_run),
-            times.ranking_ratio(),
-            ms(times.our_run),
-            ms(times.rust_check + times.rust_run),
-            times.whole_ratio()
+            "{:<12} {:>5} {:>5} {:<9} {} {}",
+            words[0],
+            words[1],
+            words[2],
+            words[3],
+            beside(times.our_ranking(), times.rust_run, ms),
+            beside(times.our_run, times.rust_check + times.rust_run, ms)
         );
         match earlier.and_then(|saved| saved.get(shape)) {
             Some(then) => println!("  {:>8.2}", times.ranking_ratio() / then.ranking_ratio()),
@@ -77,9 +96,44 @@ pub fn runs(rows: &[RunRow], earlier: Option<&Saved>) {
     }
 }
 
+/// The check, then check and ranking, in microseconds.
+pub fn small(rows: &[RunRow]) {
+    let rows = of_files(rows, true);
+    if rows.is_empty() {
+        return;
+    }
+    println!("\nRuns on small files: the check, and the whole (check and ranking)\n");
+    println!(
+        "{:<12} {:>5} {:>5} {:<9} {:>8} {:>9} {:>9} {:>6} {:>9} {:>9} {:>6}",
+        "mode",
+        "lists",
+        "best",
+        "scoring",
+        "postings",
+        "check us",
+        "Rust us",
+        "ratio",
+        "whole us",
+        "Rust us",
+        "ratio"
+    );
+    for RunRow { shape, postings, times } in rows {
+        let words = shape.words();
+        println!(
+            "{:<12} {:>5} {:>5} {:<9} {postings:>8} {} {}",
+            words[0],
+            words[1],
+            words[2],
+            words[3],
+            beside(times.our_check, times.rust_check, us),
+            beside(times.our_run, times.rust_check + times.rust_run, us)
+        );
+    }
+}
+
 /// Best 10 unstepped by the number of lists.
 pub fn growth(rows: &[RunRow]) {
-    let wanted = |row: &&RunRow| row.shape.words()[2..] == ["10", "unstepped"];
+    let wanted = |row: &&RunRow| row.shape.words()[2..] == ["10", "unstepped", "large"];
     let rows: Vec<&RunRow> = rows.iter().filter(wanted).collect();
     if rows.is_empty() {
         return;
@@ -90,9 +144,11 @@ pub fn growth(rows: &[RunRow]) {
         "mode", "lists", "postings", "ours ms", "Rust ms", "ours ns/p", "Rust ns/p"
     );
     for RunRow { shape, postings, times } in rows {
-        let [mode, lists, ..] = shape.words();
+        let words = shape.words();
         println!(
-            "{mode:<12} {lists:>5} {postings:>10} {:>10.3} {:>10.3} {:>11.2} {:>11.2}",
+            "{:<12} {:>5} {postings:>10} {:>10.3} {:>10.3} {:>11.2} {:>11.2}",
+            words[0],
+            words[1],
             ms(times.our_ranking()),
             ms(times.rust_run),
             times.our_ranking() / *postings as f64,
@@ -136,13 +192,23 @@ pub fn targets(checks: &[CheckRow], runs: &[RunRow]) {
     let by_check = |row: &CheckRow| {
         (format!("{} lists, {} postings", row.lists, row.postings), row.times.check_ratio())
     };
-    let by_run = |ratio: fn(&Times) -> f64| {
-        runs.iter().map(|row| (row.shape.words().join(" "), ratio(&row.times))).collect::<Vec<_>>()
+    let by_run = |wanted: &dyn Fn(&Shape) -> bool, ratio: fn(&Times) -> f64| {
+        let rows = runs.iter().filter(|row| wanted(&row.shape));
+        rows.map(|row| (row.shape.words().join(" "), ratio(&row.times))).collect::<Vec<_>>()
     };
     let check = Target { name: "file check", mean: None, row: Some(0.8) };
     check.print(&checks.iter().map(by_check).collect::<Vec<_>>());
-    let ranking = Target { name: "ranking", mean: Some(1.6), row: Some(3.0) };
-    ranking.print(&by_run(Times::ranking_ratio));
+    let best = |shape: &Shape| shape.small.is_none() && shape.best.is_some();
+    let ranking = Target { name: "ranking", mean: Some(1.05), row: Some(1.4) };
+    ranking.print(&by_run(&best, Times::ranking_ratio));
+    for (name, lists, limit) in [("union of 2", 2, 1.2), ("union of 3", 3, 1.3)] {
+        let union = |shape: &Shape| best(shape) && shape.mode == UNION && shape.lists == lists;
+        Target { name, mean: None, row: Some(limit) }.print(&by_run(&union, Times::ranking_ratio));
+    }
+    let every = Target { name: "every match", mean: None, row: Some(1.6) };
+    every.print(&by_run(&|shape| shape.best.is_none(), Times::ranking_ratio));
     let whole = Target { name: "whole run", mean: None, row: Some(1.2) };
-    whole.print(&by_run(Times::whole_ratio));
+    whole.print(&by_run(&best, Times::whole_ratio));
+    let small = Target { name: "small files", mean: None, row: Some(1.3) };
+    small.print(&by_run(&|shape| shape.small.is_some(), Times::whole_ratio));
 }

@@ -43,22 +43,23 @@ module _ (file : List ℕ) (script : List Float) (lists : List (List ℕ)) (cach
   N = header.documents file
 
   -- a run on its way
-  pub record Driving (t : Threshold) (h : Tables) (m : Machine) (documents : List ℕ) (values : List Float) : Type 0 where
+  pub record Driving (t : Threshold) (best : List Float) (h : Tables) (m : Machine) (documents : List ℕ) (values : List Float) : Type 0 where
     pub stands : StandsIn file (task .similarity) lists caches h m
-    pub going : Going W (task .rule) script documents₀ scores₀ t documents values (at h m)
+    pub going : Going W (task .rule) script documents₀ scores₀ t best documents values (at h m)
     pub kept : KeptIn N (at h m)
 
   pub driving-begun : StandsIn file (task .similarity) lists caches old (task .machine) → KeptIn N (at old (task .machine))
-      → {t : Threshold} → Follows (task .rule) script [] t → Driving t old (task .machine) documents₀ scores₀
+      → {t : Threshold} {best : List Float} → Follows (task .rule) script [] t best → Driving t best old (task .machine) documents₀ scores₀
   driving-begun S k f = record { stands = S; going = run-begun W (task .rule) script documents₀ scores₀ f; kept = k }
 
-  module _ {t : Threshold} {h : Tables} {m : Machine} {documents : List ℕ} {values : List Float} (D : Driving t h m documents values) where
+  module _ {t : Threshold} {best : List Float} {h : Tables} {m : Machine} {documents : List ℕ} {values : List Float} (D : Driving t best h m documents values) where
     -- a row is left
-    pub has-row : (t .reports ≡ rowsOf documents₀ scores₀ → ⊥) → (t .reports < rowsOf documents₀ scores₀) × (t .reports < length documents) × (t .reports < length values)
-    has-row ne =
+    pub has-row : {room : ℕ} → (t .reports ≡ room → ⊥) → room ≡ rowsOf documents₀ scores₀
+        → (t .reports < rowsOf documents₀ scores₀) × (t .reports < length documents) × (t .reports < length values)
+    has-row ne g =
         let K = D .going .kept in
         let w = K .written in
-        let l : t .reports < rowsOf documents₀ scores₀ = lt-of-ne (omega (arith, w .fit, count-is K)) ne in
+        let l : t .reports < rowsOf documents₀ scores₀ = lt-of-ne (omega (arith, w .fit, count-is K)) (λ e. ne (e ∙ sym g)) in
         (l, omega (arith, l, documents-long w), omega (arith, l, scores-long w))
 
     module _ {turns : ℕ} {h′ : Tables} {r : Gone} (G : GoesOn file (task .similarity) lists caches (t .now) turns h m h′ r) where
@@ -72,12 +73,12 @@ module _ (file : List ℕ) (script : List Float) (lists : List (List ℕ)) (cach
       near = went-near (machineFrom (at h m)) (machine-nears N (at h m) (D .kept)) (t .now) (at h m) (r .event) (D .kept) (G .went)
 
       -- a report that has a row
-      pub reports-on : {doc : ℕ} {score : Float} → r .event ≡ Report doc score → (t .reports ≡ rowsOf documents₀ scores₀ → ⊥)
-          → {t′ : Threshold} {documents′ : List ℕ} {values′ : List Float} → Reported (task .rule) script t doc score documents values t′ documents′ values′
-          → Driving t′ h′ (r .machine) documents′ values′
-      reports-on e ne R = record {
+      pub reports-on : {doc : ℕ} {score : Float} → r .event ≡ Report doc score → {room : ℕ} → (t .reports ≡ room → ⊥) → room ≡ rowsOf documents₀ scores₀
+          → {t′ : Threshold} {best′ : List Float} {documents′ : List ℕ} {values′ : List Float}
+          → Reported (task .rule) script doc score t best documents values t′ best′ documents′ values′ → Driving t′ best′ h′ (r .machine) documents′ values′
+      reports-on e ne g R = record {
         stands = G .stands;
-        going = went-reports W (task .rule) script documents₀ scores₀ (D .going) (went-as e) (has-row ne .0) R;
+        going = went-reports W (task .rule) script documents₀ scores₀ (D .going) (went-as e) (has-row ne g .0) R;
         kept = near .0;
       }
 
@@ -103,7 +104,7 @@ module _ (file : List ℕ) (script : List Float) (lists : List (List ℕ)) (cach
           (record { stands = G .stands; ran = went-over W (task .rule) script documents₀ scores₀ (D .going) (went-as e) })
 
       -- turns that were taken without a report
-      pub pauses-on : r .event ≡ Paused → Driving t h′ (r .machine) documents values
+      pub pauses-on : r .event ≡ Paused → Driving t best h′ (r .machine) documents values
       pauses-on e = record { stands = G .stands; going = went-paused W (task .rule) script documents₀ scores₀ (D .going) (went-as e); kept = near .0 }
 
       pub pauses-nearer : r .event ≡ Paused → 0 < turns → costIn N (at h′ (r .machine)) < costIn N (at h m)

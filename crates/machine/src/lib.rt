@@ -208,7 +208,8 @@ pub fn drive(
     let rule = task.rule;
     let room = rows(documents, scores);
     let mut machine = task.machine;
-    let mut threshold = Threshold::new(rule);
+    let mut t = Threshold::new(rule);
+    let mut best = [0.0f32; 64];
     loop {
         let gone = go_on(
             file,
@@ -216,7 +217,7 @@ pub fn drive(
             machine,
             lists,
             caches,
-            threshold.now,
+            t.now,
             TURNS,
             order,
             places,
@@ -228,12 +229,12 @@ pub fn drive(
         let event = gone.event;
         match event {
             Event::Report(doc, score) => {
-                if threshold.reports == room {
+                if t.reports == room {
                     return stopped(machine, true, room);
                 }
-                threshold = report(rule, script, threshold, doc, score, documents, scores);
+                t = report(rule, script, t, doc, score, &mut best, documents, scores);
             }
-            Event::Over => return stopped(machine, false, threshold.reports),
+            Event::Over => return stopped(machine, false, t.reports),
             Event::Paused => {}
         }
     }

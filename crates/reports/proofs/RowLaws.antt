@@ -34,20 +34,20 @@ module _ {A B : Type 0} (f : A → B) (d : B) where
       ∙ sym (ap (λ (l : List B). l ++ drop (suc (length rs)) before) (map-snoc f rs x))
       ∙ ap (λ (k : ℕ). map f (rs ++ (x ∷ [])) ++ drop k before) (sym m)
 
-module _ {rule : Rule} {script : List Float} {rs : List (Report Float)} {documents₀ documents : List ℕ} {scores₀ values : List Float} {t : Threshold} where
+module _ {rule : Rule} {script : List Float} {rs : List (Report Float)} {documents₀ documents : List ℕ} {scores₀ values : List Float} {t : Threshold} {best : List Float} where
   -- the threshold of the moment is the callback's
-  pub threshold-is : Kept rule script rs documents₀ scores₀ t documents values → t .now ≡ callbackOf rule script .threshold rs
+  pub threshold-is : Kept rule script rs documents₀ scores₀ t best documents values → t .now ≡ callbackOf rule script .threshold rs
   threshold-is K = K .follows .now-is
 
   -- and so many rows are written
-  pub count-is : Kept rule script rs documents₀ scores₀ t documents values → t .reports ≡ length rs
+  pub count-is : Kept rule script rs documents₀ scores₀ t best documents values → t .reports ≡ length rs
   count-is K = K .follows .reports-is ∙ length-map rs (λ r. r .score)
 
   -- a report's row is the callback's next
-  pub one-more : {doc : ℕ} {score : Float} {r : Threshold} {documents′ : List ℕ} {values′ : List Float}
-      → Kept rule script rs documents₀ scores₀ t documents values → t .reports < rowsOf documents₀ scores₀
-      → Reported rule script t doc score documents values r documents′ values′
-      → Kept rule script (callbackOf rule script .call doc score rs) documents₀ scores₀ r documents′ values′
+  pub one-more : {doc : ℕ} {score : Float} {r : Threshold} {new : List Float} {documents′ : List ℕ} {values′ : List Float}
+      → Kept rule script rs documents₀ scores₀ t best documents values → t .reports < rowsOf documents₀ scores₀
+      → Reported rule script doc score t best documents values r new documents′ values′
+      → Kept rule script (callbackOf rule script .call doc score rs) documents₀ scores₀ r new documents′ values′
   one-more {doc} {score} K h R =
       let x : Report Float = record { doc = doc; score = score } in
       let n = count-is K in
@@ -61,7 +61,8 @@ module _ {rule : Rule} {script : List Float} {rs : List (Report Float)} {documen
       }
 
 -- before the first report
-pub begun : {rule : Rule} {script : List Float} {t : Threshold} (documents : List ℕ) (values : List Float) → Follows rule script [] t → Kept rule script [] documents values t documents values
+pub begun : {rule : Rule} {script : List Float} {t : Threshold} {best : List Float} (documents : List ℕ) (values : List Float) → Follows rule script [] t best
+    → Kept rule script [] documents values t best documents values
 begun documents values f = record { written = none-written documents values; follows = f }
 
 -- the buffers are as long as they were

@@ -55,15 +55,15 @@ module _ (W : Route Float) {Kept : W .Place → Type 0} {cost : W .Place → ℕ
   went-near {taken = taken} Paused k R = subst (Near taken) (sym (R .place-is)) (silent-near taken k (R .stood .0))
 
 module _ (W : Route Float) (rule : Rule) (script : List Float) (documents₀ : List ℕ) (scores₀ : List Float) where
-  abbrev Goes : Threshold → List ℕ → List Float → W .Place → Type 0
-  Goes t documents values p = Going W rule script documents₀ scores₀ t documents values p
+  abbrev Goes : Threshold → List Float → List ℕ → List Float → W .Place → Type 0
+  Goes t best documents values p = Going W rule script documents₀ scores₀ t best documents values p
 
   -- no step yet
-  pub run-begun : {t : Threshold} → Follows rule script [] t → Goes t documents₀ scores₀ (W .first)
+  pub run-begun : {t : Threshold} {best : List Float} → Follows rule script [] t best → Goes t best documents₀ scores₀ (W .first)
   run-begun f = record { steps = 0; place-is = refl; kept = begun documents₀ scores₀ f }
 
-  module _ {t : Threshold} {documents : List ℕ} {values : List Float} where
-    module _ {p : W .Place} (G : Goes t documents values p) where
+  module _ {t : Threshold} {best : List Float} {documents : List ℕ} {values : List Float} where
+    module _ {p : W .Place} (G : Goes t best documents values p) where
       -- the turn that the route takes next
       turn-is : W .turn (callbackOf rule script .threshold (runAfter W rule script (G .steps) .state)) (runAfter W rule script (G .steps) .place) ≡ W .turn (t .now) p
       turn-is = ap (λ (z : W .Place). W .turn (callbackOf rule script .threshold (runAfter W rule script (G .steps) .state)) z) (G .place-is) ∙ ap (λ (z : Float). W .turn z p) (sym (threshold-is (G .kept)))
@@ -72,13 +72,13 @@ module _ (W : Route Float) (rule : Rule) (script : List Float) (documents₀ : L
       next-is = ap (λ (z : Turn (W .Place) Float). z .next) turn-is
 
       -- a turn without a report
-      run-quiet : W .turn (t .now) p .due ≡ none → Goes t documents values (W .turn (t .now) p .next)
+      run-quiet : W .turn (t .now) p .due ≡ none → Goes t best documents values (W .turn (t .now) p .next)
       run-quiet e = record { steps = suc (G .steps); place-is = next-is; kept = rw (turn-is, e) (G .kept) }
 
       -- a turn whose report is written and told
-      run-reports : {doc : ℕ} {score : Float} {r : Threshold} {documents′ : List ℕ} {values′ : List Float}
+      run-reports : {doc : ℕ} {score : Float} {r : Threshold} {new : List Float} {documents′ : List ℕ} {values′ : List Float}
           → W .turn (t .now) p .due ≡ some (record { doc = doc; score = score }) → t .reports < rowsOf documents₀ scores₀
-          → Reported rule script t doc score documents values r documents′ values′ → Goes r documents′ values′ (W .turn (t .now) p .next)
+          → Reported rule script doc score t best documents values r new documents′ values′ → Goes r new documents′ values′ (W .turn (t .now) p .next)
       run-reports e h R = record { steps = suc (G .steps); place-is = next-is; kept = rw (turn-is, e) (one-more (G .kept) h R) }
 
       -- at the route's end
@@ -102,8 +102,8 @@ module _ (W : Route Float) (rule : Rule) (script : List Float) (documents₀ : L
         stopped = (sym (count-is (G .kept)) ∙ h, (x, ap (λ (z : Turn (W .Place) Float). z .due) turn-is ∙ e));
       }
 
-    module _ {p : W .Place} (G : Goes t documents values p) where
-      run-silent : (n : ℕ) → Silent (W .turn) (W .ended) (t .now) p n → Goes t documents values (afterTurns (W .turn) (W .ended) (t .now) p n)
+    module _ {p : W .Place} (G : Goes t best documents values p) where
+      run-silent : (n : ℕ) → Silent (W .turn) (W .ended) (t .now) p n → Goes t best documents values (afterTurns (W .turn) (W .ended) (t .now) p n)
       run-silent zero s = G
       run-silent (suc n) s = run-quiet (run-silent n (λ i h. s i (omega arith))) (s n (omega arith) .1)
 
@@ -113,11 +113,11 @@ module _ (W : Route Float) (rule : Rule) (script : List Float) (documents₀ : L
 
       module _ {turns taken : ℕ} {q : W .Place} where
         -- turns up to a report that is written and told
-        pub went-reports : {doc : ℕ} {score : Float} {r : Threshold} {documents′ : List ℕ} {values′ : List Float} → Went (W .turn) (W .ended) (t .now) p turns taken q (Report doc score)
-            → t .reports < rowsOf documents₀ scores₀ → Reported rule script t doc score documents values r documents′ values′ → Goes r documents′ values′ q
-        went-reports {r = r} {documents′} {values′} w h R =
+        pub went-reports : {doc : ℕ} {score : Float} {r : Threshold} {new : List Float} {documents′ : List ℕ} {values′ : List Float} → Went (W .turn) (W .ended) (t .now) p turns taken q (Report doc score)
+            → t .reports < rowsOf documents₀ scores₀ → Reported rule script doc score t best documents values r new documents′ values′ → Goes r new documents′ values′ q
+        went-reports {r = r} {new} {documents′} {values′} w h R =
             let s = w .stood in
-            subst (Goes r documents′ values′) (behind (s .0) (s .1) (w .place-is)) (run-reports (run-silent (s .0) (s .2)) (s .4) h R)
+            subst (Goes r new documents′ values′) (behind (s .0) (s .1) (w .place-is)) (run-reports (run-silent (s .0) (s .2)) (s .4) h R)
 
         -- up to one for which no row is left
         pub went-full : {doc : ℕ} {score : Float} → Went (W .turn) (W .ended) (t .now) p turns taken q (Report doc score) → t .reports ≡ rowsOf documents₀ scores₀
@@ -134,14 +134,14 @@ module _ (W : Route Float) (rule : Rule) (script : List Float) (documents₀ : L
             (run-ends (run-silent taken (w .stood .0)) (w .stood .1))
 
         -- or as many as were allowed
-        pub went-paused : Went (W .turn) (W .ended) (t .now) p turns taken q Paused → Goes t documents values q
-        went-paused w = subst (Goes t documents values) (sym (w .place-is)) (run-silent taken (w .stood .0))
+        pub went-paused : Went (W .turn) (W .ended) (t .now) p turns taken q Paused → Goes t best documents values q
+        went-paused w = subst (Goes t best documents values) (sym (w .place-is)) (run-silent taken (w .stood .0))
 
   -- ---- what a route keeps on its way
 
   module _ {Kept : W .Place → Type 0} {cost : W .Place → ℕ} (N : Nears W Kept cost) where
     -- each place of a run has it
-    pub run-kept : Stays W → {t : Threshold} {documents : List ℕ} {values : List Float} {p : W .Place} → Going W rule script documents₀ scores₀ t documents values p → Kept p
+    pub run-kept : Stays W → {t : Threshold} {best : List Float} {documents : List ℕ} {values : List Float} {p : W .Place} → Goes t best documents values p → Kept p
     run-kept still G = subst Kept (G .place-is) (always (G .steps))
       where
         always : (n : ℕ) → Kept (runAfter W rule script n .place)

@@ -33,15 +33,17 @@ pub fn report(
     t: Threshold,
     doc: u32,
     score: f32,
+    best: &mut [f32; 64],
     documents: &mut [u32],
     scores: &mut [f32],
 ) -> Threshold
-    requires { ⌜ Keeps rule × (t .reports < length (now documents)) × (t .reports < length (now scores)) ⌝ }
+    requires { ⌜ Keeps rule × (length (now best) ≡ 64) × (t .reports < length (now documents)) × (t .reports < length (now scores)) ⌝ }
     ensures { λ r.
-        ⌜ Reported rule (before script) t doc score (before documents) (before scores) r (after documents) (after scores) ⌝ }
+        ⌜ Reported rule (before script) doc score t (before best) (before documents) (before scores)
+        r (after best) (after documents) (after scores) ⌝ }
 {
     let row = t.reports;
     documents[row] = doc;
     scores[row] = score;
-    t.after(rule, script, score)
+    t.after(rule, script, score, best)
 }

@@ -1,22 +1,22 @@
 -- `drive` meets its contract: between two turns of its loop the run has gone its route so far, and has a row for each report.
-use mathlib.Core.Path.{sym, _∙_}
 use native.Mathlib.Omega.{arith}
+use lib.Ieee.{ofBits}
 use borrow.Author.Needs.{needs}
 use Rattle.notefile.specs.Header as header
 use Rattle.reports.proofs.RowLaws.{documents-long, scores-long}
-use Rattle.machine.specs.Inner.Stands.{tables, placeIn}
+use Rattle.machine.specs.Inner.Stands.{tables, placeIn, Tables}
 use Rattle.machine.proofs.Nearing.{costIn}
 use Rattle.machine.proofs.Driving.{Driving, driving-begun, has-row, pauses-nearer, pauses-on, reports-nearer, reports-on, stops-full, stops-over}
 use Rattle.machine.proofs.drive.Statement.{statement}
 use Rattle.machine.proofs.drive.Tie as tie
 
 abbrev Inv-loop : tie.InvT-loop
-Inv-loop file script lists caches order₀ places₀ docs₀ freqs₀ floats₀ documents₀ scores₀ similarity rule room machine₀ threshold₀ order places docs freqs floats documents scores machine threshold =
+Inv-loop file script lists caches order₀ places₀ docs₀ freqs₀ floats₀ documents₀ scores₀ similarity rule room machine₀ t₀ best₀ order places docs freqs floats documents scores machine t best =
     Driving file script lists caches (record { similarity = similarity; machine = machine₀; rule = rule }) (tables order₀ places₀ docs₀ freqs₀ floats₀) documents₀ scores₀
-    threshold (tables order places docs freqs floats) machine documents scores
+    t best (tables order places docs freqs floats) machine documents scores
 
 abbrev μ-loop : tie.MeasureT-loop
-μ-loop file script lists caches order₀ places₀ docs₀ freqs₀ floats₀ documents₀ scores₀ similarity rule room machine₀ threshold₀ order places docs freqs floats documents scores machine threshold =
+μ-loop file script lists caches order₀ places₀ docs₀ freqs₀ floats₀ documents₀ scores₀ similarity rule room machine₀ t₀ best₀ order places docs freqs floats documents scores machine t best =
     costIn (header.documents file) (placeIn file similarity lists caches (tables order places docs freqs floats) machine)
 
 -- the places that the answers look back to
@@ -25,6 +25,10 @@ start-of c = c .before .before .before .before .before .before .before .before
 
 abbrev loop-of : tie.After-go-on Inv-loop μ-loop → tie.At-loop Inv-loop μ-loop
 loop-of g = g .before .before .before .before .before .before
+
+-- the tables that `go_on` left
+abbrev left-by : tie.After-go-on Inv-loop μ-loop → Tables
+left-by g = let l = g .go-on .last .1 .1 .1 .1 .1 .1 .1 in tables (l .0) (l .1 .0) (l .1 .1 .0) (l .1 .1 .1 .0) (l .1 .1 .1 .1 .0)
 
 abbrev reported-of : tie.After-struct-known Inv-loop μ-loop → tie.After-event Inv-loop μ-loop
 reported-of c = c .before .before
@@ -36,6 +40,7 @@ new-requires : tie.Need-new-requires Inv-loop μ-loop
 new-requires c κs = start-of c .pre .1
 
 loop-holds : tie.Need-loop-holds Inv-loop μ-loop
+unfolding ofBits
 loop-holds c =
     let a = start-of (c .before) in
     driving-begun (a .args .file .now) (a .args .script .now) (a .args .lists .now) (a .args .caches .now) (a .args .task) _ _ _ (a .pre .2) (a .pre .3) (c .new .ensures (a .args .script .now))
@@ -63,31 +68,31 @@ returns c =
     let e = reported-of (t .before) in
     let g = e .before .before in
     let l = loop-of g in
-    stops-full _ _ _ _ _ _ _ _ (l .loop .inv) (g .go-on .ensures) (e .event .given .1) (t .if1 .taken) (l .before .before .rows .ensures) (c .stopped .ensures)
+    stops-full _ _ _ _ _ _ _ _ (l .loop .inv) {h′ = left-by g} (g .go-on .ensures) (e .event .given .1) (t .if1 .taken) (l .before .before .rows .ensures) (c .stopped .ensures)
 
 report-requires : tie.Need-report-requires Inv-loop μ-loop
 report-requires c κs =
-    let f = c .before .before in
+    let f = c .before .before .before in
     let l = loop-of (reported-of (f .before) .before .before) in
     let w = l .before .before in
-    let r = has-row _ _ _ _ _ _ _ _ (l .loop .inv) (λ z. f .if1 .left (z ∙ sym (w .rows .ensures))) in
-    (start-of w .pre .1, r .1, r .2)
+    let r = has-row _ _ _ _ _ _ _ _ (l .loop .inv) (f .if1 .left) (w .rows .ensures) in
+    (start-of w .pre .1, l .loop .inv .going .kept .follows .long, r .1, r .2)
 
 loop-less : tie.Need-loop-less Inv-loop μ-loop
 loop-less c =
-    let f = c .before .before .before .before .before .before .before in
+    let f = c .before .before .before .before .before .before .before .before in
     let e = reported-of (f .before) in
     let g = e .before .before in
-    reports-nearer _ _ _ _ _ _ _ _ (loop-of g .loop .inv) (g .go-on .ensures) (e .event .given .1)
+    reports-nearer _ _ _ _ _ _ _ _ (loop-of g .loop .inv) {h′ = left-by g} (g .go-on .ensures) (e .event .given .1)
 
 loop-again : tie.Need-loop-again Inv-loop μ-loop
 loop-again c =
     let p = c .before .before .before .before in
-    let f = p .before .before .before in
+    let f = p .before .before .before .before in
     let e = reported-of (f .before) in
     let g = e .before .before in
     let l = loop-of g in
-    reports-on _ _ _ _ _ _ _ _ (l .loop .inv) (g .go-on .ensures) (e .event .given .1) (λ z. f .if1 .left (z ∙ sym (l .before .before .rows .ensures))) (p .report .ensures)
+    reports-on _ _ _ _ _ _ _ _ (l .loop .inv) {h′ = left-by g} (g .go-on .ensures) (e .event .given .1) (f .if1 .left) (l .before .before .rows .ensures) (p .report .ensures)
 
 enum-told : tie.Need-enum-told Inv-loop μ-loop
 enum-told c = search needs
@@ -105,7 +110,7 @@ returns-2 : tie.Need-returns-2 Inv-loop μ-loop
 returns-2 c =
     let m = c .before in
     let g = m .before .before in
-    stops-over _ _ _ _ _ _ _ _ (loop-of g .loop .inv) (g .go-on .ensures) (m .enum-told .given .1) (c .stopped2 .ensures)
+    stops-over _ _ _ _ _ _ _ _ (loop-of g .loop .inv) {h′ = left-by g} (g .go-on .ensures) (m .enum-told .given .1) (c .stopped2 .ensures)
 
 enum-told-2 : tie.Need-enum-told-2 Inv-loop μ-loop
 enum-told-2 c = search needs
@@ -113,12 +118,12 @@ enum-told-2 c = search needs
 loop-less-2 : tie.Need-loop-less-2 Inv-loop μ-loop
 loop-less-2 c =
     let g = c .before .before in
-    pauses-nearer _ _ _ _ _ _ _ _ (loop-of g .loop .inv) (g .go-on .ensures) (c .enum-told2 .given .1) (omega arith)
+    pauses-nearer _ _ _ _ _ _ _ _ (loop-of g .loop .inv) {h′ = left-by g} (g .go-on .ensures) (c .enum-told2 .given .1) (omega arith)
 
 loop-again-2 : tie.Need-loop-again-2 Inv-loop μ-loop
 loop-again-2 c =
     let g = c .before .before in
-    pauses-on _ _ _ _ _ _ _ _ (loop-of g .loop .inv) (g .go-on .ensures) (c .enum-told2 .given .1)
+    pauses-on _ _ _ _ _ _ _ _ (loop-of g .loop .inv) {h′ = left-by g} (g .go-on .ensures) (c .enum-told2 .given .1)
 
 pub drive-spec : {M : Type 1} → statement M
 drive-spec =

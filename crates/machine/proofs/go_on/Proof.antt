@@ -1,6 +1,7 @@
 -- `go_on` meets its contract: the machine's turns are its mode's.
 use mathlib.Core.Path.{_≡_, sym, subst}
 use borrow.Author.Needs.{needs}
+use Rattle.term_scorer.specs.Inner.Slots.{held}
 use Rattle.machine.specs.Inner.Stands.{tables, Tables, StandsIn}
 use Rattle.machine.specs.Inner.Drives.{GoesOn}
 use Rattle.machine.specs.declared.Gone.{Gone}
@@ -22,6 +23,8 @@ from-mode : (a : tie.Start) {m : Machine} → m ≡ a .args .machine → {new : 
     → GoesOn (a .args .file .now) (a .args .similarity) (a .args .lists .now) (a .args .caches .now) (a .args .threshold) (a .args .turns) (had a) (a .args .machine) new r
 from-mode a e {new} {r} G =
     subst (λ (m : Machine). GoesOn (a .args .file .now) (a .args .similarity) (a .args .lists .now) (a .args .caches .now) (a .args .threshold) (a .args .turns) (had a) m new r) e G
+
+-- In the answers l is what was lent, as the mode's function left it, from its first table on.
 
 enum-known-machine : tie.Need-enum-known-machine
 enum-known-machine c = search needs
@@ -67,28 +70,32 @@ returns c =
     let g = c .before in
     let m = g .before .before .before .before .before .before .before in
     let a = m .before .before .before in
-    from-mode a (sym (m .machine .given .1)) (union-goes (a .args .file .now) (a .args .similarity) (a .args .lists .now) (a .args .caches .now) (a .args .threshold) (a .args .turns) _ (had a) (g .go .result) (stood a (m .machine .given .1) .0) (g .go .ensures .0) (g .go .ensures .1))
+    let l = g .go .last .1 .1 .1 .1 .1 .1 .1 in
+    from-mode a (sym (m .machine .given .1)) (union-goes (a .args .file .now) (a .args .similarity) (a .args .lists .now) (a .args .caches .now) (a .args .threshold) (a .args .turns) _ (had a) {order = l .0} {h = held (l .1 .0) (l .1 .1 .0) (l .1 .1 .1 .0)} {bounds = l .1 .1 .1 .1 .0} (g .go .result) (stood a (m .machine .given .1) .0) (g .go .ensures .0) (g .go .ensures .1))
 
 returns-2 : tie.Need-returns-2
 returns-2 c =
     let g = c .before in
     let m = g .before .before .before .before .before .before in
     let a = m .before .before .before in
-    from-mode a (sym (m .machine2 .given .1)) (single-goes (a .args .file .now) (a .args .similarity) (a .args .lists .now) (a .args .caches .now) (a .args .threshold) (a .args .turns) _ (had a) (g .go2 .result) (g .go2 .ensures))
+    let l = g .go2 .last .1 .1 .1 .1 .1 .1 .1 in
+    from-mode a (sym (m .machine2 .given .1)) (single-goes (a .args .file .now) (a .args .similarity) (a .args .lists .now) (a .args .caches .now) (a .args .threshold) (a .args .turns) _ (had a) (g .go2 .result) {h = held (l .0) (l .1 .0) (l .1 .1 .0)} {floats = l .1 .1 .1 .0} (g .go2 .ensures))
 
 returns-3 : tie.Need-returns-3
 returns-3 c =
     let g = c .before in
     let m = g .before .before .before .before .before .before .before in
     let a = m .before .before .before in
-    from-mode a (sym (m .machine3 .given .1)) (intersection-goes (a .args .file .now) (a .args .similarity) (a .args .lists .now) (a .args .caches .now) (a .args .threshold) (a .args .turns) _ (had a) (g .go3 .result) (g .go3 .ensures))
+    let l = g .go3 .last .1 .1 .1 .1 .1 .1 .1 .1 in
+    from-mode a (sym (m .machine3 .given .1)) (intersection-goes (a .args .file .now) (a .args .similarity) (a .args .lists .now) (a .args .caches .now) (a .args .threshold) (a .args .turns) (m .machine3 .given .0 .0) (had a) (g .go3 .result) {h = held (l .0) (l .1 .0) (l .1 .1 .0)} {floats = l .1 .1 .1 .0} (g .go3 .ensures))
 
 returns-4 : tie.Need-returns-4
 returns-4 c =
     let g = c .before in
     let m = g .before .before .before .before .before in
     let a = m .before .before .before in
-    from-mode a (sym (m .machine4 .given .1)) (plain-goes (a .args .file .now) (a .args .similarity) (a .args .lists .now) (a .args .caches .now) (a .args .threshold) (a .args .turns) _ (had a) (g .go4 .result) (g .go4 .ensures))
+    let l = g .go4 .last .1 .1 .1 .1 .1 .1 .1 in
+    from-mode a (sym (m .machine4 .given .1)) (plain-goes (a .args .file .now) (a .args .similarity) (a .args .lists .now) (a .args .caches .now) (a .args .threshold) (a .args .turns) _ (had a) (g .go4 .result) {h = held (l .0) (l .1 .0) (l .1 .1 .0)} (g .go4 .ensures))
 
 pub go-on-spec : {M : Type 1} → statement M
 go-on-spec =

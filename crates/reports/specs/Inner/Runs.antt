@@ -39,10 +39,10 @@ module _ (W : Route Float) (rule : Rule) (script : List Float) where
 
   module _ (documents₀ : List ℕ) (scores₀ : List Float) where
     -- a run on its way: some steps of the route lead to `place`, and rows and threshold are what they leave
-    pub record Going (t : Threshold) (documents : List ℕ) (values : List Float) (place : W .Place) : Type 0 where
+    pub record Going (t : Threshold) (best : List Float) (documents : List ℕ) (values : List Float) (place : W .Place) : Type 0 where
       pub steps : ℕ
       pub place-is : runAfter steps .place ≡ place
-      pub kept : Kept rule script (runAfter steps .state) documents₀ scores₀ t documents values
+      pub kept : Kept rule script (runAfter steps .state) documents₀ scores₀ t best documents values
 
     -- A run that has returned, with `count` reports. Where every row was full it stands behind the turn whose report has no row.
     pub record Ran (full : Bool) (count : ℕ) (documents : List ℕ) (values : List Float) (place : W .Place) : Type 0 where
