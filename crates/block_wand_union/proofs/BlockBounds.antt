@@ -47,19 +47,19 @@ module _ (file : List ℕ) (lists : List (List ℕ)) (T : Terms) (places docs fr
   bounding a n = record { seats = a; moved = moving (seekBlock 128 doc) f l; sum-is = refl; row = n }
 
   module _ {i : ℕ} {places′ : List (List ℕ)} {bounds′ : List Float} {sum : Float} (S : Bounding i places′ bounds′ sum) where
-    seat-at : (inside : i < length l) → Seat file lists (with bounds′) (held places′ docs freqs) (getD l i noScorer)
+    pub seat-at : (inside : i < length l) → Seat file lists (with bounds′) (held places′ docs freqs) (getD l i noScorer)
     seat-at inside = all-at (Seat file lists (with bounds′) (held places′ docs freqs)) l i noScorer inside (S .seats)
 
-    pub bounds-next : i < length l → Apart l → (s : TermScorer) → getD l i noScorer ≡ s → {places₁ places₂ : List (List ℕ)} {bounds₂ : List Float} {r : Float}
-        → Shallowed file lists (s .slot) (λ k. seekBlockIn (listAt k file lists (s .slot)) 128 doc (cursorAt places′ (s .slot))) places′ places₁
-        → Bounded (T .scoring) file lists (s .slot) places₁ bounds′ places₂ bounds₂ r → Bounding (i + 1) places₂ bounds₂ (f32 .add sum r)
-    bounds-next inside apart s e {places₁} {places₂} {bounds₂} {r} M₀ B₀ =
+    pub bounds-next : i < length l → Apart l → (q₀ : ℕ) → getD l i noScorer .slot ≡ q₀ → {places₁ places₂ : List (List ℕ)} {bounds₂ : List Float} {r : Float}
+        → Shallowed file lists q₀ (λ k. seekBlockIn (listAt k file lists q₀) 128 doc (cursorAt places′ q₀)) places′ places₁
+        → Bounded (T .scoring) file lists q₀ places₁ bounds′ places₂ bounds₂ r → Bounding (i + 1) places₂ bounds₂ (f32 .add sum r)
+    bounds-next inside apart q₀ e {places₁} {places₂} {bounds₂} {r} M₀ B₀ =
         let x = getD l i noScorer in
         let q = x .slot in
         let to : Scoring → Cursor = λ k. seekBlockIn (listAt k file lists q) 128 doc (cursorAt places′ q) in
         let M : Shallowed file lists q to places′ places₁ =
-        subst (λ (z : TermScorer). Shallowed file lists (z .slot) (λ k. seekBlockIn (listAt k file lists (z .slot)) 128 doc (cursorAt places′ (z .slot))) places′ places₁) (sym e) M₀ in
-        let B : Bounded (T .scoring) file lists q places₁ bounds′ places₂ bounds₂ r = subst (λ (z : TermScorer). Bounded (T .scoring) file lists (z .slot) places₁ bounds′ places₂ bounds₂ r) (sym e) B₀ in
+        subst (λ (z : ℕ). Shallowed file lists z (λ k. seekBlockIn (listAt k file lists z) 128 doc (cursorAt places′ z)) places′ places₁) (sym e) M₀ in
+        let B : Bounded (T .scoring) file lists q places₁ bounds′ places₂ bounds₂ r = subst (λ (z : ℕ). Bounded (T .scoring) file lists z places₁ bounds′ places₂ bounds₂ r) (sym e) B₀ in
         let X = seat-at inside in
         let g = scorerAt file lists (T .scoring) places′ in
         let here : g x ≡ f x = rw (drop-cons l i noScorer inside) at (S .moved .same) .0 in
@@ -91,17 +91,3 @@ module _ (file : List ℕ) (lists : List (List ℕ)) (T : Terms) (places docs fr
       sum-is = S .sum-is ∙ ap (λ z. sumFrom f32 (f32 .nil) (map (blockMaxScore 128 f32) z)) (sym (S .moved .front)) ∙ rw e;
       row = S .row;
     }
-
--- the scorer at place i, by the array
-pub seat-of : (file : List ℕ) (lists : List (List ℕ)) (T : Terms) (places docs freqs : List (List ℕ)) (doc len : ℕ) (ss : List TermScorer) {i : ℕ} {places′ : List (List ℕ)} {bounds′ : List Float} {sum : Float}
-    → Bounding file lists T places docs freqs doc (take len ss) i places′ bounds′ sum → i < len → len ≤ length ss
-    → Seat file lists (terms (T .scoring) (T .caches) bounds′) (held places′ docs freqs) (getD ss i noScorer)
-seat-of file lists T places docs freqs doc len ss {i} S h k =
-    rw (getD-take len ss i noScorer h) at (seat-at file lists T places docs freqs doc (take len ss) S (omega (arith, length-take len ss)))
-
--- a list that begins with the first scorers has the same one at place i
-pub first-same : (len : ℕ) (l ss : List TermScorer) (i : ℕ) → take len l ≡ take len ss → i < len → len ≤ length ss → (i < length l) × (getD l i noScorer ≡ getD ss i noScorer)
-first-same len l ss i e h k = (
-  omega (arith, ap length e, length-take len l, length-take len ss),
-  sym (getD-take len l i noScorer h) ∙ ap (λ z. getD z i noScorer) e ∙ getD-take len ss i noScorer h,
-)

@@ -1,27 +1,27 @@
 -- The document that the one scorer seeks past blocks that are too low, and the scorers that this leaves.
 use mathlib.Core.List.{List, map, [], _∷_}
-use mathlib.Core.Path.{ap, refl, sym, _∙_, _≡_}
+use mathlib.Core.Path.{ap, refl, subst, sym, _∙_, _≡_}
 use Prim.Native.Nat.{min, ℕ, _+_, _<_, _≤_}
 use native.Mathlib.Numerals.{add-one}
 use native.Mathlib.Omega.{arith}
-use lib.ListN.{drop, getD, length, length-take, set, take}
-use lib.Seq.{getD-take, take-set-lt, take-take}
+use lib.ListN.{drop, getD, length, length-map, length-take, set, take}
 use lib.Ieee.{Float}
 use Rattle.route.specs.Lists.{All}
 use Rattle.route.specs.Postings.{TERMINATED}
 use Rattle.route.specs.Cursor.{seekIn}
 use Rattle.route.specs.Scorer.{Scorer, lastDocInBlock}
 use Rattle.route.specs.Union.{behind, leastLastDoc}
+use Rattle.route.proofs.Lists.{all-imp}
 use Rattle.route.proofs.Places.{last-cap}
 use Rattle.route.proofs.Union.Pivot.{leastLast-le}
 use Rattle.bm25.specs.declared.Scoring.{Scoring}
-use Rattle.ordering.specs.Inner.Scorers.{Apart, leastDocOf, moved, noScorer}
+use Rattle.bm25.specs.declared.Scoring.the-variants.{Unstepped}
+use Rattle.ordering.specs.Inner.Scorers.{leastDocOf, moved, noScorer, slotOf}
 use Rattle.ordering.specs.Inner.Pivots.{placeToSeek}
-use Rattle.ordering.specs.declared.Scorers.{Scorers}
 use Rattle.ordering.specs.declared.TermScorer.{TermScorer}
-use Rattle.ordering.proofs.Places.{all-at, all-take, drop-take-cons, drop-take-nil}
+use Rattle.ordering.proofs.Places.{all-at, all-take, drop-take-cons, drop-take-nil, map-take}
 use Rattle.ordering.proofs.Found.{seek-inside}
-use Rattle.ordering.proofs.Kept.{moved-kept}
+use Rattle.ordering.proofs.Kept.{kept-all, moved-kept}
 use Rattle.ordering.proofs.Turns.{leastLast, too-low-on-route}
 use Rattle.notefile.specs.Header.{documents}
 use Rattle.decoded.proofs.AcceptedLists.{list-ok}
@@ -29,31 +29,34 @@ use Rattle.skip_reader.proofs.Readers.{end-is}
 use Rattle.slot_rows.specs.Inner.Rows.{cursorIn}
 use Rattle.slot_rows.proofs.Rows.{last-is, last-small}
 use Rattle.term_scorer.specs.Inner.Slots.{cursorAt, Held, lastAt, listAt, partAt, MovedSlot}
-use Rattle.block_wand_union.specs.Inner.Seats.{Carried, Stand, alive, scorerAt}
-use Rattle.block_wand_union.specs.Inner.Moves.{LastRead, TooLow, leastLastOf}
+use Rattle.slot_order.specs.Inner.Rows.{Readable, termIn}
+use Rattle.slot_order.proofs.Rows.{map-at}
+use Rattle.block_wand_union.specs.Inner.Seats.{Carried, Lined, Stand, TopIs, scorerAt, termAt, termsOf}
+use Rattle.block_wand_union.specs.Inner.Moves.{LastRead, OneOn, leastLastOf}
 use Rattle.block_wand_union.proofs.Seats.{carried-kept, carried-move, carried-trans, fair, moved-stand, same-doc, same-off, scorer-is}
+use Rattle.block_wand_union.proofs.Slots.{all-unmap, of-slots, onDoc, own-slots, own-tops, readables, slots-of, terms-move, terms-read}
 
 -- ---- `least_last_doc`'s loop
 
-module _ (places : List (List ℕ)) (l : List TermScorer) (n goal : ℕ) where
+module _ (places : List (List ℕ)) (l : List ℕ) (n goal : ℕ) where
   -- the least of `least` and the last documents from place i on is the goal
   pub record Lowering (least i : ℕ) : Type 0 where
     pub inside : i ≤ n
     pub whole : leastLastOf places least (drop i (take n l)) ≡ goal
 
   module _ (long : n ≤ length l) {least i : ℕ} (S : Lowering least i) where
-    pub lowers : {least′ : ℕ} → i < n → least′ ≡ min (lastAt places (getD l i noScorer .slot)) least → Lowering least′ (i + 1)
+    pub lowers : {least′ : ℕ} → i < n → least′ ≡ min (lastAt places (getD l i 0)) least → Lowering least′ (i + 1)
     lowers {least′} h e =
-        let q : leastLastOf places least (drop i (take n l)) ≡ leastLastOf places (min (lastAt places (getD l i noScorer .slot)) least) (drop (i + 1) (take n l)) =
-        rw (drop-take-cons l n i noScorer h long, add-one) in
+        let q : leastLastOf places least (drop i (take n l)) ≡ leastLastOf places (min (lastAt places (getD l i 0)) least) (drop (i + 1) (take n l)) =
+        rw (drop-take-cons l n i 0 h long, add-one) in
         record { inside = omega arith; whole = ap (λ (z : ℕ). leastLastOf places z (drop (i + 1) (take n l))) e ∙ sym q ∙ S .whole }
 
     pub lowest : n ≤ i → least ≡ goal
     lowest h = let x = drop-take-nil l n i h in sym (ap (leastLastOf places least) x) ∙ S .whole
 
-pub lowest-low : (places : List (List ℕ)) (t : ℕ) (l : List TermScorer) → leastLastOf places t l ≤ t
+pub lowest-low : (places : List (List ℕ)) (t : ℕ) (l : List ℕ) → leastLastOf places t l ≤ t
 lowest-low places t [] = omega arith
-lowest-low places t (x ∷ xs) = let r = lowest-low places (min (lastAt places (x .slot)) t) xs in omega arith
+lowest-low places t (q ∷ qs) = let r = lowest-low places (min (lastAt places q) t) qs in omega arith
 
 pub least-low : (t : ℕ) (l : List TermScorer) → leastDocOf t l ≤ t
 least-low t [] = omega arith
@@ -74,21 +77,26 @@ module _ (file : List ℕ) (lists : List (List ℕ)) (h : Held) where
       last-cap 128 (documents file) (listAt scoring file lists (s .slot)) (list-ok scoring file (partAt lists (s .slot)) (S .slot .list .right) (S .slot .list .few))
       (cursorAt (h .places) (s .slot) .blk)
 
-  pub last-read : (s : TermScorer) → Stand file lists h s → LastRead (h .places) s
+  last-read : (s : TermScorer) → Stand file lists h s → LastRead (h .places) (s .slot)
   last-read s S = (S .slot-in, last-small file (partAt lists (s .slot)) (getD (h .places) (s .slot) []) (S .slot .place .standing))
+
+  pub last-reads : (qs : List ℕ) → Lined file lists h qs → All (LastRead (h .places)) qs
+  last-reads qs L =
+      all-unmap (λ s. LastRead (h .places) (s .slot)) (termAt file lists Unstepped (h .places)) qs
+      (all-imp (Stand file lists h) (λ s. LastRead (h .places) (s .slot)) (termsOf file lists Unstepped (h .places) qs) last-read (L .stands Unstepped))
 
   module _ (scoring : Scoring) where
     abbrev f : TermScorer → Scorer Float
     f = scorerAt file lists scoring (h .places)
 
     least-from : (t : ℕ) (x : TermScorer) (xs : List TermScorer) → All (Stand file lists h) (x ∷ xs)
-        → leastLastOf (h .places) t (x ∷ xs) ≡ min (leastLastDoc 128 (f x) (map f xs)) t
+        → leastLastOf (h .places) t (map slotOf (x ∷ xs)) ≡ min (leastLastDoc 128 (f x) (map f xs)) t
     least-from t x [] a = ap (λ (z : ℕ). min z t) (last-here scoring x (a .0))
     least-from t x (y ∷ ys) a =
         let e = last-here scoring x (a .0) in
         least-from (min (lastAt (h .places) (x .slot)) t) y ys (a .1) ∙ omega arith
 
-    least-is : (l : List TermScorer) → All (Stand file lists h) l → leastLastOf (h .places) TERMINATED l ≡ leastLast 128 f l
+    pub least-is : (l : List TermScorer) → All (Stand file lists h) l → leastLastOf (h .places) TERMINATED (map slotOf l) ≡ leastLast 128 f l
     least-is [] a = refl
     least-is (x ∷ xs) a =
         let c = last-low scoring x (a .0) in
@@ -97,58 +105,68 @@ module _ (file : List ℕ) (lists : List (List ℕ)) (h : Held) where
 
 -- ---- the scorers after the move
 
-pub seeks-inside : (ss : List TermScorer) (len at : ℕ) → at ≡ placeToSeek (take len ss) → 0 < len → len ≤ length ss → at < len
-seeks-inside ss len at e pos long = omega (arith, seek-inside (take len ss) (omega (arith, length-take len ss)), length-take len ss)
+pub seeks-inside : (l : List TermScorer) (len at : ℕ) → at ≡ placeToSeek (take len l) → 0 < len → len ≤ length l → at < len
+seeks-inside l len at e pos long = omega (arith, seek-inside (take len l) (omega (arith, length-take len l)), length-take len l)
 
-module _ (file : List ℕ) (lists : List (List ℕ)) (ss : List TermScorer) (n len at last after d doc : ℕ) where
-  abbrev l : List TermScorer
-  l = take n ss
+module _ (file : List ℕ) (lists : List (List ℕ)) (s : Scoring) (qs : List ℕ) (at d doc : ℕ) where
+  abbrev here : Held → List TermScorer
+  here k = termsOf file lists s (k .places) qs
 
-  abbrev x : TermScorer
-  x = getD ss at noScorer
+  abbrev q : ℕ
+  q = getD qs at 0
 
-  abbrev x′ : TermScorer
-  x′ = record { doc = doc; «max_score» = x .«max_score»; slot = x .slot }
+  module _ {h h′ : Held} (L : Lined file lists h qs) (inside : at < length qs) (q₀ : ℕ) (e₀ : q ≡ q₀)
+      (M₀ : MovedSlot file lists q₀ (λ k. seekIn (listAt k file lists q₀) 128 d (cursorAt (h .places) q₀)) h h′ doc) where
+    M : MovedSlot file lists q (λ k. seekIn (listAt k file lists q) 128 d (cursorAt (h .places) q)) h h′ doc
+    M = subst (λ (z : ℕ). MovedSlot file lists z (λ k. seekIn (listAt k file lists z) 128 d (cursorAt (h .places) z)) h h′ doc) (sym e₀) M₀
 
-  module _ {h h′ : Held} (pos : 0 < len) (few : len ≤ n) (long : n ≤ length ss) (apart : Apart l) (a : All (Stand file lists h) l)
-      (last-is : last ≡ leastLastOf (h .places) 2147483647 (take len ss)) (after-is : after ≡ behind last) (d-is : d ≡ leastDocOf after (drop len l))
-      (at-is : at ≡ placeToSeek (take len ss))
-      (M : MovedSlot file lists (x .slot) (λ s. seekIn (listAt s file lists (x .slot)) 128 d (cursorAt (h .places) (x .slot))) h h′ doc) where
-    cut : take len l ≡ take len ss
-    cut = take-take len n ss few
+    abbrev x : TermScorer
+    x = termAt file lists s (h .places) q
 
-    inside : at < len
-    inside = seeks-inside ss len at at-is pos (omega arith)
+    abbrev x′ : TermScorer
+    x′ = onDoc file lists s doc q
 
-    there : getD l at noScorer ≡ x
-    there = getD-take n ss at noScorer (omega (arith, inside))
+    long : (k : Held) → length (here k) ≡ length qs
+    long k = length-map qs (termAt file lists s (k .places))
 
-    in-l : at < length l
-    in-l = omega (arith, inside, length-take n ss)
+    there : getD (here h) at noScorer ≡ x
+    there = map-at (termAt file lists s (h .places)) qs at 0 noScorer inside
 
-    abbrev out : List TermScorer
-    out = moved (set l at x′) at
+    in-here : at < length (here h)
+    in-here = omega (arith, long h)
 
-    carries : Carried file lists h l h′ out
-    carries =
-        let N : MovedSlot file lists (getD l at noScorer .slot) (λ s. seekIn (listAt s file lists (x .slot)) 128 d (cursorAt (h .places) (x .slot))) h h′ doc = rw there M in
-        let C = rw there at (carried-move file lists l at in-l apart N a) in
-        carried-trans file lists C (carried-kept file lists h′ (moved-kept (set l at x′) at) (C .apart) (C .stands))
+    moved-is : here h′ ≡ set (here h) at x′
+    moved-is = terms-move file lists s qs at inside (L .apart s) M
 
-    pub too-low : (r : Scorers) → r .len ≡ n → take n (r .scorers) ≡ moved (take n (set ss at x′)) at → TooLow file lists h l n len h′ r
-    too-low r k e =
-        let q : alive r ≡ out = ap (λ (z : ℕ). take z (r .scorers)) k ∙ e ∙ ap (λ z. moved z at) (take-set-lt n ss at x′ (omega (arith, inside))) in
-        record {
-          carried = rw q carries;
-          scorers-are = λ scoring max-scores.
-              rw q (
-              let f₀ = scorerAt file lists scoring (h .places) in
-              let f₁ = scorerAt file lists scoring (h′ .places) in
-              let first = rw cut at (all-take (Stand file lists h) len l a) in
-              too-low-on-route 128 f₀ f₁ l len at d x′ pos (omega (arith, length-take n ss)) (fair file lists scoring h l a max-scores) apart
-              (rw cut at-is)
-              (d-is ∙ ap (λ (z : ℕ). leastDocOf z (drop len l)) (after-is ∙ ap behind (last-is ∙ least-is file lists h scoring (take len ss) first ∙ ap (leastLast 128 f₀) (sym cut))))
-              (rw there (same-off file lists M scoring)) (rw there (scorer-is file lists x M scoring))
-              (same-doc file lists scoring h′ x′ (moved-stand file lists x M (rw there at (all-at (Stand file lists h) l at noScorer in-l a)))));
-          all = k;
-        }
+    moves : Carried file lists h (here h) h′ (here h′)
+    moves =
+        let N : MovedSlot file lists (getD (here h) at noScorer .slot) (λ k. seekIn (listAt k file lists q) 128 d (cursorAt (h .places) q)) h h′ doc = rw there M in
+        rw moved-is (rw there at (carried-move file lists (here h) at in-here (L .apart s) N (L .stands s)))
+
+    pub moved-readable : All (Readable (h′ .places)) qs
+    moved-readable = readables file lists s h′ qs (moves .stands)
+
+    -- the row's slots are those of the scorers that are read, in the order restored from its place
+    pub one-on : (len : ℕ) → 0 < len → len ≤ length qs → at ≡ placeToSeek (take len (here h))
+        → d ≡ leastDocOf (behind (leastLastOf (h .places) 2147483647 (take len qs))) (drop len (here h))
+        → (tops : List Float) → All (TopIs file lists s tops) qs → {z : List TermScorer} → z ≡ map (termIn tops (h′ .places) (h′ .docs)) qs
+        → {rs : List ℕ} → rs ≡ map slotOf (moved z at) → OneOn file lists s h (here h) len h′ (termsOf file lists s (h′ .places) rs)
+    one-on len pos few at-is d-is tops right {z} read {rs} r =
+        let f₀ = scorerAt file lists s (h .places) in
+        let f₁ = scorerAt file lists s (h′ .places) in
+        let first : All (Stand file lists h) (take len (here h)) = all-take (Stand file lists h) len (here h) (L .stands s) in
+        let cut : take len qs ≡ map slotOf (take len (here h)) =
+        sym (slots-of file lists s (h .places) (take len qs)) ∙ ap (map slotOf) (map-take (termAt file lists s (h .places)) len qs) in
+        let now : z ≡ here h′ = read ∙ terms-read file lists s h′ tops qs (moves .stands) right in
+        let out = of-slots file lists s h′ (moved (here h′) at) (kept-all (λ t. termAt file lists s (h′ .places) (t .slot) ≡ t) (moved-kept (here h′) at) (own-slots file lists s h′ qs)) in
+        let e : termsOf file lists s (h′ .places) rs ≡ moved (here h′) at =
+        ap (termsOf file lists s (h′ .places)) (r ∙ ap (λ y. map slotOf (moved y at)) now) ∙ out in
+        rw e (record {
+          carried = carried-trans file lists moves (carried-kept file lists h′ (moved-kept (here h′) at) (moves .apart) (moves .stands));
+          scorers-are = rw moved-is
+              (too-low-on-route 128 f₀ f₁ (here h) len at d x′ pos (omega (arith, long h)) (fair file lists s h (here h) (L .stands s) (own-tops file lists s h qs)) (L .apart s)
+              at-is
+              (d-is ∙ ap (λ (y : ℕ). leastDocOf (behind y) (drop len (here h))) (ap (leastLastOf (h .places) 2147483647) cut ∙ least-is file lists h s (take len (here h)) first))
+              (rw there (same-off file lists M s)) (rw there (scorer-is file lists x M s))
+              (same-doc file lists s h′ x′ (moved-stand file lists x M (rw there at (all-at (Stand file lists h) (here h) at noScorer in-here (L .stands s))))));
+        })

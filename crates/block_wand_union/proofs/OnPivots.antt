@@ -5,7 +5,7 @@ use mathlib.Core.Option.{some}
 use mathlib.Core.Path.{ap, refl, subst, sym, _∙_, _≡_}
 use Prim.Native.Nat.{ℕ, _-_, _<_, _≤_}
 use native.Mathlib.Omega.{arith}
-use lib.ListN.{drop, getD, length, length-take, take, take-append-drop}
+use lib.ListN.{drop, getD, length, length-map, length-take, take, take-append-drop}
 use lib.Seq.{take-take}
 use lib.Ieee.{Float}
 use Rattle.route.specs.Lists.{All}
@@ -23,18 +23,17 @@ use Rattle.route.proofs.Union.Pivot.{AlignIs, align-is}
 use Rattle.route.proofs.Union.Safe.{inside, safe-seek}
 use Rattle.bm25.specs.declared.Scoring.{Scoring}
 use Rattle.bm25.specs.declared.Scoring.the-variants.{Unstepped}
-use Rattle.ordering.specs.Inner.Scorers.{Apart, noScorer}
+use Rattle.ordering.specs.Inner.Scorers.{noScorer}
 use Rattle.ordering.specs.Inner.Pivots.{Found}
 use Rattle.ordering.specs.declared.TermScorer.{TermScorer}
-use Rattle.ordering.specs.declared.Scorers.{Scorers}
 use Rattle.ordering.proofs.Places.{all-at, all-drop, all-take, drop-take, drop-take-cons, map-append, map-drop, map-take}
 use Rattle.ordering.proofs.UnionTurns.{after-hit, after-miss, scored-due, scored-quiet}
 use Rattle.notefile.specs.Header.{documents}
 use Rattle.notefile.specs.Lists.{fullBlocks}
 use Rattle.decoded.specs.Lists.{listOf}
 use Rattle.decoded.proofs.AcceptedLists.{list-ok}
-use Rattle.term_scorer.specs.Inner.Slots.{cursorAt, Held, listAt, partAt}
-use Rattle.block_wand_union.specs.Inner.Seats.{Inside, OnDocument, Seat, Stand, Terms, alive, scorerAt}
+use Rattle.term_scorer.specs.Inner.Slots.{cursorAt, Held, listAt, partAt, Sixteen}
+use Rattle.block_wand_union.specs.Inner.Seats.{Inside, Lined, OnDocument, Seat, Stand, Terms, scorerAt, slotScorer, termAt, termsOf}
 use Rattle.block_wand_union.specs.Inner.Moves.{AdvancedAll, AlignedBy, Aligns, OnPivot, PastPivot}
 use Rattle.block_wand_union.specs.Inner.Turns.{AtPivot, Does, Hit, Pivoted, quietStep}
 use Rattle.block_wand_union.specs.declared.Stage.the-variants.{Called, Looking}
@@ -42,11 +41,7 @@ use Rattle.block_wand_union.specs.declared.align.Alignment.{Alignment}
 use Rattle.block_wand_union.specs.declared.turn.Span.{Span}
 use Rattle.block_wand_union.specs.declared.turn.Step.{Step}
 use Rattle.block_wand_union.proofs.Seats.{carried-refl, carried-trans, same-doc, seats-stand}
-
-module _ {A : Type 0} where
-  pub all-unmap : {B : Type 0} (P : B → Type 0) (g : A → B) (xs : List A) → All P (map g xs) → All (λ x. P (g x)) xs
-  all-unmap P g [] a = tt
-  all-unmap P g (x ∷ xs) a = (a .0, all-unmap P g xs (a .1))
+use Rattle.block_wand_union.proofs.Slots.{all-unmap, map-map}
 
 full-is : (scoring : Scoring) (file : List ℕ) (lists : List (List ℕ)) (q : ℕ) → listAt scoring file lists q .full ≡ fullBlocks (partAt lists q)
 unfolding listOf
@@ -73,10 +68,14 @@ module _ (file : List ℕ) (lists : List (List ℕ)) where
 
   -- a scorer that is on a document can go on
   pub inside-on : (scoring : Scoring) (h : Held) (s : TermScorer) → SafeS 128 (documents file) (scorerAt file lists scoring (h .places) s)
-      → docOf (scorerAt file lists scoring (h .places) s) < TERMINATED → Inside file lists h s
+      → docOf (scorerAt file lists scoring (h .places) s) < TERMINATED → Inside lists h (s .slot)
   inside-on scoring h s k d = rw (full-is scoring file lists (s .slot)) at (inside 128 (documents file) (scorerAt file lists scoring (h .places) s) k d .0)
 
-module _ {file : List ℕ} {lists : List (List ℕ)} {T : Terms} {h : Held} {l : List TermScorer} {at : Span} (A : AtPivot file lists T h l at) where
+module _ {file : List ℕ} {lists : List (List ℕ)} {T : Terms} {h : Held} {at : Span} (order : List ℕ) (n : ℕ)
+    (A : AtPivot file lists T h (termsOf file lists (T .scoring) (h .places) (take n order)) at) where
+  abbrev l : List TermScorer
+  l = termsOf file lists (T .scoring) (h .places) (take n order)
+
   abbrev before : ℕ
   before = at .«before_pivot_len»
 
@@ -102,7 +101,10 @@ module _ {file : List ℕ} {lists : List (List ℕ)} {T : Terms} {h : Held} {l :
   abbrev OnIt : Scorer Float → Type 0
   OnIt z = (docOf z ≡ p) × SafeS 128 (documents file) z
 
-  module _ {h′ : Held} {l′ : List TermScorer} (O : OnPivot file lists p h l before h′ l′) where
+  module _ {h′ : Held} (order′ : List ℕ) (O : OnPivot file lists p h l before h′ (termsOf file lists (T .scoring) (h′ .places) (take n order′))) where
+    abbrev l′ : List TermScorer
+    l′ = termsOf file lists (T .scoring) (h′ .places) (take n order′)
+
     abbrev g : TermScorer → Scorer Float
     g = scorerAt file lists (T .scoring) (h′ .places)
 
@@ -142,78 +144,97 @@ module _ {file : List ℕ} {lists : List (List ℕ)} {T : Terms} {h : Held} {l :
     on-it = all-unmap OnIt g (take len l′) (rw whole at (all-append OnIt (map g (take before l′)) (map g (drop before (take len l′))) came were))
 
     -- so they are on a document
-    pub on-document : All (OnDocument file lists (T .caches) h′) (take len l′)
-    on-document =
+    pub on-document : len ≤ n → All (OnDocument file lists (T .caches) h′ p) (take len (take n order′))
+    on-document few =
         let low = pivot-low in
-        all-zip (Seat file lists T h′) (λ s. OnIt (g s)) (OnDocument file lists (T .caches) h′)
+        let cut : take len l′ ≡ termsOf file lists (T .scoring) (h′ .places) (take len (take n order′)) = sym (map-take (termAt file lists (T .scoring) (h′ .places)) len (take n order′)) in
+        all-unmap (λ s. OnDocument file lists (T .caches) h′ p (s .slot)) (termAt file lists (T .scoring) (h′ .places)) (take len (take n order′))
+        (rw cut at
+        (all-zip (Seat file lists T h′) (λ s. OnIt (g s)) (λ s. OnDocument file lists (T .caches) h′ p (s .slot))
         (λ s S o. record {
-          stand = S .stand;
+          slot-in = S .stand .slot-in;
+          slot = S .stand .slot;
           weighed = S .weighed;
-          live = omega (arith, same-doc file lists (T .scoring) h′ s (S .stand), o .0);
+          on = sym (o .0) ∙ same-doc file lists (T .scoring) h′ s (S .stand) ∙ S .stand .doc-is;
           inside = inside-on file lists (T .scoring) h′ s (o .1) (omega (arith, o .0));
         })
-        (take len l′) (all-take (Seat file lists T h′) len l′ (O .carried .seats T (A .seated .seats))) on-it
+        (take len l′) (all-take (Seat file lists T h′) len l′ (O .carried .seats T (A .seated .seats))) on-it))
 
     -- what a hit leaves, at threshold t
-    pub on-hit : {t : Float} {m n : ℕ} → m ≤ n → {h″ : Held} {r : Step} → Hit file lists (T .scoring) t h′ l′ m len p h″ r → Pivoted file lists (T .scoring) t h l n at h″ r
-    on-hit {t} b {h″} {r} D =
+    pub on-hit : {t : Float} {h″ : Held} {order″ : List ℕ} {r : Step} → Hit file lists (T .scoring) t h′ order′ n len p h″ order″ r → Pivoted file lists (T .scoring) t h order n at h″ order″ r
+    on-hit {t} {h″} {order″} {r} D =
         let k = first in
         record {
           carried = carried-trans file lists (O .carried) (D .carried);
-          does = subst (λ (u : Turn (UnionPlace Float) Float). Does file lists (T .scoring) u h″ r)
+          does = subst (λ (u : Turn (UnionPlace Float) Float). Does file lists (T .scoring) u h″ order″ r)
               (sym (after-hit 128 t l before len p (omega arith) f g l′ (O .aligned-are (T .scoring)) (O .rest-are (T .scoring))))
               (D .does (loadsBack (map f (take before l)) (map g (take before l′))));
-          few = omega (arith, D .few);
+          few = D .few;
+          long = D .long;
         }
 
   -- what a miss leaves
-  pub miss : (t : Float) {n : ℕ} {h′ : Held} {z : Scorers} → PastPivot file lists p h l before h′ (alive z) → z .len ≤ n
-      → Pivoted file lists (T .scoring) t h l n at h′ (quietStep z Looking)
-  miss t P few =
-      let k = first in
+  pub miss : (t : Float) {h′ : Held} {order′ : List ℕ} (k : ℕ) → PastPivot file lists p h l before h′ (termsOf file lists (T .scoring) (h′ .places) (take k order′)) → k ≤ n → Sixteen order′
+      → Pivoted file lists (T .scoring) t h order n at h′ order′ (quietStep k Looking)
+  miss t k P few long =
+      let z = first in
       let m = P .missed-is (T .scoring) in
       let e = after-miss 128 t l before len p (omega arith) f (m .0) (m .1) in
       record {
         carried = P .carried;
         does = record { next-is = ap (λ u. u .next) e ∙ ap (λ ss. goOn ss) (sym (m .2)); due-is = ap (λ u. u .due) e };
         few = few;
+        long = long;
       }
 
 -- the scorers on the pivot are scored
-module _ (file : List ℕ) (lists : List (List ℕ)) (scoring : Scoring) (t : Float) (h : Held) (z : Scorers) (len p : ℕ) (few : len ≤ z .len) {score : Float}
-    (e : score ≡ sum f32 (map scoreHere (map (scorerAt file lists scoring (h .places)) (take len (z .scorers))))) where
+module _ (file : List ℕ) (lists : List (List ℕ)) (scoring : Scoring) (t : Float) (h : Held) (order : List ℕ) (n len p : ℕ) (few : len ≤ n) {score : Float}
+    (e : score ≡ sum f32 (map scoreHere (map (slotScorer file lists scoring (h .places)) (take len order)))) where
   abbrev at-route : TermScorer → Scorer Float
   at-route = scorerAt file lists scoring (h .places)
 
-  score-is : score ≡ sum f32 (map scoreHere (map at-route (take len (alive z))))
-  score-is = let q = take-take len (z .len) (z .scorers) few in e ∙ rw q
+  abbrev all : List TermScorer
+  all = termsOf file lists scoring (h .places) (take n order)
+
+  score-is : score ≡ sum f32 (map scoreHere (map at-route (take len all)))
+  score-is =
+      let term = termAt file lists scoring (h .places) in
+      e ∙ ap (λ z. sum f32 (map scoreHere (map (slotScorer file lists scoring (h .places)) z))) (sym (take-take len n order few))
+      ∙ ap (λ z. sum f32 (map scoreHere z)) (sym (map-map at-route term (take len (take n order))) ∙ ap (map at-route) (map-take term len (take n order)))
 
   -- a report is due, and they stay
-  pub hit-due : f32 .above score t ≡ true → z .len ≤ length (z .scorers) → Apart (alive z) → All (Stand file lists h) (alive z)
-      → Hit file lists scoring t h (alive z) (z .len) len p h (record { scorers = z; stage = Called len; due = true; doc = p; score = score })
-  hit-due q long apart a = record {
-    carried = carried-refl file lists h (alive z) apart a;
+  pub hit-due : f32 .above score t ≡ true → n ≤ 16 → Sixteen order → Lined file lists h (take n order)
+      → Hit file lists scoring t h order n len p h order (record { union = record { len = n; stage = Called len }; due = true; doc = p; score = score })
+  hit-due q small long L = record {
+    carried = carried-refl file lists h all (L .apart scoring) (L .stands scoring);
     does = λ ls.
-        let d = scored-due 128 t p ls at-route (alive z) len (omega (arith, length-take (z .len) (z .scorers))) (rw score-is at q) in
+        let d = scored-due 128 t p ls at-route all len (omega (arith, length-map (take n order) (termAt file lists scoring (h .places)), length-take n order)) (rw score-is at q) in
         record { next-is = ap (λ u. u .next) d; due-is = ap (λ u. u .due) d ∙ ap (λ (x : Float). some (record { doc = p; score = x })) (sym score-is) };
     few = omega arith;
+    long = long;
   }
 
   -- none is due, and they have advanced
-  pub hit-quiet : f32 .above score t ≡ false → {h′ : Held} {left : Scorers} → AdvancedAll file lists h (alive z) (z .len) len h′ left
-      → Hit file lists scoring t h (alive z) (z .len) len p h′ (quietStep left Looking)
+  pub hit-quiet : f32 .above score t ≡ false → {h′ : Held} {order′ : List ℕ} {k : ℕ} → AdvancedAll file lists h order n len h′ order′ k
+      → Hit file lists scoring t h order n len p h′ order′ (quietStep k Looking)
   hit-quiet q D = record {
-    carried = D .carried;
+    carried = D .on scoring .carried;
     does = λ ls.
-        let d = scored-quiet 128 t p ls at-route (alive z) len (rw score-is at q) in
-        record { next-is = ap (λ u. u .next) d ∙ ap (λ ss. goOn ss) (sym (D .scorers-are scoring)); due-is = ap (λ u. u .due) d };
+        let d = scored-quiet 128 t p ls at-route all len (rw score-is at q) in
+        record { next-is = ap (λ u. u .next) d ∙ ap (λ ss. goOn ss) (sym (D .on scoring .scorers-are)); due-is = ap (λ u. u .due) d };
     few = D .few;
+    long = D .long;
   }
 
 -- `align_scorers`' answer
-module _ {file : List ℕ} {lists : List (List ℕ)} {p : ℕ} {h h′ : Held} {l : List TermScorer} {n before : ℕ} {r : Alignment} (E : Aligns file lists p h l n before h′ r) where
-  pub came-to : r .«on_pivot» ≡ true → OnPivot file lists p h l before h′ (alive (r .scorers))
-  came-to e = subst (λ (b : Bool). AlignedBy file lists b p h l before h′ (alive (r .scorers))) e (E .by)
+module _ {file : List ℕ} {lists : List (List ℕ)} {p : ℕ} {h h′ : Held} {order order′ : List ℕ} {n before : ℕ} {r : Alignment} (E : Aligns file lists p h order n before h′ order′ r) (s : Scoring) where
+  abbrev was : List TermScorer
+  was = termsOf file lists s (h .places) (take n order)
 
-  pub went-past : r .«on_pivot» ≡ false → PastPivot file lists p h l before h′ (alive (r .scorers))
-  went-past e = subst (λ (b : Bool). AlignedBy file lists b p h l before h′ (alive (r .scorers))) e (E .by)
+  pub came-to : r .«on_pivot» ≡ true → OnPivot file lists p h was before h′ (termsOf file lists s (h′ .places) (take n order′))
+  came-to e =
+      rw (E .all e) at
+      (subst (λ (b : Bool). AlignedBy file lists b p h was before h′ (termsOf file lists s (h′ .places) (take (r .len) order′))) e (E .by s))
+
+  pub went-past : r .«on_pivot» ≡ false → PastPivot file lists p h was before h′ (termsOf file lists s (h′ .places) (take (r .len) order′))
+  went-past e = subst (λ (b : Bool). AlignedBy file lists b p h was before h′ (termsOf file lists s (h′ .places) (take (r .len) order′))) e (E .by s)

@@ -1,48 +1,37 @@
--- A union's run by turns: the scorers read off the tables and their slots written back, and the loop of `walk`.
+-- Turns in a row: where a run stands after each, and its three ends.
 use mathlib.Core.Bool.{Bool, false, not, true}
-use mathlib.Core.List.{List, map, [], _∷_}
-use mathlib.Core.Path.{ap, refl, sym, _∙_, _≡_}
+use mathlib.Core.List.{List, [], _∷_, map}
+use mathlib.Core.Path.{ap, refl, subst, sym, _∙_, _≡_}
 use Prim.Native.Nat.{ℕ, _+_, _≤_, _<_}
 use native.Mathlib.Numerals.{add-one}
 use native.Mathlib.Omega.{arith}
+use lib.Dec.{eqb}
 use lib.ListN.{getD, length, set, take}
-use lib.Seq.{take-suc, take-suc-set}
-use lib.Ieee.{Float}
+use lib.Seq.{getD-set-other, getD-set-same, take-suc}
+use lib.Ieee.{Float, nan}
+use borrow.Author.Tests.{eqb-false, eqb-true}
 use Rattle.route.specs.F32.{f32}
 use Rattle.route.specs.Lists.{All}
-use Rattle.route.specs.Union.{isOver, unionTurn}
+use Rattle.route.specs.Union.{UnionPlace, isOver, unionTurn}
 use Rattle.route.specs.Inner.Unions.{UnionKept}
-use Rattle.route.proofs.Lists.{all-imp}
+use Rattle.route.proofs.Cases.{on-test}
+use Rattle.route.proofs.Lists.{all-append, all-imp}
 use Rattle.route.proofs.Union.Ends.{union-nears}
+use Rattle.bm25.specs.declared.Scoring.{Scoring}
 use Rattle.ordering.specs.Inner.Scorers.{slotOf}
-use Rattle.ordering.specs.declared.Scorers.{Scorers}
 use Rattle.ordering.specs.declared.TermScorer.{TermScorer}
-use Rattle.ordering.proofs.Places.{map-append}
 use Rattle.notefile.specs.Header.{documents}
+use Rattle.reports.specs.Inner.Turns.{Went}
 use Rattle.reports.specs.declared.Event.the-variants as event
 use Rattle.reports.proofs.TurnLaws.{Quietly, at-end, at-pause, at-report, none-yet, one-more}
-use Rattle.slot_rows.specs.Inner.Rows.{postingsIn}
-use Rattle.slot_rows.proofs.Rows.{doc-in-array}
 use Rattle.term_scorer.specs.Inner.Slots.{Held, listAt, Sixteen}
-use Rattle.block_wand_union.specs.Inner.Seats.{Readable, Seat, Seated, Terms, alive, placeIn, scorerAt, slotScorer, stageOf, termAt, terms}
-use Rattle.block_wand_union.specs.Inner.Turns.{Turned}
-use Rattle.block_wand_union.specs.Inner.Runs.{Stands, Walks, placeOf, unionEnded, walkedTo}
+use Rattle.block_wand_union.specs.Inner.Seats.{Seat, Seated, Terms, TopIs, Topped, placeIn, scorerAt, slotScorer, stageOf, termAt, terms, termsOf}
+use Rattle.block_wand_union.specs.Inner.Turns.{Turned, dueOf}
+use Rattle.block_wand_union.specs.Inner.Runs.{Stands, goneTo, placeOf, unionEnded}
 use Rattle.block_wand_union.specs.declared.Stage.{Stage}
 use Rattle.block_wand_union.specs.declared.Union.{Union}
 use Rattle.block_wand_union.specs.declared.turn.Step.{Step}
-use Rattle.block_wand_union.proofs.OnPivots.{all-unmap}
-
--- ---- lists
-
--- one element more of a list that is written place by place
-pub fills : {A B : Type 0} (f : A → B) (xs : List A) (ys : List B) (i : ℕ) (d : A) → i < length xs → i < length ys → take i ys ≡ map f (take i xs) → {y : B} → y ≡ f (getD xs i d)
-    → take (i + 1) (set ys i y) ≡ map f (take (i + 1) xs)
-fills f xs ys i d h k e {y} q =
-    rw (add-one, take-suc-set ys i y k, take-suc xs i d h, map-append f (take i xs) (getD xs i d ∷ []), e, q)
-
-map-map : {A B C : Type 0} (g : B → C) (f : A → B) (xs : List A) → map g (map f xs) ≡ map (λ x. g (f x)) xs
-map-map g f [] = refl
-map-map g f (x ∷ xs) = ap (λ z. g (f x) ∷ z) (map-map g f xs)
+use Rattle.block_wand_union.proofs.Slots.{all-unmap, map-map, same-terms}
 
 -- a negated test
 pub not-true : (b : Bool) → not b ≡ true → b ≡ false
@@ -55,53 +44,45 @@ not-false false e = sym e
 
 -- ---- the scorers in the tables
 
-module _ (file : List ℕ) (lists : List (List ℕ)) (T : Terms) (h : Held) where
-  abbrev term : ℕ → TermScorer
-  term = termAt file lists (T .scoring) (h .places)
+module _ (file : List ℕ) (lists : List (List ℕ)) where
+  -- the place of the scorers of slots
+  pub place-is : (s : Scoring) (places : List (List ℕ)) (u : Union) (order : List ℕ)
+      → placeIn file lists s places (u .stage) (termsOf file lists s places (take (u .len) order)) ≡ placeOf file lists s u order places
+  place-is s places u order =
+      ap (λ z. record { stage = stageOf (u .stage); scorers = z }) (map-map (scorerAt file lists s places) (termAt file lists s places) (take (u .len) order))
 
-  -- a scorer can be read off the tables
-  readable : (q : ℕ) → Seat file lists T h (term q) → Readable file lists (T .caches) (h .places) (h .docs) q
-  unfolding postingsIn
-  readable q S = record {
-    slot-in = S .stand .slot-in;
-    part-row = S .stand .slot .part-row;
-    list = S .stand .slot .list;
-    weighed = S .weighed;
-    inside = S .stand .slot .place .placed .inside;
-    doc-is = sym (doc-in-array file (getD lists q []) (getD (h .places) q []) (S .stand .slot .list) (S .stand .slot .place));
-  }
+-- a run at a stage
+module _ {file : List ℕ} {lists : List (List ℕ)} {T : Terms} {u : Union} {order : List ℕ} {h : Held} (S : Stands file lists T u order h) {stage : Stage} (e : u .stage ≡ stage) where
+  pub stands-at : Stands file lists T (record { len = u .len; stage = stage }) order h
+  stands-at =
+      record { few = S .few; room = S .room; seated = S .seated; kept = subst (λ (z : Stage). UnionKept 128 (documents file) f32 (placeOf file lists (T .scoring) (record { len = u .len; stage = z }) order (h .places))) e (S .kept) }
 
-  -- seated scorers are those that their slots have
-  same-terms : (l : List TermScorer) → All (Seat file lists T h) l → map term (map slotOf l) ≡ l
-  same-terms [] a = refl
-  same-terms (s ∷ l) a =
-      let t = same-terms l (a .1) in
-      let e : term (s .slot) ≡ s =
-      ap (λ (x : ℕ). record { doc = x; «max_score» = listAt (T .scoring) file lists (s .slot) .top; slot = s .slot }) (sym (a .0 .stand .doc-is))
-      ∙ ap (λ (x : Float). record { doc = s .doc; «max_score» = x; slot = s .slot }) (a .0 .max-is) in
-      rw (e, t)
+  pub kept-at : UnionKept 128 (documents file) f32 (placeIn file lists (T .scoring) (h .places) stage (termsOf file lists (T .scoring) (h .places) (take (u .len) order)))
+  kept-at = rw (place-is file lists (T .scoring) (h .places) (record { len = u .len; stage = stage }) order) (stands-at .kept)
 
-module _ {file : List ℕ} {lists : List (List ℕ)} {T : Terms} {u : Union} {order : List ℕ} {h : Held} (S : Stands file lists T u order h) where
-  abbrev ordered : List TermScorer
-  ordered = map (term file lists T h) (take (u .len) order)
+-- a run that stands: its list bounds can be worked out
+pub tops-known : {file : List ℕ} {lists : List (List ℕ)} {T : Terms} {u : Union} {order : List ℕ} {h : Held} → Stands file lists T u order h
+    → All (Topped file lists (T .caches)) (take (u .len) order)
+tops-known {file} {lists} {T} {u} {order} {h} S =
+    all-unmap (λ s. Topped file lists (T .caches) (s .slot)) (termAt file lists (T .scoring) (h .places)) (take (u .len) order)
+    (all-imp (Seat file lists T h) (λ s. Topped file lists (T .caches) (s .slot)) (termsOf file lists (T .scoring) (h .places) (take (u .len) order))
+    (λ _ s. record { slot-in = s .stand .slot-in; part-row = s .stand .slot .part-row; list = s .stand .slot .list; weighed = s .weighed }) (S .seated .seats))
 
-  pub readables : All (Readable file lists (T .caches) (h .places) (h .docs)) (take (u .len) order)
-  readables =
-      all-imp (λ q. Seat file lists T h (term file lists T h q)) (Readable file lists (T .caches) (h .places) (h .docs)) (take (u .len) order) (readable file lists T h)
-      (all-unmap (Seat file lists T h) (term file lists T h) (take (u .len) order) (S .seated .seats))
-
-  -- read in their order, they have the run's place
-  module _ {l : List TermScorer} (e : l ≡ ordered) where
-    pub place-read : placeIn file lists (T .scoring) (h .places) (u .stage) l ≡ placeOf file lists (T .scoring) u order (h .places)
-    place-read =
-        ap (λ z. record { stage = stageOf (u .stage); scorers = map (scorerAt file lists (T .scoring) (h .places)) z }) e
-        ∙ ap (λ z. record { stage = stageOf (u .stage); scorers = z }) (map-map (scorerAt file lists (T .scoring) (h .places)) (term file lists T h) (take (u .len) order))
-
-    pub seated-read : Seated file lists T h l
-    seated-read = rw e (S .seated)
-
-    pub kept-read : UnionKept 128 (documents file) f32 (placeIn file lists (T .scoring) (h .places) (u .stage) l)
-    kept-read = rw place-read (S .kept)
+-- one list bound more in a row: one that is written again is the same
+pub one-top-more : (file : List ℕ) (lists : List (List ℕ)) (s : Scoring) (tops : List Float) (order : List ℕ) (i : ℕ) → Sixteen tops → getD order i 0 < 16 → i < length order
+    → {v : Float} → v ≡ listAt s file lists (getD order i 0) .top → All (TopIs file lists s tops) (take i order)
+    → All (TopIs file lists s (set tops (getD order i 0) v)) (take (i + 1) order)
+one-top-more file lists s tops order i long small inside {v} e a =
+    let q = getD order i 0 in
+    let now : TopIs file lists s (set tops q v) q = getD-set-same tops q v nan (omega arith) ∙ e in
+    let still : (r : ℕ) → TopIs file lists s tops r → TopIs file lists s (set tops q v) r =
+    λ r t.
+    on-test (eqb r q)
+    (λ b. let z = eqb-true r q b in rw z now)
+    (λ b. getD-set-other tops q r v nan (eqb-false r q b) ∙ t) in
+    rw (add-one, take-suc order i 0 inside)
+    (all-append (TopIs file lists s (set tops q v)) (take i order) (q ∷ [])
+    (all-imp (TopIs file lists s tops) (TopIs file lists s (set tops q v)) (take i order) still a) (now, tt))
 
 -- seated scorers, whose slots are written back in their order
 module _ {file : List ℕ} {lists : List (List ℕ)} {T : Terms} {h : Held} {l : List TermScorer} (S : Seated file lists T h l) (stage : Stage) (n : ℕ) (order : List ℕ) (e : take n order ≡ map slotOf l) where
@@ -116,52 +97,61 @@ module _ {file : List ℕ} {lists : List (List ℕ)} {T : Terms} {h : Held} {l :
 
 -- ---- the loop of `walk`
 
--- from scorers l₀ at a stage so many turns were taken, none with a report
-pub record OnWay (file : List ℕ) (lists : List (List ℕ)) (T : Terms) (t : Float) (stage₀ : Stage) (h₀ : Held) (l₀ : List TermScorer) (turns : ℕ)
-    (h : Held) (bounds : List Float) (z : Scorers) (stage : Stage) (taken : ℕ) : Type 0 where
-  pub quietly : Quietly (unionTurn 128 f32) unionEnded t (placeIn file lists (T .scoring) (h₀ .places) stage₀ l₀) taken (placeIn file lists (T .scoring) (h .places) stage (alive z))
-  pub kept : UnionKept 128 (documents file) f32 (placeIn file lists (T .scoring) (h .places) stage (alive z))
-  pub seated : Seated file lists (terms (T .scoring) (T .caches) bounds) h (alive z)
-  pub few : z .len ≤ 16
+-- from where a run stood, so many turns were taken, none with a report
+pub record OnWay (file : List ℕ) (lists : List (List ℕ)) (scoring : Scoring) (caches : List (List Float)) (t : Float) (tops : List Float) (from : UnionPlace Float) (turns : ℕ)
+    (h : Held) (bounds : List Float) (u : Union) (order : List ℕ) (taken : ℕ) : Type 0 where
+  pub quietly : Quietly (unionTurn 128 f32) unionEnded t from taken (placeOf file lists scoring u order (h .places))
+  pub stands : Stands file lists (terms scoring caches bounds) u order h
+  pub topped : All (TopIs file lists scoring tops) (take (u .len) order)
   pub within : taken ≤ turns
 
 -- no turn yet
-pub begun : {file : List ℕ} {lists : List (List ℕ)} {T : Terms} (t : Float) (stage : Stage) {h : Held} (z : Scorers) (turns : ℕ) → z .len ≤ 16 → Seated file lists T h (alive z)
-    → UnionKept 128 (documents file) f32 (placeIn file lists (T .scoring) (h .places) stage (alive z)) → OnWay file lists T t stage h (alive z) turns h (T .bounds) z stage 0
-begun t stage z turns few S k = record { quietly = none-yet (unionTurn 128 f32) unionEnded t _; kept = k; seated = S; few = few; within = omega arith }
+pub begun : {file : List ℕ} {lists : List (List ℕ)} {scoring : Scoring} {caches : List (List Float)} {bounds : List Float} (t : Float) {tops : List Float} {h : Held} (u : Union) (order : List ℕ) (turns : ℕ)
+    → Stands file lists (terms scoring caches bounds) u order h → All (TopIs file lists scoring tops) (take (u .len) order)
+    → OnWay file lists scoring caches t tops (placeOf file lists scoring u order (h .places)) turns h bounds u order 0
+begun t u order turns S a = record { quietly = none-yet (unionTurn 128 f32) unionEnded t _; stands = S; topped = a; within = omega arith }
 
-module _ {file : List ℕ} {lists : List (List ℕ)} {T : Terms} {t : Float} {stage₀ : Stage} {h₀ : Held} {l₀ : List TermScorer} {turns : ℕ}
-    {h : Held} {bounds : List Float} {z : Scorers} {stage : Stage} {taken : ℕ} (S : OnWay file lists T t stage₀ h₀ l₀ turns h bounds z stage taken) where
+module _ {file : List ℕ} {lists : List (List ℕ)} {scoring : Scoring} {caches : List (List Float)} {t : Float} {tops : List Float} {from : UnionPlace Float} {turns : ℕ}
+    {h : Held} {bounds : List Float} {u : Union} {order : List ℕ} {taken : ℕ} (S : OnWay file lists scoring caches t tops from turns h bounds u order taken) where
   -- its three ends: at the route's, after all turns that were allowed, and at a report
-  pub over : isOver (stageOf stage) ≡ true → Walks file lists T t stage₀ h₀ l₀ turns h bounds (walkedTo z stage taken event.Over)
-  over e = record { few = S .few; seated = S .seated; kept = S .kept; went = at-end (unionTurn 128 f32) unionEnded t (S .quietly) (S .within) e }
+  pub over : isOver (stageOf (u .stage)) ≡ true → Went (unionTurn 128 f32) unionEnded t from turns taken (placeOf file lists scoring u order (h .places)) event.Over
+  over e = at-end (unionTurn 128 f32) unionEnded t (S .quietly) (S .within) e
 
-  module _ (on : isOver (stageOf stage) ≡ false) where
-    pub paused : taken ≡ turns → Walks file lists T t stage₀ h₀ l₀ turns h bounds (walkedTo z stage taken event.Paused)
-    paused e = record { few = S .few; seated = S .seated; kept = S .kept; went = rw (sym e) (at-pause (unionTurn 128 f32) unionEnded t (S .quietly) on) }
+  module _ (on : isOver (stageOf (u .stage)) ≡ false) where
+    pub paused : taken ≡ turns → Went (unionTurn 128 f32) unionEnded t from turns taken (placeOf file lists scoring u order (h .places)) event.Paused
+    paused e = rw (sym e) (at-pause (unionTurn 128 f32) unionEnded t (S .quietly) on)
 
-    module _ (room : taken < turns) {h′ : Held} {bounds′ : List Float} {r : Step} (D : Turned file lists (terms (T .scoring) (T .caches) bounds) t stage h (alive z) (z .len) h′ bounds′ r) where
-      next-kept : UnionKept 128 (documents file) f32 (placeIn file lists (T .scoring) (h′ .places) (r .stage) (alive (r .scorers)))
-      next-kept = rw (D .does .next-is) at (union-nears 128 (documents file) f32 [] tt .nears t (placeIn file lists (T .scoring) (h .places) stage (alive z)) on (S .kept) .0)
+    module _ (room : taken < turns) {h′ : Held} {order′ : List ℕ} {bounds′ : List Float} {r : Step}
+        (D : Turned file lists (terms scoring caches bounds) t (u .stage) h order (u .len) h′ order′ bounds′ r) where
+      next-is : unionTurn 128 f32 t (placeOf file lists scoring u order (h .places)) .next ≡ placeOf file lists scoring (r .union) order′ (h′ .places)
+      next-is =
+          sym (ap (λ z. unionTurn 128 f32 t z .next) (place-is file lists scoring (h .places) u order)) ∙ D .does .next-is ∙ place-is file lists scoring (h′ .places) (r .union) order′
 
-      fewer : r .scorers .len ≤ 16
-      fewer = let a = D .few in let b = S .few in omega arith
+      due-is : unionTurn 128 f32 t (placeOf file lists scoring u order (h .places)) .due ≡ dueOf r
+      due-is = sym (ap (λ z. unionTurn 128 f32 t z .due) (place-is file lists scoring (h .places) u order)) ∙ D .does .due-is
+
+      -- a turn leaves a run that can go on
+      pub stands-on : Stands file lists (terms scoring caches bounds′) (r .union) order′ h′
+      stands-on =
+          let a = D .few in
+          let b = S .stands .few in
+          record {
+            few = omega arith;
+            room = D .long;
+            seated = D .seated;
+            kept = rw next-is at (union-nears 128 (documents file) f32 [] tt .nears t (placeOf file lists scoring u order (h .places)) on (S .stands .kept) .0);
+          }
 
       -- a turn without a report
-      pub quiet-turn : r .due ≡ false → OnWay file lists T t stage₀ h₀ l₀ turns h′ bounds′ (r .scorers) (r .stage) (taken + 1)
+      pub quiet-turn : r .due ≡ false → OnWay file lists scoring caches t tops from turns h′ bounds′ (r .union) order′ (taken + 1)
       quiet-turn e = record {
-        quietly = rw add-one (one-more (unionTurn 128 f32) unionEnded t (S .quietly) on (D .does .due-is ∙ rw e) (D .does .next-is));
-        kept = next-kept;
-        seated = D .seated;
-        few = fewer;
+        quietly = rw add-one (one-more (unionTurn 128 f32) unionEnded t (S .quietly) on (due-is ∙ rw e) next-is);
+        stands = stands-on;
+        topped = D .topped tops (S .topped);
         within = omega arith;
       }
 
       pub reports : r .due ≡ true
-          → Walks file lists T t stage₀ h₀ l₀ turns h′ bounds′ (walkedTo (r .scorers) (r .stage) (taken + 1) (event.Report (r .doc) (r .score)))
-      reports e = record {
-        few = fewer;
-        seated = D .seated;
-        kept = next-kept;
-        went = rw add-one (at-report (unionTurn 128 f32) unionEnded t (S .quietly) room on (D .does .due-is ∙ rw e) (D .does .next-is));
-      }
+          → Went (unionTurn 128 f32) unionEnded t from turns (taken + 1) (placeOf file lists scoring (r .union) order′ (h′ .places)) (event.Report (r .doc) (r .score))
+      reports e =
+          rw add-one (at-report (unionTurn 128 f32) unionEnded t (S .quietly) room on (due-is ∙ rw e) next-is)

@@ -1,10 +1,10 @@
 -- A move of one slot's scorer, seen from all the scorers of a union: the others stand as before, and the route's scorers with them.
 use mathlib.Core.List.{List, [], _∷_}
 use mathlib.Core.Path.{ap, refl, sym, _∙_, _≡_}
-use Prim.Native.Nat.{ℕ, _≤_, _<_}
+use Prim.Native.Nat.{ℕ, _<_}
 use native.Mathlib.Omega.{arith}
 use lib.ListN.{drop, getD, length, length-set, set, take, take-append-drop}
-use lib.Seq.{getD-set-other, getD-set-same, set-getD, take-take}
+use lib.Seq.{getD-set-other, getD-set-same, set-getD}
 use lib.Ieee.{Float, nan}
 use Rattle.route.specs.Lists.{All}
 use Rattle.route.specs.Postings.{Postings}
@@ -15,9 +15,9 @@ use Rattle.route.proofs.Lists.{all-imp, perm-eq}
 use Rattle.bm25.specs.declared.Scoring.{Scoring}
 use Rattle.ordering.specs.Inner.Scorers.{Apart, noScorer}
 use Rattle.ordering.specs.declared.TermScorer.{TermScorer}
-use Rattle.ordering.proofs.Kept.{Kept, Off, kept-all, kept-apart, slots-apart}
+use Rattle.ordering.proofs.Kept.{Kept, Off, kept-all, kept-apart, slots-all, slots-apart}
 use Rattle.ordering.proofs.OnRoute.{Fair, SameDoc}
-use Rattle.ordering.proofs.Places.{all-at, all-take}
+use Rattle.ordering.proofs.Places.{all-at}
 use Rattle.ordering.proofs.Turns.{SameOff, replaced-all, replaced-slots}
 use Rattle.notefile.specs.declared.part.Part.{Part}
 use Rattle.skip_reader.specs.Inner.Decoded.{docIn, doc-is}
@@ -25,7 +25,7 @@ use Rattle.skip_reader.specs.Inner.Reader.{readerAt}
 use Rattle.slot_rows.specs.Inner.Rows.{cursorIn, placeRow, PlaceIn, postingsIn}
 use Rattle.term_scorer.specs.Inner.Slots.{cursorAt, held, Held, listAt, partAt, MovedSlot, Shallowed, Sixteen, StandingIn}
 use Rattle.term_scorer.specs.Inner.Weights.{Bounded, FloatRow}
-use Rattle.block_wand_union.specs.Inner.Seats.{Carried, MaxScoreAt, Seat, Stand, Terms, scorerAt, terms}
+use Rattle.block_wand_union.specs.Inner.Seats.{Carried, MaxScoreAt, Seat, Stand, Terms, TopIs, scorerAt, terms}
 
 -- ---- rows
 
@@ -68,14 +68,10 @@ known-row file x row docs freqs flag P =
       placed = rw back (P .placed);
     })
 
--- of the first n, the first len
-pub first-of : (P : TermScorer → Type 0) (n len : ℕ) (l : List TermScorer) → len ≤ n → All P (take n l) → All P (take len l)
-first-of P n len l h a = rw (take-take len n l h) at (all-take P len (take n l) a)
-
-pub first-apart : (n len : ℕ) (l : List TermScorer) → len ≤ n → Apart (take n l) → Apart (take len l)
-first-apart n len l h a =
-    rw (take-take len n l h) at
-    (kept-apart {xs = take n l} {ys = take len (take n l)} (record { left-out = drop len (take n l); perm = perm-eq (sym (take-append-drop len (take n l))) }) a)
+-- the first of scorers in slots of their own
+pub first-apart : (len : ℕ) (l : List TermScorer) → Apart l → Apart (take len l)
+first-apart len l a =
+    kept-apart {xs = l} {ys = take len l} (record { left-out = drop len l; perm = perm-eq (sym (take-append-drop len l)) }) a
 
 module _ (file : List ℕ) (lists : List (List ℕ)) where
   -- ---- scorers whose rows stay
@@ -102,7 +98,7 @@ module _ (file : List ℕ) (lists : List (List ℕ)) where
   -- ---- the scorer that moves
 
   module _ {q : ℕ} {to : Scoring → Cursor} {h h′ : Held} {doc : ℕ} (M : MovedSlot file lists q to h h′ doc) where
-    others-rows : (r : ℕ) → (r ≡ q → ⊥) → SameRows h h′ r
+    pub others-rows : (r : ℕ) → (r ≡ q → ⊥) → SameRows h h′ r
     others-rows r n = record {
       places = row-off (h .places) (h′ .places) q r (M .places-only) n;
       docs = row-off (h .docs) (h′ .docs) q r (M .docs-only) n;
@@ -260,12 +256,13 @@ module _ (file : List ℕ) (lists : List (List ℕ)) where
   fair scoring h (y ∷ ys) a b = (record { doc-is = same-doc scoring h y (a .0); max-is = b .0 }, fair scoring h ys (a .1) (b .1))
 
   pub carried-refl : (h : Held) (l : List TermScorer) → Apart l → All (Stand file lists h) l → Carried file lists h l h l
-  carried-refl h l apart a = record { stands = a; apart = apart; seats = λ T s. s }
+  carried-refl h l apart a = record { stands = a; apart = apart; topped = λ k t b. b; seats = λ T s. s }
 
   pub carried-trans : {h h′ h″ : Held} {l l′ l″ : List TermScorer} → Carried file lists h l h′ l′ → Carried file lists h′ l′ h″ l″ → Carried file lists h l h″ l″
   carried-trans C D = record {
     stands = D .stands;
     apart = D .apart;
+    topped = λ k t b. D .topped k t (C .topped k t b);
     seats = λ T s. D .seats T (C .seats T s);
   }
 
@@ -274,6 +271,7 @@ module _ (file : List ℕ) (lists : List (List ℕ)) where
   carried-kept h k apart a = record {
     stands = kept-all (Stand file lists h) k a;
     apart = kept-apart k apart;
+    topped = λ r t b. kept-all (λ z. TopIs file lists r t (z .slot)) k b;
     seats = λ T s. kept-all (Seat file lists T h) k s;
   }
 
@@ -294,6 +292,7 @@ module _ (file : List ℕ) (lists : List (List ℕ)) where
         record {
           stands = replaced-all l i x′ inside apart (Stand file lists h) (Stand file lists h′) (λ s o R. stand-same h h′ s n (others-rows M (s .slot) o) R) (moved-stand x M S) a;
           apart = slots-apart l (set l i x′) slots apart;
+          topped = λ k t b. slots-all (TopIs file lists k t) l (set l i x′) slots b;
           seats = λ T s. replaced-all l i x′ inside apart (Seat file lists T h) (Seat file lists T h′)
               (λ z o R. seat-same T (T .bounds) h h′ z n (others-rows M (z .slot) o) refl R) (moved-seat x M T (all-at (Seat file lists T h) l i noScorer inside s)) s;
         }

@@ -18,7 +18,6 @@ use Rattle.route.proofs.Lists.{all-append, all-imp, all-map, all-zip}
 use Rattle.route.proofs.Union.Safe.{safe-shallow}
 use Rattle.bm25.specs.declared.Scoring.{Scoring}
 use Rattle.ordering.specs.Inner.Pivots.{pivotOf, Found}
-use Rattle.ordering.specs.declared.Scorers.{Scorers}
 use Rattle.ordering.specs.declared.TermScorer.{TermScorer}
 use Rattle.ordering.specs.declared.Pivot.the-variants.{Nowhere}
 use Rattle.ordering.proofs.Places.{all-drop, all-take, map-drop, map-take}
@@ -27,15 +26,16 @@ use Rattle.ordering.proofs.OnRoute.{Fair}
 use Rattle.ordering.proofs.Moving.{moved-all}
 use Rattle.ordering.proofs.UnionTurns.{called-turn, high-turn, low-turn, nowhere-turn}
 use Rattle.notefile.specs.Header.{documents}
-use Rattle.term_scorer.specs.Inner.Slots.{Held}
-use Rattle.block_wand_union.specs.Inner.Seats.{Carried, Inside, MaxScoreAt, Seat, Seated, Stand, Terms, alive, placeIn, scorerAt, terms}
+use Rattle.term_scorer.specs.Inner.Slots.{Held, Sixteen}
+use Rattle.block_wand_union.specs.Inner.Seats.{Carried, Inside, Lined, MaxScoreAt, Seat, Seated, Stand, Terms, TopIs, placeIn, scorerAt, termAt, terms, termsOf}
 use Rattle.block_wand_union.specs.Inner.Moves.{AdvancedAll, BlocksSought, TooLow}
 use Rattle.block_wand_union.specs.Inner.Turns.{AtPivot, Does, Pivoted, ToPivot, Turned, quietStep}
 use Rattle.block_wand_union.specs.declared.Stage.the-variants.{Called, Looking, Over}
 use Rattle.block_wand_union.specs.declared.turn.Span.{Span}
 use Rattle.block_wand_union.specs.declared.turn.Step.{Step}
-use Rattle.block_wand_union.proofs.Seats.{fair, seats-stand}
-use Rattle.block_wand_union.proofs.OnPivots.{all-unmap, found-low, inside-on}
+use Rattle.block_wand_union.proofs.Seats.{fair, first-apart, seats-stand}
+use Rattle.block_wand_union.proofs.Slots.{all-unmap, lined, same-terms, slots-of}
+use Rattle.block_wand_union.proofs.OnPivots.{found-low, inside-on}
 
 module _ {file : List ℕ} {lists : List (List ℕ)} {T : Terms} {h : Held} {l : List TermScorer} (S : Seated file lists T h l) where
   pub stands : All (Stand file lists h) l
@@ -50,9 +50,21 @@ module _ {file : List ℕ} {lists : List (List ℕ)} {T : Terms} {h : Held} {l :
   still-seated : {h′ : Held} {l′ : List TermScorer} → Carried file lists h l h′ l′ → Seated file lists T h′ l′
   still-seated C = record { seats = C .seats T (S .seats); apart = C .apart; row = S .row }
 
+-- a row that has the list bounds of slots has those of the slots that are left
+tops-kept : (file : List ℕ) (lists : List (List ℕ)) (s : Scoring) (h h′ : Held) (qs rs : List ℕ)
+    → Carried file lists h (termsOf file lists s (h .places) qs) h′ (termsOf file lists s (h′ .places) rs)
+    → (tops : List Float) → All (TopIs file lists s tops) qs → All (TopIs file lists s tops) rs
+tops-kept file lists s h h′ qs rs C tops a =
+    all-unmap (λ t. TopIs file lists s tops (t .slot)) (termAt file lists s (h′ .places)) rs
+    (C .topped s tops (all-map (TopIs file lists s tops) (λ t. TopIs file lists s tops (t .slot)) (termAt file lists s (h .places)) qs (λ _ x. x) a))
+
 -- ---- at a pivot that was found
 
-module _ {file : List ℕ} {lists : List (List ℕ)} {T : Terms} {t : Float} {h : Held} {l : List TermScorer} {at : Span} (Q : ToPivot file lists T t h l at) where
+module _ {file : List ℕ} {lists : List (List ℕ)} {T : Terms} {t : Float} {tops : List Float} {h : Held} {order : List ℕ} {n : ℕ} {at : Span}
+    (Q : ToPivot file lists T t tops h order n at) where
+  abbrev l : List TermScorer
+  l = termsOf file lists (T .scoring) (h .places) (take n order)
+
   abbrev before : ℕ
   before = at .«before_pivot_len»
 
@@ -68,6 +80,22 @@ module _ {file : List ℕ} {lists : List (List ℕ)} {T : Terms} {t : Float} {h 
   pub found : Found l before len p
   found = pivot-found t l (Q .found)
 
+  pub few : len ≤ n
+  few =
+      let q = found in
+      omega (arith, q .inside, length-map (take n order) (termAt file lists (T .scoring) (h .places)), length-take n order)
+
+  -- the scorers up to the pivot
+  pub first-seated : Seated file lists T h (termsOf file lists (T .scoring) (h .places) (take len order))
+  first-seated =
+      let term = termAt file lists (T .scoring) (h .places) in
+      let cut : take len l ≡ map term (take len order) = sym (map-take term len (take n order)) ∙ ap (map term) (take-take len n order few) in
+      rw (sym cut) (record {
+        seats = all-take (Seat file lists T h) len l (Q .seated .seats);
+        apart = first-apart len l (Q .seated .apart);
+        row = Q .seated .row;
+      })
+
   module _ {h′ : Held} {bounds′ : List Float} {upper : Float} (B : BlocksSought file lists T h p len h′ bounds′ upper l) where
     abbrev g : TermScorer → Scorer Float
     g = scorerAt file lists (T .scoring) (h′ .places)
@@ -75,8 +103,20 @@ module _ {file : List ℕ} {lists : List (List ℕ)} {T : Terms} {t : Float} {h 
     abbrev T′ : Terms
     T′ = terms (T .scoring) (T .caches) bounds′
 
-    pub seated′ : Seated file lists T′ h′ l
-    seated′ = record { seats = B .seats; apart = Q .seated .apart; row = B .row }
+    -- their documents stay
+    still : termsOf file lists (T .scoring) (h′ .places) (take n order) ≡ l
+    still =
+        ap (termsOf file lists (T .scoring) (h′ .places)) (sym (slots-of file lists (T .scoring) (h .places) (take n order)))
+        ∙ same-terms file lists T′ h′ l (B .seats)
+
+    sought : Seated file lists T′ h′ l
+    sought = record { seats = B .seats; apart = Q .seated .apart; row = B .row }
+
+    pub seated′ : Seated file lists T′ h′ (termsOf file lists (T .scoring) (h′ .places) (take n order))
+    seated′ = rw still sought
+
+    pub lined′ : Lined file lists h′ (take n order)
+    lined′ = lined file lists (T .scoring) h′ (take n order) (stands seated′) (seated′ .apart)
 
     -- shallow seeks keep the scorers safe
     safe′ : All (SafeS 128 (documents file)) (map g l)
@@ -89,69 +129,88 @@ module _ {file : List ℕ} {lists : List (List ℕ)} {T : Terms} {t : Float} {h 
         (all-append (SafeS 128 (documents file)) (map (seekBlock 128 p) (map f (take len l))) (map f (drop len l))
         (all-map (SafeS 128 (documents file)) (SafeS 128 (documents file)) (seekBlock 128 p) (map f (take len l)) (λ s k. safe-shallow 128 (documents file) p s (omega arith) k .safe) part) rest)
 
-    pub at-pivot : AtPivot file lists T′ h′ l at
-    at-pivot = record { found = found; seated = seated′; safe = safe′ }
+    pub at-pivot : AtPivot file lists T′ h′ (termsOf file lists (T .scoring) (h′ .places) (take n order)) at
+    at-pivot = rw still (record { found = found; seated = sought; safe = safe′ })
 
     sum-above : {b : Bool} → f32 .above upper t ≡ b → f32 .above (sum f32 (map (blockMaxScore 128 f32) (map g (take len l)))) t ≡ b
     sum-above q = rw (B .sum-is) at q
 
     -- the block bounds are high enough
-    pub high : f32 .above upper t ≡ true → {n : ℕ} {h″ : Held} {r : Step} → Pivoted file lists (T .scoring) t h′ l n at h″ r → Turned file lists T t Looking h l n h″ bounds′ r
-    high q {n} {h″} {r} P = record {
-      does = subst (λ (u : Turn (UnionPlace Float) Float). Does file lists (T .scoring) u h″ r)
-          (sym (high-turn 128 t l f (fair-here (Q .seated)) before len p (Q .found) g (B .moving) _ (sum-above q) refl)) (P .does);
+    pub high : f32 .above upper t ≡ true → {h″ : Held} {order″ : List ℕ} {r : Step} → Pivoted file lists (T .scoring) t h′ order n at h″ order″ r
+        → Turned file lists T t Looking h order n h″ order″ bounds′ r
+    high q {h″} {order″} {r} P = record {
+      does = subst (λ (u : Turn (UnionPlace Float) Float). Does file lists (T .scoring) u h″ order″ r)
+          (sym (high-turn 128 t l f (fair-here (Q .seated)) before len p (Q .found) g (B .moving) _ (sum-above q) refl)) (rw still at (P .does));
       seated = still-seated seated′ (P .carried);
+      topped = tops-kept file lists (T .scoring) h′ h″ (take n order) (take (r .union .len) order″) (P .carried);
       few = P .few;
+      long = P .long;
     }
 
     -- they are too low
-    pub low : f32 .above upper t ≡ false → {n : ℕ} {h″ : Held} {z : Scorers} → TooLow file lists h′ l n len h″ z → Turned file lists T t Looking h l n h″ bounds′ (quietStep z Looking)
-    low q P =
-        let e = low-turn 128 t l f (fair-here (Q .seated)) before len p (Q .found) g (B .moving) _ (sum-above q) (P .scorers-are (T .scoring) (max-scores (Q .seated))) in
+    pub low : f32 .above upper t ≡ false → {h″ : Held} {order″ : List ℕ} → TooLow file lists tops h′ order n len h″ order″
+        → Turned file lists T t Looking h order n h″ order″ bounds′ (quietStep n Looking)
+    low q {h″} {order″} P =
+        let O = P .one (T .scoring) (Q .topped) in
+        let e = low-turn 128 t l f (fair-here (Q .seated)) before len p (Q .found) g (B .moving) _ (sum-above q) (rw still at (O .scorers-are)) in
         record {
           does = record { next-is = ap (λ u. u .next) e; due-is = ap (λ u. u .due) e };
-          seated = still-seated seated′ (P .carried);
-          few = omega (arith, P .all);
+          seated = still-seated seated′ (O .carried);
+          topped = tops-kept file lists (T .scoring) h′ h″ (take n order) (take n order″) (O .carried);
+          few = omega arith;
+          long = P .long;
         }
 
 -- ---- with no pivot, behind a report, and at the end
 
-module _ {file : List ℕ} {lists : List (List ℕ)} {T : Terms} (t : Float) {h : Held} (z : Scorers) (S : Seated file lists T h (alive z)) where
+module _ {file : List ℕ} {lists : List (List ℕ)} {T : Terms} (t : Float) {h : Held} (order : List ℕ) (n : ℕ) (long : Sixteen order)
+    (S : Seated file lists T h (termsOf file lists (T .scoring) (h .places) (take n order))) where
   abbrev at-route : TermScorer → Scorer Float
   at-route = scorerAt file lists (T .scoring) (h .places)
 
-  pub nowhere : Nowhere ≡ pivotOf t (alive z) → Turned file lists T t Looking h (alive z) (z .len) h (T .bounds) (quietStep z Over)
-  nowhere e =
-      let q = nowhere-turn 128 t (alive z) at-route (fair-here S) e in
-      record { does = record { next-is = ap (λ u. u .next) q; due-is = ap (λ u. u .due) q }; seated = S; few = omega arith }
+  abbrev all : List TermScorer
+  all = termsOf file lists (T .scoring) (h .places) (take n order)
 
-  pub stays : Turned file lists T t Over h (alive z) (z .len) h (T .bounds) (quietStep z Over)
-  stays = record { does = record { next-is = refl; due-is = refl }; seated = S; few = omega arith }
+  pub nowhere : Nowhere ≡ pivotOf t all → Turned file lists T t Looking h order n h order (T .bounds) (quietStep n Over)
+  nowhere e =
+      let q = nowhere-turn 128 t all at-route (fair-here S) e in
+      record { does = record { next-is = ap (λ u. u .next) q; due-is = ap (λ u. u .due) q }; seated = S; topped = λ _ a. a; few = omega arith; long = long }
+
+  pub stays : Turned file lists T t Over h order n h order (T .bounds) (quietStep n Over)
+  stays = record { does = record { next-is = refl; due-is = refl }; seated = S; topped = λ _ a. a; few = omega arith; long = long }
 
   -- the scorers on the report's document go on
-  pub goes-on : {n : ℕ} {h′ : Held} {left : Scorers} → AdvancedAll file lists h (alive z) (z .len) n h′ left → Turned file lists T t (Called n) h (alive z) (z .len) h′ (T .bounds) (quietStep left Looking)
-  goes-on {n} D =
-      let q = called-turn 128 t 0 [] at-route (alive z) n in
+  pub goes-on : {k : ℕ} {h′ : Held} {order′ : List ℕ} {r : ℕ} → AdvancedAll file lists h order n k h′ order′ r
+      → Turned file lists T t (Called k) h order n h′ order′ (T .bounds) (quietStep r Looking)
+  goes-on {k} {h′} {order′} {r} D =
+      let q = called-turn 128 t 0 [] at-route all k in
+      let A = D .on (T .scoring) in
       record {
-        does = record { next-is = ap (λ u. u .next) q ∙ ap (λ ss. goOn ss) (sym (D .scorers-are (T .scoring))); due-is = ap (λ u. u .due) q };
-        seated = still-seated S (D .carried);
+        does = record { next-is = ap (λ u. u .next) q ∙ ap (λ ss. goOn ss) (sym (A .scorers-are)); due-is = ap (λ u. u .due) q };
+        seated = still-seated S (A .carried);
+        topped = tops-kept file lists (T .scoring) h h′ (take n order) (take r order′) (A .carried);
         few = D .few;
+        long = D .long;
       }
 
 -- and they can: they are on a document
-pub on-report : (file : List ℕ) (lists : List (List ℕ)) (scoring : Scoring) (h : Held) (z : Scorers) {n : ℕ}
-    → UnionKept 128 (documents file) f32 (placeIn file lists scoring (h .places) (Called n) (alive z)) → (n ≤ z .len) × All (Inside file lists h) (take n (z .scorers))
-on-report file lists scoring h z {n} k =
+pub on-report : (file : List ℕ) (lists : List (List ℕ)) (scoring : Scoring) (h : Held) (order : List ℕ) (n : ℕ) {k : ℕ}
+    → UnionKept 128 (documents file) f32 (placeIn file lists scoring (h .places) (Called k) (termsOf file lists scoring (h .places) (take n order)))
+    → (k ≤ n) × All (Inside lists h) (take k order)
+on-report file lists scoring h order n {k} kept =
     let g : TermScorer → Scorer Float = scorerAt file lists scoring (h .places) in
-    let R = k .stands in
+    let term = termAt file lists scoring (h .places) in
+    let l = termsOf file lists scoring (h .places) (take n order) in
+    let R = kept .stands in
     let low = R .live in
-    let l = alive z in
-    let few : n ≤ z .len = omega (arith, R .few, length-map l g, length-take (z .len) (z .scorers)) in
-    let on = rw (sym (map-take g n l)) at (R .on) in
-    let safe = rw (sym (map-take g n l)) at (all-take (SafeS 128 (documents file)) n (map g l) (k .scs)) in (
+    let few : k ≤ n = omega (arith, R .few, length-map l g, length-map (take n order) term, length-take n order) in
+    let on = rw (sym (map-take g k l)) at (R .on) in
+    let safe = rw (sym (map-take g k l)) at (all-take (SafeS 128 (documents file)) k (map g l) (kept .scs)) in
+    let cut : take k l ≡ map term (take k order) = sym (map-take term k (take n order)) ∙ ap (map term) (take-take k n order few) in (
       few,
-      rw (take-take n (z .len) (z .scorers) few) at
-          (all-zip (λ s. docOf (g s) ≡ R .doc) (λ s. SafeS 128 (documents file) (g s)) (Inside file lists h)
-          (λ s d a. inside-on file lists scoring h s a (omega (arith, d))) (take n l)
-          (all-unmap (λ x. docOf x ≡ R .doc) g (take n l) on) (all-unmap (SafeS 128 (documents file)) g (take n l) safe)),
+      all-unmap (λ s. Inside lists h (s .slot)) term (take k order)
+          (rw cut at
+          (all-zip (λ s. docOf (g s) ≡ R .doc) (λ s. SafeS 128 (documents file) (g s)) (λ s. Inside lists h (s .slot))
+          (λ s d a. inside-on file lists scoring h s a (omega (arith, d))) (take k l)
+          (all-unmap (λ x. docOf x ≡ R .doc) g (take k l) on) (all-unmap (SafeS 128 (documents file)) g (take k l) safe))),
     )

@@ -3,4 +3,3 @@ pub mod Seats
 pub mod Moves
 pub mod Turns
 pub mod Runs
-pub mod Pairs

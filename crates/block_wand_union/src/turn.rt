@@ -1,29 +1,33 @@
 // One turn of `block_wand`'s loop, which ends at its report: before one, or behind one, the turn is the rest.
 use crate::Stage;
+use crate::Union;
 use crate::align::align_scorers;
 use crate::blocks::seek_blocks;
 use crate::low::block_max_was_too_low_advance_one_scorer;
 use crate::pivot::advance_all_scorers_on_pivot;
 use crate::pivot::score_on_pivot;
 use ordering::Pivot;
-use ordering::Scorers;
-use ordering::find_pivot_doc;
+use slot_order::pivot::find_pivot_doc;
 use term_scorer::score::Similarity;
-ghost use mathlib.Core.Path.{_≡_};
 ghost use mathlib.Core.List.{List};
-ghost use Prim.Native.Nat.{_≤_};
-ghost use lib.ListN.{take};
+ghost use mathlib.Core.Path.{_≡_};
+ghost use Prim.Native.Nat.{_≤_, _<_};
 ghost use lib.Ieee.{Float};
+ghost use lib.ListN.{take};
 ghost use Rattle.arrays.specs.Lent.{before, after};
-ghost use Rattle.route.specs.F32.{f32};
 ghost use Rattle.route.specs.Lists.{All};
-ghost use Rattle.route.specs.Inner.Unions.{UnionKept};
-ghost use Rattle.ordering.specs.Inner.Scorers.{Apart};
-ghost use Rattle.notefile.specs.Header.{documents, normReader};
-ghost use Rattle.term_scorer.specs.Inner.Slots.{held};
-ghost use Rattle.block_wand_union.specs.Inner.Seats.{OnDocument, Seated, Stand, alive, placeIn, terms};
+ghost use Rattle.notefile.specs.Header.{normReader};
+ghost use Rattle.term_scorer.specs.Inner.Slots.{held, Sixteen};
+ghost use Rattle.block_wand_union.specs.Inner.Seats.{Lined, OnDocument, TopIs, terms, termsOf};
 ghost use Rattle.block_wand_union.specs.Inner.Turns.{AtPivot, Hit, Pivoted, ToPivot, Turned, quietStep};
+ghost use Rattle.block_wand_union.specs.Inner.Runs.{Stands};
 ghost use Rattle.block_wand_union.specs.declared.Stage.the-variants.{Looking};
+
+// What scores and bounds are made with, and the threshold that they must exceed.
+pub struct Bar {
+    pub similarity: Similarity,
+    pub threshold: f32,
+}
 
 // Where a pivot is: the scorers up to before_pivot_len stand before it, those up to pivot_len on it.
 pub struct Span {
@@ -34,20 +38,18 @@ pub struct Span {
 
 // The scorers left and the stage that follows, and whether document doc is due with its score.
 pub struct Step {
-    pub scorers: Scorers,
-    pub stage: Stage,
+    pub union: Union,
     pub due: bool,
     pub doc: u32,
     pub score: f32,
 }
 
 // No document is due.
-fn quiet(scorers: Scorers, stage: Stage) -> Step
-    ensures { λ r. ⌜ r ≡ quietStep scorers stage ⌝ }
+fn quiet(len: usize, stage: Stage) -> Step
+    ensures { λ r. ⌜ r ≡ quietStep len stage ⌝ }
 {
     Step {
-        scorers,
-        stage,
+        union: Union { len, stage },
         due: false,
         doc: 0,
         score: 0.0,
@@ -57,196 +59,198 @@ fn quiet(scorers: Scorers, stage: Stage) -> Step
 // All of the first scorers stand on the pivot: it is scored. They go on, unless a report is due, which comes first.
 fn hit(
     file: &[u8],
-    similarity: Similarity,
+    bar: Bar,
+    n: usize,
+    span: Span,
     lists: &[[usize; 8]; 16],
     caches: &[[f32; 256]; 16],
-    threshold: f32,
-    scorers: Scorers,
-    span: Span,
+    order: &mut [usize; 16],
     places: &mut [[usize; 8]; 16],
     docs: &mut [[u32; 128]; 16],
     freqs: &mut [[u32; 128]; 16],
 ) -> Step
     requires { let slots = held (now places) (now docs) (now freqs) in
-        let first = take (span .«pivot_len») (scorers .scorers) in
-        ⌜ (span .«pivot_len» ≤ scorers .len) × (scorers .len ≤ 16) × (similarity .norms ≡ normReader (now file))
-        × Apart (alive scorers) × All (Stand (now file) (now lists) slots) (alive scorers)
-        × All (OnDocument (now file) (now lists) (now caches) slots) first ⌝ }
+        ⌜ (span .«pivot_len» ≤ n) × (n ≤ 16) × (bar .similarity .norms ≡ normReader (now file)) × Sixteen (now order)
+        × Lined (now file) (now lists) slots (take n (now order)) × (span .«pivot_doc» < 2147483647)
+        × All (OnDocument (now file) (now lists) (now caches) slots (span .«pivot_doc»)) (take (span .«pivot_len») (now order)) ⌝ }
     ensures { λ r.
         let old = held (before places) (before docs) (before freqs) in
         let new = held (after places) (after docs) (after freqs) in
-        ⌜ Hit (before file) (before lists) (similarity .scoring) threshold old (alive scorers) (scorers .len)
-        (span .«pivot_len») (span .«pivot_doc») new r ⌝ }
+        ⌜ Hit (before file) (before lists) (bar .similarity .scoring) (bar .threshold) old (before order) n
+        (span .«pivot_len») (span .«pivot_doc») new (after order) r ⌝ }
 {
     let pivot_len = span.pivot_len;
     let score = score_on_pivot(
         file,
-        similarity,
+        bar.similarity,
         lists,
         caches,
-        scorers,
         pivot_len,
+        span.pivot_doc,
+        order,
         places,
         docs,
         freqs,
     );
-    if score > threshold {
+    if score > bar.threshold {
         let stage = Stage::Called(pivot_len);
         return Step {
-            scorers,
-            stage,
+            union: Union { len: n, stage },
             due: true,
             doc: span.pivot_doc,
             score,
         };
     }
-    let left = advance_all_scorers_on_pivot(file, lists, scorers, pivot_len, places, docs, freqs);
-    quiet(left, Stage::Looking)
+    let len = advance_all_scorers_on_pivot(file, lists, n, pivot_len, order, places, docs, freqs);
+    quiet(len, Stage::Looking)
 }
 
 // The scorers before the pivot are sent to it.
 fn on_pivot(
     file: &[u8],
-    similarity: Similarity,
+    bar: Bar,
+    n: usize,
+    span: Span,
     lists: &[[usize; 8]; 16],
     caches: &[[f32; 256]; 16],
-    threshold: f32,
-    scorers: Scorers,
-    span: Span,
+    order: &mut [usize; 16],
     places: &mut [[usize; 8]; 16],
     docs: &mut [[u32; 128]; 16],
     freqs: &mut [[u32; 128]; 16],
 ) -> Step
-    requires { let slots = held (now places) (now docs) (now freqs) in
-        ⌜ (scorers .len ≤ 16) × (similarity .norms ≡ normReader (now file)) × ((bounds : List Float)
-        × AtPivot (now file) (now lists) (terms (similarity .scoring) (now caches) bounds) slots (alive scorers) span) ⌝ }
+    requires { let scoring = bar .similarity .scoring in
+        let slots = held (now places) (now docs) (now freqs) in
+        let l = termsOf (now file) (now lists) scoring (now places) (take n (now order)) in
+        ⌜ (n ≤ 16) × (bar .similarity .norms ≡ normReader (now file)) × Sixteen (now order)
+        × ((bounds : List Float) × AtPivot (now file) (now lists) (terms scoring (now caches) bounds) slots l span) ⌝ }
     ensures { λ r.
         let old = held (before places) (before docs) (before freqs) in
         let new = held (after places) (after docs) (after freqs) in
-        ⌜ Pivoted (before file) (before lists) (similarity .scoring) threshold old (alive scorers) (scorers .len) span new r ⌝ }
+        ⌜ Pivoted (before file) (before lists) (bar .similarity .scoring) (bar .threshold) old (before order) n span new (after order) r ⌝ }
 {
-    let before_pivot_len = span.before_pivot_len;
-    let pivot_doc = span.pivot_doc;
     let alignment = align_scorers(
         file,
         lists,
-        scorers,
-        before_pivot_len,
-        pivot_doc,
+        n,
+        span.before_pivot_len,
+        span.pivot_doc,
+        order,
         places,
         docs,
         freqs,
     );
-    let aligned = alignment.scorers;
     if alignment.on_pivot {
         return hit(
             file,
-            similarity,
+            bar,
+            n,
+            span,
             lists,
             caches,
-            threshold,
-            aligned,
-            span,
+            order,
             places,
             docs,
             freqs,
         );
     }
-    quiet(aligned, Stage::Looking)
+    quiet(alignment.len, Stage::Looking)
 }
 
 // The skip readers seek the pivot. Then one scorer goes past blocks that are too low, or the scorers go to the pivot.
 fn to_pivot(
     file: &[u8],
-    similarity: Similarity,
+    bar: Bar,
+    n: usize,
+    span: Span,
     lists: &[[usize; 8]; 16],
     caches: &[[f32; 256]; 16],
-    threshold: f32,
-    scorers: Scorers,
-    span: Span,
+    tops: &[f32; 16],
+    order: &mut [usize; 16],
     places: &mut [[usize; 8]; 16],
     docs: &mut [[u32; 128]; 16],
     freqs: &mut [[u32; 128]; 16],
     bounds: &mut [f32; 128],
 ) -> Step
-    requires { let T = terms (similarity .scoring) (now caches) (now bounds) in
+    requires { let T = terms (bar .similarity .scoring) (now caches) (now bounds) in
         let slots = held (now places) (now docs) (now freqs) in
-        ⌜ (scorers .len ≤ 16) × (similarity .norms ≡ normReader (now file))
-        × ToPivot (now file) (now lists) T threshold slots (alive scorers) span ⌝ }
+        ⌜ (bar .similarity .norms ≡ normReader (now file)) × Sixteen (now tops)
+        × ToPivot (now file) (now lists) T (bar .threshold) (now tops) slots (now order) n span ⌝ }
     ensures { λ r.
-        let T = terms (similarity .scoring) (before caches) (before bounds) in
+        let T = terms (bar .similarity .scoring) (before caches) (before bounds) in
         let old = held (before places) (before docs) (before freqs) in
         let new = held (after places) (after docs) (after freqs) in
-        ⌜ Turned (before file) (before lists) T threshold Looking old (alive scorers) (scorers .len) new (after bounds) r ⌝ }
+        ⌜ Turned (before file) (before lists) T (bar .threshold) Looking old (before order) n new (after order) (after bounds) r ⌝ }
 {
-    let pivot_len = span.pivot_len;
     let upper_bound = seek_blocks(
         file,
-        similarity,
+        bar.similarity,
         lists,
         caches,
-        scorers,
-        pivot_len,
+        span.pivot_len,
         span.pivot_doc,
+        order,
         places,
         docs,
         freqs,
         bounds,
     );
-    if upper_bound > threshold {
+    if upper_bound > bar.threshold {
         return on_pivot(
             file,
-            similarity,
+            bar,
+            n,
+            span,
             lists,
             caches,
-            threshold,
-            scorers,
-            span,
+            order,
             places,
             docs,
             freqs,
         );
     }
-    let moved = block_max_was_too_low_advance_one_scorer(
+    block_max_was_too_low_advance_one_scorer(
         file,
         lists,
-        scorers,
-        pivot_len,
+        n,
+        span.pivot_len,
+        tops,
+        order,
         places,
         docs,
         freqs,
     );
-    quiet(moved, Stage::Looking)
+    quiet(n, Stage::Looking)
 }
 
 // A pivot, if there is one, and a step to it.
 fn look(
     file: &[u8],
-    similarity: Similarity,
+    bar: Bar,
+    n: usize,
     lists: &[[usize; 8]; 16],
     caches: &[[f32; 256]; 16],
-    threshold: f32,
-    scorers: Scorers,
+    tops: &[f32; 16],
+    order: &mut [usize; 16],
     places: &mut [[usize; 8]; 16],
     docs: &mut [[u32; 128]; 16],
     freqs: &mut [[u32; 128]; 16],
     bounds: &mut [f32; 128],
 ) -> Step
-    requires { let T = terms (similarity .scoring) (now caches) (now bounds) in
+    requires { let scoring = bar .similarity .scoring in
         let slots = held (now places) (now docs) (now freqs) in
-        let place = placeIn (now file) (now lists) (similarity .scoring) (now places) Looking (alive scorers) in
-        ⌜ (scorers .len ≤ 16) × (similarity .norms ≡ normReader (now file))
-        × Seated (now file) (now lists) T slots (alive scorers) × UnionKept 128 (documents (now file)) f32 place ⌝ }
+        let u = quietStep n Looking .union in
+        ⌜ (bar .similarity .norms ≡ normReader (now file)) × Sixteen (now tops)
+        × All (TopIs (now file) (now lists) scoring (now tops)) (take n (now order))
+        × Stands (now file) (now lists) (terms scoring (now caches) (now bounds)) u (now order) slots ⌝ }
     ensures { λ r.
-        let T = terms (similarity .scoring) (before caches) (before bounds) in
+        let T = terms (bar .similarity .scoring) (before caches) (before bounds) in
         let old = held (before places) (before docs) (before freqs) in
         let new = held (after places) (after docs) (after freqs) in
-        ⌜ Turned (before file) (before lists) T threshold Looking old (alive scorers) (scorers .len) new (after bounds) r ⌝ }
+        ⌜ Turned (before file) (before lists) T (bar .threshold) Looking old (before order) n new (after order) (after bounds) r ⌝ }
 {
-    let array = scorers.scorers;
-    let pivot = find_pivot_doc(array, scorers.len, threshold);
+    let pivot = find_pivot_doc(order, n, tops, bar.threshold, places, docs);
     match pivot {
-        Pivot::Nowhere => quiet(scorers, Stage::Over),
+        Pivot::Nowhere => quiet(n, Stage::Over),
         Pivot::At {
             before_pivot_len,
             pivot_len,
@@ -259,12 +263,13 @@ fn look(
             };
             to_pivot(
                 file,
-                similarity,
+                bar,
+                n,
+                span,
                 lists,
                 caches,
-                threshold,
-                scorers,
-                span,
+                tops,
+                order,
                 places,
                 docs,
                 freqs,
@@ -277,45 +282,57 @@ fn look(
 // Behind a report the scorers on its document go on; over, nothing does.
 pub fn turn(
     file: &[u8],
-    similarity: Similarity,
+    bar: Bar,
+    union: Union,
     lists: &[[usize; 8]; 16],
     caches: &[[f32; 256]; 16],
-    threshold: f32,
-    stage: Stage,
-    scorers: Scorers,
+    tops: &[f32; 16],
+    order: &mut [usize; 16],
     places: &mut [[usize; 8]; 16],
     docs: &mut [[u32; 128]; 16],
     freqs: &mut [[u32; 128]; 16],
     bounds: &mut [f32; 128],
 ) -> Step
-    requires { let T = terms (similarity .scoring) (now caches) (now bounds) in
+    requires { let scoring = bar .similarity .scoring in
         let slots = held (now places) (now docs) (now freqs) in
-        let place = placeIn (now file) (now lists) (similarity .scoring) (now places) stage (alive scorers) in
-        ⌜ (scorers .len ≤ 16) × (similarity .norms ≡ normReader (now file))
-        × Seated (now file) (now lists) T slots (alive scorers) × UnionKept 128 (documents (now file)) f32 place ⌝ }
+        ⌜ (bar .similarity .norms ≡ normReader (now file)) × Sixteen (now tops)
+        × All (TopIs (now file) (now lists) scoring (now tops)) (take (union .len) (now order))
+        × Stands (now file) (now lists) (terms scoring (now caches) (now bounds)) union (now order) slots ⌝ }
     ensures { λ r.
-        let T = terms (similarity .scoring) (before caches) (before bounds) in
+        let T = terms (bar .similarity .scoring) (before caches) (before bounds) in
         let old = held (before places) (before docs) (before freqs) in
         let new = held (after places) (after docs) (after freqs) in
-        ⌜ Turned (before file) (before lists) T threshold stage old (alive scorers) (scorers .len) new (after bounds) r ⌝ }
+        ⌜ Turned (before file) (before lists) T (bar .threshold) (union .stage) old (before order) (union .len) new
+        (after order) (after bounds) r ⌝ }
 {
+    let stage = union.stage;
     match stage {
         Stage::Looking => look(
             file,
-            similarity,
+            bar,
+            union.len,
             lists,
             caches,
-            threshold,
-            scorers,
+            tops,
+            order,
             places,
             docs,
             freqs,
             bounds,
         ),
-        Stage::Called(n) => {
-            let left = advance_all_scorers_on_pivot(file, lists, scorers, n, places, docs, freqs);
-            quiet(left, Stage::Looking)
+        Stage::Called(k) => {
+            let len = advance_all_scorers_on_pivot(
+                file,
+                lists,
+                union.len,
+                k,
+                order,
+                places,
+                docs,
+                freqs,
+            );
+            quiet(len, Stage::Looking)
         }
-        Stage::Over => quiet(scorers, Stage::Over),
+        Stage::Over => quiet(union.len, Stage::Over),
     }
 }

@@ -1,42 +1,61 @@
 // Turns in a row, under one threshold.
+use crate::Gone;
 use crate::Stage;
+use crate::Union;
+use crate::turn::Bar;
 use crate::turn::turn;
-use ordering::Scorers;
 use reports::Event;
+use term_scorer::score;
 use term_scorer::score::Similarity;
 ghost use mathlib.Core.Path.{_≡_};
 ghost use Prim.Native.Nat.{_≤_};
+ghost use lib.ListN.{take};
 ghost use Rattle.arrays.specs.Lent.{before, after};
 ghost use Rattle.route.specs.F32.{f32};
-ghost use Rattle.route.specs.Union.{isOver};
-ghost use Rattle.route.specs.Inner.Unions.{UnionKept};
-ghost use Rattle.notefile.specs.Header.{documents, normReader};
-ghost use Rattle.term_scorer.specs.Inner.Slots.{held};
-ghost use Rattle.block_wand_union.specs.Inner.Seats.{Seated, alive, placeIn, stageOf, terms};
-ghost use Rattle.block_wand_union.specs.Inner.Runs.{Walks, walkedTo};
+ghost use Rattle.route.specs.Lists.{All};
+ghost use Rattle.route.specs.Union.{isOver, unionTurn};
+ghost use Rattle.notefile.specs.Header.{normReader};
+ghost use Rattle.reports.specs.Inner.Turns.{Went};
+ghost use Rattle.term_scorer.specs.Inner.Slots.{held, Sixteen};
+ghost use Rattle.block_wand_union.specs.Inner.Seats.{TopIs, Topped, stageOf, terms};
+ghost use Rattle.block_wand_union.specs.Inner.Runs.{Stands, goneTo, placeOf, unionEnded};
 
-// The scorers and the stage after `taken` turns, and why no more were taken.
-pub struct Walked {
-    pub scorers: Scorers,
-    pub stage: Stage,
-    pub taken: usize,
-    pub event: Event,
+// The list bounds of the scorers that are left, by slot.
+pub fn list_bounds(
+    file: &[u8],
+    similarity: Similarity,
+    lists: &[[usize; 8]; 16],
+    caches: &[[f32; 256]; 16],
+    n: usize,
+    order: &[usize; 16],
+) -> [f32; 16]
+    requires { ⌜ (n ≤ 16) × Sixteen (now order) × All (Topped (now file) (now lists) (now caches)) (take n (now order)) ⌝ }
+    ensures { λ r. ⌜ Sixteen r × All (TopIs (before file) (before lists) (similarity .scoring) r) (take n (before order)) ⌝ }
+{
+    let mut tops = [0.0f32; 16];
+    let mut i = 0usize;
+    while i < n {
+        let q = order[i];
+        tops[q] = score::max_score(file, similarity, lists, caches, q);
+        i += 1;
+    }
+    tops
 }
 
-fn stopped(scorers: Scorers, stage: Stage, taken: usize, event: Event) -> Walked
-    ensures { λ r. ⌜ r ≡ walkedTo scorers stage taken event ⌝ }
+fn stopped(union: Union, taken: usize, event: Event) -> Gone
+    ensures { λ r. ⌜ r ≡ goneTo union taken event ⌝ }
 {
-    Walked {
-        scorers,
-        stage,
+    Gone {
+        union,
         taken,
         event,
     }
 }
 
-fn is_over(stage: Stage) -> bool
-    ensures { λ r. ⌜ r ≡ isOver (stageOf stage) ⌝ }
+fn is_over(union: Union) -> bool
+    ensures { λ r. ⌜ r ≡ isOver (stageOf (union .stage)) ⌝ }
 {
+    let stage = union.stage;
     match stage {
         Stage::Looking => false,
         Stage::Called(_) => false,
@@ -47,58 +66,56 @@ fn is_over(stage: Stage) -> bool
 // Turn after turn, until a report is due, the route is over, or `turns` turns are taken.
 pub fn walk(
     file: &[u8],
-    similarity: Similarity,
+    bar: Bar,
+    union: Union,
     lists: &[[usize; 8]; 16],
     caches: &[[f32; 256]; 16],
-    threshold: f32,
     turns: usize,
-    stage: Stage,
-    scorers: Scorers,
+    tops: &[f32; 16],
+    order: &mut [usize; 16],
     places: &mut [[usize; 8]; 16],
     docs: &mut [[u32; 128]; 16],
     freqs: &mut [[u32; 128]; 16],
     bounds: &mut [f32; 128],
-) -> Walked
-    requires { let T = terms (similarity .scoring) (now caches) (now bounds) in
+) -> Gone
+    requires { let scoring = bar .similarity .scoring in
         let slots = held (now places) (now docs) (now freqs) in
-        let place = placeIn (now file) (now lists) (similarity .scoring) (now places) stage (alive scorers) in
-        ⌜ (scorers .len ≤ 16) × (similarity .norms ≡ normReader (now file))
-        × Seated (now file) (now lists) T slots (alive scorers) × UnionKept 128 (documents (now file)) f32 place ⌝ }
+        ⌜ (bar .similarity .norms ≡ normReader (now file)) × Sixteen (now tops)
+        × All (TopIs (now file) (now lists) scoring (now tops)) (take (union .len) (now order))
+        × Stands (now file) (now lists) (terms scoring (now caches) (now bounds)) union (now order) slots ⌝ }
     ensures { λ r.
-        let T = terms (similarity .scoring) (before caches) (before bounds) in
-        let old = held (before places) (before docs) (before freqs) in
-        let new = held (after places) (after docs) (after freqs) in
-        ⌜ Walks (before file) (before lists) T threshold stage old (alive scorers) turns new (after bounds) r ⌝ }
+        let scoring = bar .similarity .scoring in
+        let slots = held (after places) (after docs) (after freqs) in
+        let from = placeOf (before file) (before lists) scoring union (before order) (before places) in
+        let to = placeOf (before file) (before lists) scoring (r .union) (after order) (after places) in
+        ⌜ Stands (before file) (before lists) (terms scoring (before caches) (after bounds)) (r .union) (after order) slots
+        × Went (unionTurn 128 f32) unionEnded (bar .threshold) from turns (r .taken) to (r .event) ⌝ }
 {
-    let mut left = scorers;
-    let mut now = stage;
+    let mut now = union;
     let mut taken = 0usize;
     while !is_over(now) {
         if taken == turns {
-            return stopped(left, now, taken, Event::Paused);
+            return stopped(now, taken, Event::Paused);
         }
         let step = turn(
             file,
-            similarity,
+            bar,
+            now,
             lists,
             caches,
-            threshold,
-            now,
-            left,
+            tops,
+            order,
             places,
             docs,
             freqs,
             bounds,
         );
-        let scorers_left = step.scorers;
-        let next = step.stage;
-        left = scorers_left;
-        now = next;
+        now = step.union;
         taken += 1;
         if step.due {
             let event = Event::Report(step.doc, step.score);
-            return stopped(left, now, taken, event);
+            return stopped(now, taken, event);
         }
     }
-    stopped(left, now, taken, Event::Over)
+    stopped(now, taken, Event::Over)
 }

@@ -15,7 +15,7 @@ keep-order-requires c κs = search needs
 returns : tie.Need-returns
 returns c =
     let K = c .keep-order .ensures in
-    record { union-is = refl; order-is = K .0 ∙ ap (map slotOf) (c .before .before .sort-by-doc .ensures .0); room = K .1 }
+    record { union-is = refl; order-is = K .are ∙ ap (map slotOf) (c .before .before .sort-by-doc .ensures .0); room = K .long }
 
 pub begin-spec : {M : Type 1} → statement M
 begin-spec = tie.close (tie.spec sort-by-doc-requires keep-order-requires returns)

@@ -12,21 +12,20 @@ use Rattle.route.specs.Scorer.{blockMaxScore, seekBlock}
 use Rattle.route.specs.Union.{Around, advanceAllScorersOnPivot, aligned, alignScorers, blockMaxWasTooLow, missed, missedOn}
 use Rattle.bm25.specs.declared.Scoring.{Scoring}
 use Rattle.ordering.specs.Inner.Scorers.{Moving}
-use Rattle.ordering.specs.declared.Scorers.{Scorers}
 use Rattle.ordering.specs.declared.TermScorer.{TermScorer}
-use Rattle.term_scorer.specs.Inner.Slots.{Held, lastAt}
+use Rattle.term_scorer.specs.Inner.Slots.{Held, lastAt, Sixteen}
 use Rattle.term_scorer.specs.Inner.Weights.{FloatRow}
-use Rattle.block_wand_union.specs.Inner.Seats.{Carried, Seat, Terms, MaxScoreAt, alive, onRoute, scorerAt, terms}
+use Rattle.block_wand_union.specs.Inner.Seats.{Carried, Seat, Terms, TopIs, onRoute, scorerAt, terms, termsOf}
 use Rattle.block_wand_union.specs.declared.align.Alignment.{Alignment}
 
--- the least of t and the last documents of the scorers' present blocks
-abbrev pub leastLastOf : List (List ℕ) → ℕ → List TermScorer → ℕ
+-- the least of t and the last documents of the slots' present blocks
+abbrev pub leastLastOf : List (List ℕ) → ℕ → List ℕ → ℕ
 leastLastOf places t [] = t
-leastLastOf places t (s ∷ ss) = leastLastOf places (min (lastAt places (s .slot)) t) ss
+leastLastOf places t (q ∷ qs) = leastLastOf places (min (lastAt places q) t) qs
 
--- a scorer whose present block's last document can be read
-abbrev pub LastRead : List (List ℕ) → TermScorer → Type 0
-LastRead places s = (s .slot < 16) × (lastAt places (s .slot) < 4294967296)
+-- a slot whose present block's last document can be read
+abbrev pub LastRead : List (List ℕ) → ℕ → Type 0
+LastRead places q = (q < 16) × (lastAt places q < 4294967296)
 
 module _ (file : List ℕ) (lists : List (List ℕ)) where
   -- the first len of l have shallowly sought doc, and r is the sum of their block bounds, in their order
@@ -38,13 +37,17 @@ module _ (file : List ℕ) (lists : List (List ℕ)) where
     pub sum-is : r ≡ sum f32 (map (blockMaxScore 128 f32) (onRoute file lists (T .scoring) h′ (take len l)))
     pub row : FloatRow bounds′
 
-  -- the blocks of the first len of n scorers l were too low, and one of them has gone on: the route's next scorers, whatever the scoring
-  pub record TooLow (h : Held) (l : List TermScorer) (n len : ℕ) (h′ : Held) (r : Scorers) : Type 0 where
-    pub carried : Carried file lists h l h′ (alive r)
-    pub scorers-are : (scoring : Scoring) → All (MaxScoreAt file lists scoring) l
-        → onRoute file lists scoring h′ (alive r)
+  -- the blocks of the first len of scorers l were too low, and one of them has gone on: the route's next scorers
+  pub record OneOn (scoring : Scoring) (h : Held) (l : List TermScorer) (len : ℕ) (h′ : Held) (l′ : List TermScorer) : Type 0 where
+    pub carried : Carried file lists h l h′ l′
+    pub scorers-are : onRoute file lists scoring h′ l′
         ≡ blockMaxWasTooLow 128 f32 (onRoute file lists scoring h (take len l)) (onRoute file lists scoring h (drop len l))
-    pub all : r .len ≡ n
+
+  -- of n slots in the row, whatever the scoring, if the list bounds are in theirs
+  pub record TooLow (tops : List Float) (h : Held) (order : List ℕ) (n len : ℕ) (h′ : Held) (order′ : List ℕ) : Type 0 where
+    pub one : (scoring : Scoring) → All (TopIs file lists scoring tops) (take n order)
+        → OneOn scoring h (termsOf file lists scoring (h .places) (take n order)) len h′ (termsOf file lists scoring (h′ .places) (take n order′))
+    pub long : Sixteen order′
 
   -- all came to the pivot: the first before scorers have sought it, and the others stay
   pub record OnPivot (p : ℕ) (h : Held) (l : List TermScorer) (before : ℕ) (h′ : Held) (l′ : List TermScorer) : Type 0 where
@@ -65,16 +68,24 @@ module _ (file : List ℕ) (lists : List (List ℕ)) where
   AlignedBy true = OnPivot
   AlignedBy false = PastPivot
 
-  -- what `align_scorers` leaves of n scorers l
-  pub record Aligns (p : ℕ) (h : Held) (l : List TermScorer) (n before : ℕ) (h′ : Held) (r : Alignment) : Type 0 where
-    pub by : AlignedBy (r .«on_pivot») p h l before h′ (alive (r .scorers))
-    pub few : r .scorers .len ≤ n
-    pub all : r .«on_pivot» ≡ true → r .scorers .len ≡ n
-
-  -- the first len of n scorers l have advanced, the finished are gone, and the rest is in order
-  pub record AdvancedAll (h : Held) (l : List TermScorer) (n len : ℕ) (h′ : Held) (r : Scorers) : Type 0 where
-    pub carried : Carried file lists h l h′ (alive r)
-    pub scorers-are : (scoring : Scoring)
-        → onRoute file lists scoring h′ (alive r)
-        ≡ advanceAllScorersOnPivot 128 (onRoute file lists scoring h (take len l)) (onRoute file lists scoring h (drop len l))
+  -- what `align_scorers` leaves of n slots in the row
+  pub record Aligns (p : ℕ) (h : Held) (order : List ℕ) (n before : ℕ) (h′ : Held) (order′ : List ℕ) (r : Alignment) : Type 0 where
+    pub by : (scoring : Scoring)
+        → AlignedBy (r .«on_pivot») p h (termsOf file lists scoring (h .places) (take n order)) before
+        h′ (termsOf file lists scoring (h′ .places) (take (r .len) order′))
     pub few : r .len ≤ n
+    pub all : r .«on_pivot» ≡ true → r .len ≡ n
+    pub long : Sixteen order′
+
+  -- the first len of scorers l have advanced, the finished are gone, and the rest is in order
+  pub record Advanced (scoring : Scoring) (h : Held) (l : List TermScorer) (len : ℕ) (h′ : Held) (l′ : List TermScorer) : Type 0 where
+    pub carried : Carried file lists h l h′ l′
+    pub scorers-are : onRoute file lists scoring h′ l′
+        ≡ advanceAllScorersOnPivot 128 (onRoute file lists scoring h (take len l)) (onRoute file lists scoring h (drop len l))
+
+  -- of n slots in the row, so many are left
+  pub record AdvancedAll (h : Held) (order : List ℕ) (n len : ℕ) (h′ : Held) (order′ : List ℕ) (r : ℕ) : Type 0 where
+    pub on : (scoring : Scoring)
+        → Advanced scoring h (termsOf file lists scoring (h .places) (take n order)) len h′ (termsOf file lists scoring (h′ .places) (take r order′))
+    pub few : r ≤ n
+    pub long : Sixteen order′

@@ -7,29 +7,26 @@ use lib.ListN.{take}
 use lib.Ieee.{Float}
 use Rattle.route.specs.F32.{f32}
 use Rattle.route.specs.Ordering.{sortBy}
-use Rattle.route.specs.Union.{UnionPlace, isOver, unionTurn}
+use Rattle.route.specs.Union.{UnionPlace, isOver}
 use Rattle.route.specs.Inner.Unions.{UnionKept}
 use Rattle.bm25.specs.declared.Scoring.{Scoring}
 use Rattle.ordering.specs.Inner.Scorers.{byDoc, slotOf}
-use Rattle.ordering.specs.declared.Scorers.{Scorers}
 use Rattle.ordering.specs.declared.TermScorer.{TermScorer}
 use Rattle.notefile.specs.Header.{documents}
-use Rattle.reports.specs.Inner.Turns.{Went}
 use Rattle.reports.specs.declared.Event.{Event}
 use Rattle.term_scorer.specs.Inner.Slots.{Held, Sixteen}
-use Rattle.block_wand_union.specs.Inner.Seats.{Seated, Terms, alive, placeIn, slotScorer, stageOf, termAt, terms}
-use Rattle.block_wand_union.specs.declared.Stage.{Stage}
+use Rattle.block_wand_union.specs.Inner.Seats.{Seated, Terms, slotScorer, stageOf, termsOf}
 use Rattle.block_wand_union.specs.declared.Stage.the-variants.{Looking}
 use Rattle.block_wand_union.specs.declared.Union.{Union}
-use Rattle.block_wand_union.specs.declared.walk.Walked.{Walked}
+use Rattle.block_wand_union.specs.declared.Gone.{Gone}
 
 -- the route's end
 abbrev pub unionEnded : UnionPlace Float → Bool
 unionEnded p = isOver (p .stage)
 
 -- where `walk` stopped
-abbrev pub walkedTo : Scorers → Stage → ℕ → Event → Walked
-walkedTo z stage taken event = record { scorers = z; stage = stage; taken = taken; event = event }
+abbrev pub goneTo : Union → ℕ → Event → Gone
+goneTo u taken event = record { union = u; taken = taken; event = event }
 
 -- a run over scorers l begins: it looks for a pivot, and the slots stand in the order of the scorers' documents
 pub record Begins (l : List TermScorer) (n : ℕ) (u : Union) (order : List ℕ) : Type 0 where
@@ -49,14 +46,5 @@ module _ (file : List ℕ) (lists : List (List ℕ)) where
   pub record Stands (T : Terms) (u : Union) (order : List ℕ) (h : Held) : Type 0 where
     pub few : u .len ≤ 16
     pub room : Sixteen order
-    pub seated : Seated file lists T h (map (termAt file lists (T .scoring) (h .places)) (take (u .len) order))
+    pub seated : Seated file lists T h (termsOf file lists (T .scoring) (h .places) (take (u .len) order))
     pub kept : UnionKept 128 (documents file) f32 (placeOf (T .scoring) u order (h .places))
-
-  -- the same with the scorers by value: `walk` went from scorers l at a stage
-  pub record Walks (T : Terms) (t : Float) (stage : Stage) (h : Held) (l : List TermScorer) (turns : ℕ) (h′ : Held)
-      (bounds′ : List Float) (r : Walked) : Type 0 where
-    pub few : r .scorers .len ≤ 16
-    pub seated : Seated file lists (terms (T .scoring) (T .caches) bounds′) h′ (alive (r .scorers))
-    pub kept : UnionKept 128 (documents file) f32 (placeIn file lists (T .scoring) (h′ .places) (r .stage) (alive (r .scorers)))
-    pub went : Went (unionTurn 128 f32) unionEnded t (placeIn file lists (T .scoring) (h .places) stage l) turns (r .taken)
-        (placeIn file lists (T .scoring) (h′ .places) (r .stage) (alive (r .scorers))) (r .event)

@@ -1,11 +1,10 @@
--- The scorers of a union over the slots: what the lent arrays hold of each, and the route's scorer that it stands for.
+-- The scorers of a union in their slots: what the tables hold of each, and the route's scorer that it stands for.
 use mathlib.Core.Path.{_≡_}
 use mathlib.Core.List.{List, [], map}
 use Prim.Native.Nat.{ℕ, _≤_, _<_}
 use lib.ListN.{getD, take}
-use lib.Ieee.{Float}
+use lib.Ieee.{Float, nan}
 use Rattle.route.specs.Lists.{All}
-use Rattle.route.specs.Postings.{TERMINATED}
 use Rattle.route.specs.Scorer.{Scorer}
 use Rattle.route.specs.Union.{Stage, UnionPlace, called, looking, over}
 use Rattle.bm25.specs.declared.Scoring.{Scoring}
@@ -29,7 +28,7 @@ pub record Terms : Type 0 where
 abbrev pub terms : Scoring → List (List Float) → List Float → Terms
 terms scoring caches bounds = record { scoring = scoring; caches = caches; bounds = bounds }
 
--- the scorers that are left
+-- the scorers of an array that are left
 abbrev pub alive : Scorers → List TermScorer
 alive z = take (z .len) (z .scorers)
 
@@ -38,6 +37,10 @@ abbrev pub stageOf : code.Stage → Stage
 stageOf Looking = looking
 stageOf (Called n) = called n
 stageOf Over = over
+
+-- slot q's skip reader has a block to stand on, so that its scorer can advance
+abbrev pub Inside : List (List ℕ) → Held → ℕ → Type 0
+Inside lists h q = cursorAt (h .places) q .blk ≤ fullBlocks (partAt lists q)
 
 module _ (file : List ℕ) (lists : List (List ℕ)) where
   -- the route's scorer in slot q, whose number is its position
@@ -54,6 +57,10 @@ module _ (file : List ℕ) (lists : List (List ℕ)) where
     «max_score» = listAt scoring file lists q .top;
     slot = q;
   }
+
+  -- the scorers of slots
+  abbrev pub termsOf : Scoring → List (List ℕ) → List ℕ → List TermScorer
+  termsOf scoring places qs = map (termAt scoring places) qs
 
   -- the route's scorers
   abbrev pub onRoute : Scoring → Held → List TermScorer → List (Scorer Float)
@@ -73,6 +80,17 @@ module _ (file : List ℕ) (lists : List (List ℕ)) where
   abbrev pub MaxScoreAt : Scoring → TermScorer → Type 0
   MaxScoreAt scoring s = listAt scoring file lists (s .slot) .top ≡ s .«max_score»
 
+  -- a row has slot q's list bound
+  abbrev pub TopIs : Scoring → List Float → ℕ → Type 0
+  TopIs scoring tops q = getD tops q nan ≡ listAt scoring file lists q .top
+
+  -- slot q's list bound can be worked out
+  pub record Topped (caches : List (List Float)) (q : ℕ) : Type 0 where
+    pub slot-in : q < 16
+    pub part-row : PartRow (getD lists q [])
+    pub list : ListIn file (partAt lists q)
+    pub weighed : Weighed lists caches q
+
   -- a scorer stands in its slot, with its list's norms and its list bound, and a block bound that is known is right
   pub record Seat (T : Terms) (h : Held) (s : TermScorer) : Type 0 where
     pub stand : Stand h s
@@ -80,30 +98,25 @@ module _ (file : List ℕ) (lists : List (List ℕ)) where
     pub bound : BoundKept (T .scoring) file lists (h .places) (T .bounds) (s .slot)
     pub max-is : MaxScoreAt (T .scoring) s
 
-  -- a scorer whose skip reader has a block to stand on, so that it can advance
-  abbrev pub Inside : Held → TermScorer → Type 0
-  Inside h s = cursorAt (h .places) (s .slot) .blk ≤ fullBlocks (partAt lists (s .slot))
-
-  -- a scorer on a document: its posting can be scored, and it can advance
-  pub record OnDocument (caches : List (List Float)) (h : Held) (s : TermScorer) : Type 0 where
-    pub stand : Stand h s
-    pub weighed : Weighed lists caches (s .slot)
-    pub live : s .doc < TERMINATED
-    pub inside : Inside h s
-
-  -- slot q's scorer can be read off the tables
-  pub record Readable (caches : List (List Float)) (places docs : List (List ℕ)) (q : ℕ) : Type 0 where
+  -- slot q's scorer stands on document p: its posting can be scored, and it can advance
+  pub record OnDocument (caches : List (List Float)) (h : Held) (p q : ℕ) : Type 0 where
     pub slot-in : q < 16
-    pub part-row : PartRow (getD lists q [])
-    pub list : ListIn file (partAt lists q)
+    pub slot : SlotIn file lists h q
     pub weighed : Weighed lists caches q
-    pub inside : getD (getD places q []) 6 0 < 128
-    pub doc-is : getD (getD docs q []) (getD (getD places q []) 6 0) 0 ≡ docIn file (partAt lists q) (cursorAt places q .at)
+    pub on : p ≡ docIn file (partAt lists q) (cursorAt (h .places) q .at)
+    pub inside : Inside lists h q
 
-  -- after moves of scorers l, those left are l′: each stands in a slot of its own, where it was right it still is
+  -- the scorers of these slots can move, each in a slot of its own
+  pub record Lined (h : Held) (qs : List ℕ) : Type 0 where
+    pub stands : (scoring : Scoring) → All (Stand h) (termsOf scoring (h .places) qs)
+    pub apart : (scoring : Scoring) → Apart (termsOf scoring (h .places) qs)
+
+  -- after moves of scorers l, those left are l′: each stands in a slot of its own, where it was right it still is,
+  -- and a row that has the list bounds of l has theirs
   pub record Carried (h : Held) (l : List TermScorer) (h′ : Held) (l′ : List TermScorer) : Type 0 where
     pub stands : All (Stand h′) l′
     pub apart : Apart l′
+    pub topped : (scoring : Scoring) (tops : List Float) → All (λ s. TopIs scoring tops (s .slot)) l → All (λ s. TopIs scoring tops (s .slot)) l′
     pub seats : (T : Terms) → All (Seat T h) l → All (Seat T h′) l′
 
   -- the scorers of a run, each in a slot of its own

@@ -1,74 +1,105 @@
 -- `align::align_scorers` meets its contract: each turn one scorer seeks the pivot in its slot, which is one step of the route's alignment; a miss is put back.
 use mathlib.Core.Bool.{true≢false}
-use mathlib.Core.Path.{refl, sym, _∙_}
-use Prim.Native.Nat.{_-_, _≤_}
+use mathlib.Core.List.{List}
+use mathlib.Core.Path.{_≡_, ap, refl, subst, sym, _∙_}
+use Prim.Native.Nat.{ℕ, _-_, _<_, _≤_}
 use native.Mathlib.Omega.{arith}
-use lib.ListN.{getD, length, length-map}
+use lib.ListN.{getD, length, length-take, take}
+use lib.Seq.{getD-take}
 use borrow.Author.Needs.{needs}
-use Rattle.ordering.specs.Inner.Scorers.{noScorer}
-use Rattle.term_scorer.specs.Inner.Slots.{held, Sixteen}
-use Rattle.block_wand_union.specs.Inner.Seats.{Stand}
-use Rattle.block_wand_union.proofs.Alignments.{Seeking, all-on, goes-past, seeking, seeks, stand-before}
+use Rattle.bm25.specs.declared.Scoring.{Scoring}
+use Rattle.bm25.specs.declared.Scoring.the-variants.{Unstepped}
+use Rattle.term_scorer.specs.Inner.Slots.{held, Held, Sixteen}
+use Rattle.block_wand_union.specs.Inner.Seats.{Lined, Stand, termAt}
+use Rattle.block_wand_union.proofs.Alignments.{Seeking, all-on, goes-past, seeking, seeks, stand-before, still-readable}
+use Rattle.block_wand_union.proofs.Slots.{doc-read, readable}
 use Rattle.block_wand_union.proofs.align.align_scorers.Statement.{statement}
 use Rattle.block_wand_union.proofs.align.align_scorers.Tie as tie
 
 abbrev Inv-loop : tie.InvT-loop
-Inv-loop file lists before-pivot-len pivot-doc places₀ docs₀ freqs₀ n out₀ i₀ places docs freqs out i =
-    (i ≤ before-pivot-len) × Seeking file lists pivot-doc (held places₀ docs₀ freqs₀) out₀ n before-pivot-len i (held places docs freqs) out
+Inv-loop file lists n before-pivot-len pivot-doc order₀ places₀ docs₀ freqs₀ i₀ order places docs freqs i =
+    (i ≤ before-pivot-len) × (order ≡ order₀) × ((s : Scoring) → Seeking file lists pivot-doc s (held places₀ docs₀ freqs₀) (take n order) before-pivot-len i (held places docs freqs))
 
 abbrev μ-loop : tie.MeasureT-loop
-μ-loop file lists before-pivot-len pivot-doc places₀ docs₀ freqs₀ n out₀ i₀ places docs freqs out i = i
+μ-loop file lists n before-pivot-len pivot-doc order₀ places₀ docs₀ freqs₀ i₀ order places docs freqs i = i
 
-abbrev start : tie.After-out Inv-loop μ-loop → tie.Start Inv-loop μ-loop
-start o = o .before .before
+abbrev start : tie.At-loop Inv-loop μ-loop → tie.Start Inv-loop μ-loop
+start l = l .before .before
 
--- an array of 16, by the struct's type
-sixteen : (a : tie.Start Inv-loop μ-loop) → Sixteen (a .args .scorers .scorers)
-sixteen a = sym (length-map (a .args .scorers .scorers) _) ∙ a .good .1 .1 .0 .1 .1 .0 .1 .0 .1
+abbrev in-loop : tie.After-seek Inv-loop μ-loop → tie.In-loop Inv-loop μ-loop
+in-loop k = k .before .before .before .before .before .before .before .before
 
-long : (o : tie.After-out Inv-loop μ-loop) → start o .args .scorers .len ≤ length (start o .args .scorers .scorers)
-long o = omega (arith, sixteen (start o))
+abbrev first : tie.Start Inv-loop μ-loop → Held
+first a = held (a .args .places .now) (a .args .docs .now) (a .args .freqs .now)
 
-stand-in : (c : tie.In-loop Inv-loop μ-loop) → (let a = start (c .before .before) in
-    Stand (a .args .file .now) (a .args .lists .now) (held (c .before .loop .places) (c .before .loop .docs) (c .before .loop .freqs)) (getD (c .before .loop .out) (c .before .loop .i - 1) noScorer))
-stand-in c =
-    let a = start (c .before .before) in
-    stand-before _ _ _ _ _ _ _ (a .pre .3) (omega arith) (long (c .before .before)) (omega arith) (c .before .loop .inv .1) (omega arith)
+abbrev slots : tie.At-loop Inv-loop μ-loop → List ℕ
+slots l = take (start l .args .n) (l .loop .order)
+
+abbrev now : tie.In-loop Inv-loop μ-loop → Held
+now b = held (b .before .loop .places) (b .before .loop .docs) (b .before .loop .freqs)
+
+sixteen : (l : tie.At-loop Inv-loop μ-loop) → Sixteen (l .loop .order)
+sixteen l = subst Sixteen (sym (l .loop .inv .1)) (start l .pre .3)
+
+lined : (l : tie.At-loop Inv-loop μ-loop) → Lined (start l .args .file .now) (start l .args .lists .now) (first (start l)) (slots l)
+lined l = subst (λ (z : List ℕ). Lined (start l .args .file .now) (start l .args .lists .now) (first (start l)) (take (start l .args .n) z)) (sym (l .loop .inv .1)) (start l .pre .4)
+
+inside : (l : tie.At-loop Inv-loop μ-loop) → start l .args .before-pivot-len < length (slots l)
+inside l = let a = start l in omega (arith, sixteen l, length-take (a .args .n) (l .loop .order))
+
+-- the slot before place i
+here : (b : tie.In-loop Inv-loop μ-loop) → getD (slots (b .before)) (b .before .loop .i - 1) 0 ≡ getD (b .before .loop .order) (b .before .loop .i - 1) 0
+here b = let a = start (b .before) in getD-take (a .args .n) (b .before .loop .order) (b .before .loop .i - 1) 0 (omega arith)
+
+stand-in : (b : tie.In-loop Inv-loop μ-loop) → (let a = start (b .before) in
+    Stand (a .args .file .now) (a .args .lists .now) (now b) (termAt (a .args .file .now) (a .args .lists .now) Unstepped (b .before .loop .places) (getD (b .before .loop .order) (b .before .loop .i - 1) 0)))
+stand-in b =
+    let l = b .before in
+    rw (here b) at (stand-before _ _ _ Unstepped (first (start l)) (slots l) _ (lined l) (inside l) (l .loop .inv .2 Unstepped) (omega arith))
 
 loop-holds : tie.Need-loop-holds Inv-loop μ-loop
-loop-holds c = let a = start c in (omega arith, seeking _ _ _ _ _ _ _ (sixteen a) (a .pre .3) (a .pre .4))
+loop-holds c = let a = c .before in (omega arith, refl, λ s. seeking _ _ _ s _ _ _ (a .pre .4))
 
 sub-i : tie.Need-sub-i Inv-loop μ-loop
 sub-i c = search needs
 
-mul-scorer : tie.Need-mul-scorer Inv-loop μ-loop
-mul-scorer c = search needs
+mul-q : tie.Need-mul-q Inv-loop μ-loop
+mul-q c = search needs
 
-array-copy-out-scorer : tie.Need-array-copy-out-scorer Inv-loop μ-loop
-array-copy-out-scorer c = search needs
+element-copy-out-q : tie.Need-element-copy-out-q Inv-loop μ-loop
+element-copy-out-q c = let a = start (c .before) in omega (arith, sixteen (c .before))
+
+doc-requires : tie.Need-doc-requires Inv-loop μ-loop
+doc-requires c κs =
+    let b = c .before .before .before in let R = readable _ _ Unstepped (now b) _ (stand-in b) in (R .slot-in, R .inside)
 
 seek-requires : tie.Need-seek-requires Inv-loop μ-loop
-seek-requires c κs = let b = c .before .before .before .before in let S = stand-in b in (S .slot-in, S .slot, S .doc-is, start (b .before .before) .pre .2)
-
-mul-out : tie.Need-mul-out Inv-loop μ-loop
-mul-out c = search needs
-
-array-set-from-out : tie.Need-array-set-from-out Inv-loop μ-loop
-array-set-from-out c = search needs
+seek-requires c κs =
+    let d = c .before .before .before in
+    let b = d .before .before .before .before in
+    let S = stand-in b in
+    (S .slot-in, S .slot, d .doc .ensures ∙ sym (doc-read _ _ Unstepped (now b) _ S), start (b .before) .pre .2)
 
 put-back-requires : tie.Need-put-back-requires Inv-loop μ-loop
-put-back-requires c κs = search needs
+put-back-requires c κs =
+    let k = c .before .before .before .before in
+    let b = in-loop k in
+    let a = start (b .before) in
+    (omega arith, a .pre .1, sixteen (b .before), still-readable _ _ _ Unstepped (first a) (slots (b .before)) _ (lined (b .before)) (inside (b .before)) (b .before .loop .inv .2 Unstepped) (omega arith) _ (here b) (k .seek .ensures))
 
 returns : tie.Need-returns Inv-loop μ-loop
 returns c =
-    let b = c .before .before .before .before .before .before .before in
-    let o = b .before .before in
-    let a = start o in
-    let L = c .put-back .ensures .0 in
+    let t = c .before .before .before .before in
+    let k = t .before in
+    let b = in-loop k in
+    let l = b .before in
+    let a = start l in
+    let D = c .put-back .ensures in
     record {
-      by = goes-past _ _ _ _ _ _ _ (a .pre .3) (omega arith) (long o) (omega arith) (b .before .loop .inv .1) (omega arith) (c .before .before .seek .ensures) (c .before .if1 .taken) L;
-      few = L .few;
+      by = λ s. goes-past _ _ _ s (first a) (slots l) _ (lined l) (inside l) (l .loop .inv .2 s) (omega arith) _ (here b) (k .seek .ensures) (t .if1 .taken) _ (D .are) (ap (take (a .args .n)) (l .loop .inv .1));
+      few = D .few;
       all = λ e. absurd (true≢false (sym e));
+      long = D .long;
     }
 
 loop-less : tie.Need-loop-less Inv-loop μ-loop
@@ -76,17 +107,17 @@ loop-less c = search needs
 
 loop-again : tie.Need-loop-again Inv-loop μ-loop
 loop-again c =
-    let b = c .before .before .before .before .before .before in
-    let o = b .before .before in
-    let a = start o in
-    (omega arith, seeks _ _ _ _ _ _ _ (a .pre .3) (omega arith) (long o) (omega arith) (b .before .loop .inv .1) (omega arith) (c .before .seek .ensures) (omega arith))
+    let k = c .before in
+    let b = in-loop k in
+    let l = b .before in
+    let a = start l in
+    (omega arith, l .loop .inv .1, λ s. seeks _ _ _ s (first a) (slots l) _ (lined l) (inside l) (l .loop .inv .2 s) (omega arith) _ (here b) (k .seek .ensures) (omega arith))
 
 returns-2 : tie.Need-returns-2 Inv-loop μ-loop
 returns-2 c =
-    let o = c .before .before in
-    let a = start o in
-    let S = c .before .loop .inv .1 in
-    record { by = all-on _ _ _ _ _ _ _ (a .pre .3) (omega arith) (long o) (omega arith) S (omega arith); few = omega arith; all = λ _. refl }
+    let l = c .before in
+    let a = start l in
+    record { by = λ s. all-on _ _ _ s (first a) (slots l) _ (l .loop .inv .2 s) (omega arith) (ap (take (a .args .n)) (l .loop .inv .1)); few = omega arith; all = λ _. refl; long = sixteen l }
 
 pub align-scorers-spec : {M : Type 1} → statement M
 align-scorers-spec =
@@ -96,11 +127,10 @@ align-scorers-spec =
     μ-loop
     loop-holds
     sub-i
-    mul-scorer
-    array-copy-out-scorer
+    mul-q
+    element-copy-out-q
+    doc-requires
     seek-requires
-    mul-out
-    array-set-from-out
     put-back-requires
     returns
     loop-less

@@ -1,65 +1,72 @@
 -- `blocks::seek_blocks` meets its contract: each turn one skip reader seeks the pivot in its slot, which leaves every other scorer, and its block's bound is added.
 use mathlib.Core.List.{List}
-use mathlib.Core.Path.{_≡_, sym, _∙_}
-use Prim.Native.Nat.{_-_, _≤_}
+use mathlib.Core.Path.{_≡_, ap, _∙_}
+use Prim.Native.Nat.{ℕ, _-_, _<_, _≤_}
 use native.Mathlib.Omega.{arith}
 use lib.Ieee.{ofBits}
-use lib.ListN.{getD, length, length-map, take}
-use lib.Seq.{take-take}
+use lib.ListN.{getD, length, length-map, length-take, take}
+use lib.Seq.{getD-take}
 use borrow.Author.Needs.{needs}
 use Rattle.route.specs.Cursor.{seekBlockIn}
-use Rattle.route.specs.Lists.{All}
-use Rattle.ordering.specs.Inner.Scorers.{Apart, noScorer}
+use Rattle.ordering.specs.Inner.Scorers.{noScorer}
 use Rattle.ordering.specs.declared.TermScorer.{TermScorer}
-use Rattle.term_scorer.specs.Inner.Slots.{cursorAt, held, listAt, Sixteen}
-use Rattle.block_wand_union.specs.Inner.Seats.{Seat, terms}
-use Rattle.block_wand_union.proofs.BlockBounds.{Bounding, bounded, bounding, bounds-next, first-same, seat-of}
+use Rattle.term_scorer.specs.Inner.Slots.{cursorAt, held, listAt}
+use Rattle.slot_order.proofs.Rows.{map-at}
+use Rattle.block_wand_union.specs.Inner.Seats.{Seat, Seated, termAt, terms, termsOf}
+use Rattle.block_wand_union.proofs.BlockBounds.{Bounding, bounded, bounding, bounds-next, seat-at}
 use Rattle.block_wand_union.proofs.Seats.{shallow-seat, standing-in}
 use Rattle.block_wand_union.proofs.blocks.seek_blocks.Statement.{statement}
 use Rattle.block_wand_union.proofs.blocks.seek_blocks.Tie as tie
 
 abbrev Inv-loop : tie.InvT-loop
-Inv-loop file similarity lists caches pivot-len pivot-doc places₀ docs freqs bounds₀ array sum₀ i₀ places bounds sum i =
-    (i ≤ pivot-len) × ((l : List TermScorer) → take pivot-len l ≡ take pivot-len array → Apart l → All (Seat file lists (terms (similarity .scoring) caches bounds₀) (held places₀ docs freqs)) l → Bounding file lists (terms (similarity .scoring) caches bounds₀) places₀ docs freqs pivot-doc l i places bounds sum)
+Inv-loop file similarity lists caches pivot-len pivot-doc order places₀ docs freqs bounds₀ sum₀ i₀ places bounds sum i =
+    (i ≤ pivot-len) × ((n : ℕ) → pivot-len ≤ n → Seated file lists (terms (similarity .scoring) caches bounds₀) (held places₀ docs freqs) (termsOf file lists (similarity .scoring) places₀ (take n order)) → Bounding file lists (terms (similarity .scoring) caches bounds₀) places₀ docs freqs pivot-doc (termsOf file lists (similarity .scoring) places₀ (take n order)) i places bounds sum)
 
 abbrev μ-loop : tie.MeasureT-loop
-μ-loop file similarity lists caches pivot-len pivot-doc places₀ docs freqs bounds₀ array sum₀ i₀ places bounds sum i = pivot-len - i
+μ-loop file similarity lists caches pivot-len pivot-doc order places₀ docs freqs bounds₀ sum₀ i₀ places bounds sum i = pivot-len - i
 
-abbrev start : tie.After-array Inv-loop μ-loop → tie.Start Inv-loop μ-loop
-start o = o .before .before
+abbrev start : tie.At-loop Inv-loop μ-loop → tie.Start Inv-loop μ-loop
+start l = l .before .before
 
--- an array of 16, by the struct's type
-sixteen : (a : tie.Start Inv-loop μ-loop) → Sixteen (a .args .scorers .scorers)
-sixteen a = sym (length-map (a .args .scorers .scorers) _) ∙ a .good .1 .1 .1 .1 .0 .1 .1 .0 .1 .0 .1
+abbrev scorers : tie.Start Inv-loop μ-loop → ℕ → List TermScorer
+scorers a n = termsOf (a .args .file .now) (a .args .lists .now) (a .args .similarity .scoring) (a .args .places .now) (take n (a .args .order .now))
 
-long : (o : tie.After-array Inv-loop μ-loop) → start o .args .pivot-len ≤ length (start o .args .scorers .scorers)
-long o = omega (arith, sixteen (start o))
+in-scorers : (b : tie.In-loop Inv-loop μ-loop) (n : ℕ) → start (b .before) .args .pivot-len ≤ n → b .before .loop .i < length (scorers (start (b .before)) n)
+in-scorers b n k =
+    let a = start (b .before) in
+    omega (arith, length-map (take n (a .args .order .now)) (termAt (a .args .file .now) (a .args .lists .now) (a .args .similarity .scoring) (a .args .places .now)), length-take n (a .args .order .now), a .pre .2)
+
+-- the scorer at place i
+here : (b : tie.In-loop Inv-loop μ-loop) (n : ℕ) → start (b .before) .args .pivot-len ≤ n → (let a = start (b .before) in
+    getD (scorers a n) (b .before .loop .i) noScorer ≡ termAt (a .args .file .now) (a .args .lists .now) (a .args .similarity .scoring) (a .args .places .now) (getD (a .args .order .now) (b .before .loop .i) 0))
+here b n k =
+    let a = start (b .before) in
+    let term = termAt (a .args .file .now) (a .args .lists .now) (a .args .similarity .scoring) (a .args .places .now) in
+    map-at term (take n (a .args .order .now)) (b .before .loop .i) 0 noScorer (omega (arith, length-take n (a .args .order .now), a .pre .2))
+    ∙ ap term (getD-take n (a .args .order .now) (b .before .loop .i) 0 (omega arith))
 
 -- of the first scorers alone
-first : (c : tie.In-loop Inv-loop μ-loop) → (let a = start (c .before .before) in
+own : (b : tie.In-loop Inv-loop μ-loop) → (let a = start (b .before) in
     Bounding (a .args .file .now) (a .args .lists .now) (terms (a .args .similarity .scoring) (a .args .caches .now) (a .args .bounds .now)) (a .args .places .now) (a .args .docs .now) (a .args .freqs .now) (a .args .pivot-doc)
-    (take (a .args .pivot-len) (a .args .scorers .scorers)) (c .before .loop .i) (c .before .loop .places) (c .before .loop .bounds) (c .before .loop .sum))
-first c =
-    let a = start (c .before .before) in
-    c .before .loop .inv .1 (take (a .args .pivot-len) (a .args .scorers .scorers)) (take-take (a .args .pivot-len) (a .args .pivot-len) (a .args .scorers .scorers) (omega arith)) (a .pre .3) (a .pre .4)
+    (scorers a (a .args .pivot-len)) (b .before .loop .i) (b .before .loop .places) (b .before .loop .bounds) (b .before .loop .sum))
+own b = let a = start (b .before) in b .before .loop .inv .1 (a .args .pivot-len) (omega arith) (a .pre .3)
 
--- the scorer at place i, in its slot
-seat-in : (c : tie.In-loop Inv-loop μ-loop) → (let a = start (c .before .before) in
-    Seat (a .args .file .now) (a .args .lists .now) (terms (a .args .similarity .scoring) (a .args .caches .now) (c .before .loop .bounds)) (held (c .before .loop .places) (a .args .docs .now) (a .args .freqs .now))
-    (getD (a .args .scorers .scorers) (c .before .loop .i) noScorer))
-seat-in c =
-    let a = start (c .before .before) in
-    seat-of _ _ _ _ _ _ (a .args .pivot-doc) (a .args .pivot-len) (a .args .scorers .scorers) (first c) (omega arith) (long (c .before .before))
+seat-in : (b : tie.In-loop Inv-loop μ-loop) → (let a = start (b .before) in
+    Seat (a .args .file .now) (a .args .lists .now) (terms (a .args .similarity .scoring) (a .args .caches .now) (b .before .loop .bounds)) (held (b .before .loop .places) (a .args .docs .now) (a .args .freqs .now))
+    (termAt (a .args .file .now) (a .args .lists .now) (a .args .similarity .scoring) (a .args .places .now) (getD (a .args .order .now) (b .before .loop .i) 0)))
+seat-in b =
+    let a = start (b .before) in
+    rw (here b (a .args .pivot-len) (omega arith)) at (seat-at (a .args .file .now) (a .args .lists .now) _ _ _ _ (a .args .pivot-doc) _ (own b) (in-scorers b (a .args .pivot-len) (omega arith)))
 
 loop-holds : tie.Need-loop-holds Inv-loop μ-loop
 unfolding ofBits
-loop-holds c = (omega arith, λ l e apart a. bounding _ _ _ _ _ _ _ l a (start c .pre .2))
+loop-holds c = (omega arith, λ n k S. bounding _ _ _ _ _ _ _ _ (S .seats) (S .row))
 
-mul-scorer : tie.Need-mul-scorer Inv-loop μ-loop
-mul-scorer c = search needs
+mul-q : tie.Need-mul-q Inv-loop μ-loop
+mul-q c = search needs
 
-array-copy-out-scorer : tie.Need-array-copy-out-scorer Inv-loop μ-loop
-array-copy-out-scorer c = search needs
+element-copy-out-q : tie.Need-element-copy-out-q Inv-loop μ-loop
+element-copy-out-q c = search needs
 
 shallow-seek-requires : tie.Need-shallow-seek-requires Inv-loop μ-loop
 shallow-seek-requires c κs = let S = seat-in (c .before .before) in (S .stand .slot-in, standing-in _ _ _ _ (S .stand))
@@ -67,12 +74,13 @@ shallow-seek-requires c κs = let S = seat-in (c .before .before) in (S .stand .
 block-max-requires : tie.Need-block-max-requires Inv-loop μ-loop
 block-max-requires c κs =
     let b = c .before .before .before .before .before in
-    let a = start (b .before .before) in
+    let a = start (b .before) in
     let S = seat-in b in
-    let x = getD (a .args .scorers .scorers) (b .before .loop .i) noScorer in
+    let q = getD (a .args .order .now) (b .before .loop .i) 0 in
     let T = terms (a .args .similarity .scoring) (a .args .caches .now) (b .before .loop .bounds) in
-    let Z = shallow-seat (a .args .file .now) (a .args .lists .now) _ (a .args .docs .now) (a .args .freqs .now) {to = λ k. seekBlockIn (listAt k (a .args .file .now) (a .args .lists .now) (x .slot)) 128 (a .args .pivot-doc) (cursorAt (b .before .loop .places) (x .slot))} (c .before .before .shallow-seek .ensures) T S in
-    (S .stand .slot-in, a .pre .1, Z .stand .slot, Z .weighed, Z .bound, first b .row)
+    let x = termAt (a .args .file .now) (a .args .lists .now) (a .args .similarity .scoring) (a .args .places .now) q in
+    let Z = shallow-seat (a .args .file .now) (a .args .lists .now) x (a .args .docs .now) (a .args .freqs .now) {to = λ k. seekBlockIn (listAt k (a .args .file .now) (a .args .lists .now) q) 128 (a .args .pivot-doc) (cursorAt (b .before .loop .places) q)} (c .before .before .shallow-seek .ensures) T S in
+    (S .stand .slot-in, a .pre .1, Z .stand .slot, Z .weighed, Z .bound, own b .row)
 
 add-i : tie.Need-add-i Inv-loop μ-loop
 add-i c = search needs
@@ -83,17 +91,15 @@ loop-less c = search needs
 loop-again : tie.Need-loop-again Inv-loop μ-loop
 loop-again c =
     let b = c .before .before .before .before .before .before in
-    let o = b .before .before in
-    let a = start o in (
+    let a = start (b .before) in (
       omega arith,
-      λ l e apart s.
-          let w = first-same (a .args .pivot-len) l (a .args .scorers .scorers) (b .before .loop .i) e (omega arith) (long o) in
-          bounds-next (a .args .file .now) (a .args .lists .now) _ _ (a .args .docs .now) (a .args .freqs .now) (a .args .pivot-doc) l (b .before .loop .inv .1 l e apart s) (w .0) apart
-          (getD (a .args .scorers .scorers) (b .before .loop .i) noScorer) (w .1) (c .before .before .before .shallow-seek .ensures) (c .block-max .ensures),
+      λ n k S.
+          bounds-next (a .args .file .now) (a .args .lists .now) _ _ (a .args .docs .now) (a .args .freqs .now) (a .args .pivot-doc) (scorers a n) (b .before .loop .inv .1 n k S) (in-scorers b n k) (S .apart)
+          (getD (a .args .order .now) (b .before .loop .i) 0) (ap (λ (t : TermScorer). t .slot) (here b n k)) (c .before .before .before .shallow-seek .ensures) (c .block-max .ensures),
     )
 
 returns : tie.Need-returns Inv-loop μ-loop
-returns c = λ l e apart s. bounded _ _ _ _ _ _ _ l (c .before .loop .inv .1 l e apart s) _ (omega arith)
+returns c = λ n k S. bounded _ _ _ _ _ _ _ _ (c .before .loop .inv .1 n k S) _ (omega arith)
 
 pub seek-blocks-spec : {M : Type 1} → statement M
 seek-blocks-spec =
@@ -102,8 +108,8 @@ seek-blocks-spec =
     Inv-loop
     μ-loop
     loop-holds
-    mul-scorer
-    array-copy-out-scorer
+    mul-q
+    element-copy-out-q
     shallow-seek-requires
     block-max-requires
     add-i

@@ -1,101 +1,169 @@
 -- `low::block_max_was_too_low_advance_one_scorer` meets its contract: the document sought and the scorer that seeks are the route's, and the order is restored from its place.
-use mathlib.Core.Path.{sym, _∙_}
-use Prim.Native.Nat.{_≤_, _<_}
+use mathlib.Core.List.{List, map}
+use mathlib.Core.Path.{_≡_, ap, sym, _∙_}
+use Prim.Native.Nat.{ℕ, _<_, _≤_}
 use native.Mathlib.Omega.{arith}
-use lib.ListN.{drop, getD, length, length-map, take}
-use borrow.Author.Needs.{needs}
+use lib.ListN.{drop, getD, length, length-map, length-take, take}
+use lib.Seq.{getD-take, take-take}
+use Rattle.route.specs.Lists.{All}
+use Rattle.route.specs.Union.{behind}
 use Rattle.route.proofs.Lists.{all-imp}
 use Rattle.route.proofs.Union.Pivot.{behind-is}
-use Rattle.ordering.specs.Inner.Scorers.{noScorer}
+use Rattle.bm25.specs.declared.Scoring.{Scoring}
+use Rattle.bm25.specs.declared.Scoring.the-variants.{Unstepped}
+use Rattle.ordering.specs.Inner.Pivots.{placeToSeek}
+use Rattle.ordering.specs.Inner.Scorers.{leastDocOf, slotOf}
+use Rattle.ordering.specs.declared.TermScorer.{TermScorer}
 use Rattle.ordering.proofs.Places.{all-first}
-use Rattle.term_scorer.specs.Inner.Slots.{held, Sixteen}
-use Rattle.block_wand_union.specs.Inner.Seats.{Stand}
-use Rattle.block_wand_union.specs.Inner.Moves.{LastRead}
-use Rattle.block_wand_union.proofs.Seats.{first-of}
-use Rattle.block_wand_union.proofs.Lowest.{last-read, least-low, lowest-low, seeks-inside, too-low}
-use Rattle.block_wand_union.proofs.low.block_max_was_too_low_advance_one_scorer.Statement.{
-  statement,
-}
+use Rattle.term_scorer.specs.Inner.Slots.{held, Held}
+use Rattle.slot_order.specs.Inner.Rows.{Readable, termIn}
+use Rattle.block_wand_union.specs.Inner.Seats.{Stand, TopIs, termAt, termsOf}
+use Rattle.block_wand_union.specs.Inner.Moves.{LastRead, leastLastOf}
+use Rattle.block_wand_union.proofs.Lowest.{last-reads, least-low, lowest-low, moved-readable, one-on, seeks-inside}
+use Rattle.block_wand_union.proofs.Slots.{all-unmap, doc-read, first-of, readables, scorers-read}
+use Rattle.block_wand_union.proofs.low.block_max_was_too_low_advance_one_scorer.Statement.{statement}
 use Rattle.block_wand_union.proofs.low.block_max_was_too_low_advance_one_scorer.Tie as tie
 
 abbrev start : tie.After-least-last-doc → tie.Start
-start c = c .before .before .before .before
+start d = d .before .before .before .before
 
-abbrev read : tie.After-scorer-to-seek → tie.After-least-last-doc
-read c = c .before .before .before
+abbrev begin : tie.After-least-doc → tie.Start
+begin e = start (e .before .before .before .before .before)
 
--- an array of 16, by the struct's type
-sixteen : (a : tie.Start) → Sixteen (a .args .scorers .scorers)
-sixteen a = sym (length-map (a .args .scorers .scorers) _) ∙ a .good .1 .1 .0 .1 .1 .0 .1 .0 .1
+abbrev first : tie.After-scorer-to-seek → tie.Start
+first f = begin (f .before .before)
 
-long : (a : tie.Start) → a .args .scorers .len ≤ length (a .args .scorers .scorers)
-long a = omega (arith, sixteen a)
+abbrev from-seek : tie.After-seek → tie.After-scorer-to-seek
+from-seek k = k .before .before .before .before .before .before .before .before
+
+abbrev now : tie.Start → Held
+now a = held (a .args .places .now) (a .args .docs .now) (a .args .freqs .now)
+
+abbrev slots : tie.Start → List ℕ
+slots a = take (a .args .n) (a .args .order .now)
+
+abbrev terms-in : tie.Start → List TermScorer
+terms-in a = map (termIn (a .args .tops .now) (a .args .places .now) (a .args .docs .now)) (a .args .order .now)
+
+whole : (a : tie.Start) → length (slots a) ≡ a .args .n
+whole a = omega (arith, length-take (a .args .n) (a .args .order .now), a .pre .4)
+
+read : (a : tie.Start) → All (Readable (a .args .places .now)) (slots a)
+read a = readables (a .args .file .now) (a .args .lists .now) Unstepped (now a) (slots a) (a .pre .5 .stands Unstepped)
 
 -- the scorer to seek is one of the first
-at-in : (c : tie.After-scorer-to-seek) → c .scorer-to-seek .result < start (read c) .args .pivot-len
-at-in c =
-    let a = start (read c) in
-    seeks-inside (a .args .scorers .scorers) (a .args .pivot-len) (c .scorer-to-seek .result) (c .scorer-to-seek .ensures) (omega arith) (omega (arith, long a))
+at-in : (f : tie.After-scorer-to-seek) → f .scorer-to-seek .result < first f .args .pivot-len
+at-in f =
+    let a = first f in
+    seeks-inside (terms-in a) (a .args .pivot-len) (f .scorer-to-seek .result) (f .scorer-to-seek .ensures (a .args .places .now) (a .args .docs .now)) (a .pre .0)
+    (omega (arith, length-map (a .args .order .now) (termIn (a .args .tops .now) (a .args .places .now) (a .args .docs .now)), a .pre .4))
 
-target-low : (c : tie.After-least-doc) → c .least-doc .result ≤ 2147483647
-target-low c =
-    let b = c .before .before in
-    let a = start b in
-    let low = lowest-low (a .args .places .now) 2147483647 (take (a .args .pivot-len) (a .args .scorers .scorers)) in
-    let last : b .least-last-doc .result ≤ 2147483647 = omega (arith, b .least-last-doc .ensures, low) in
-    omega (arith, c .least-doc .ensures, c .before .behind .ensures, behind-is (b .least-last-doc .result) last .0, least-low (c .before .behind .result) (drop (a .args .pivot-len) (take (a .args .scorers .len) (a .args .scorers .scorers))))
+in-slots : (f : tie.After-scorer-to-seek) → f .scorer-to-seek .result < length (slots (first f))
+in-slots f = omega (arith, at-in f, whole (first f))
 
-stand-in : (c : tie.After-scorer-to-seek) → (let a = start (read c) in
-    Stand (a .args .file .now) (a .args .lists .now) (held (a .args .places .now) (a .args .docs .now) (a .args .freqs .now)) (getD (a .args .scorers .scorers) (c .scorer-to-seek .result) noScorer))
-stand-in c =
-    let a = start (read c) in
-    all-first (Stand _ _ _) (a .args .scorers .scorers) (a .args .scorers .len) (c .scorer-to-seek .result) noScorer (omega (arith, at-in c)) (long a) (a .pre .4)
+here : (f : tie.After-scorer-to-seek) → getD (slots (first f)) (f .scorer-to-seek .result) 0 ≡ getD (first f .args .order .now) (f .scorer-to-seek .result) 0
+here f = let a = first f in getD-take (a .args .n) (a .args .order .now) (f .scorer-to-seek .result) 0 (omega (arith, at-in f))
+
+stand-in : (f : tie.After-scorer-to-seek) → (let a = first f in
+    Stand (a .args .file .now) (a .args .lists .now) (now a) (termAt (a .args .file .now) (a .args .lists .now) Unstepped (a .args .places .now) (getD (a .args .order .now) (f .scorer-to-seek .result) 0)))
+stand-in f =
+    let a = first f in
+    let term = termAt (a .args .file .now) (a .args .lists .now) Unstepped (a .args .places .now) in
+    all-first (λ q. Stand (a .args .file .now) (a .args .lists .now) (now a) (term q)) (a .args .order .now) (a .args .n) (f .scorer-to-seek .result) 0 (omega (arith, at-in f)) (omega (arith, a .pre .4))
+    (all-unmap (Stand (a .args .file .now) (a .args .lists .now) (now a)) term (slots a) (a .pre .5 .stands Unstepped))
+
+target-low : (e : tie.After-least-doc) → e .least-doc .result ≤ 2147483647
+target-low e =
+    let b = e .before .before .before in
+    let d = b .before .before in
+    let a = start d in
+    let low = lowest-low (a .args .places .now) 2147483647 (take (a .args .pivot-len) (a .args .order .now)) in
+    let last : d .least-last-doc .result ≤ 2147483647 = omega (arith, d .least-last-doc .ensures, low) in
+    omega (arith, e .least-doc .ensures (a .args .tops .now), b .behind .ensures, behind-is (d .least-last-doc .result) last .0, least-low (b .behind .result) (drop (a .args .pivot-len) (take (a .args .n) (terms-in a))))
 
 least-last-doc-requires : tie.Need-least-last-doc-requires
 least-last-doc-requires c κs =
-    let a = c .before .before .before in
-    let first = first-of (Stand (a .args .file .now) (a .args .lists .now) (held (a .args .places .now) (a .args .docs .now) (a .args .freqs .now))) (a .args .scorers .len) (a .args .pivot-len) (a .args .scorers .scorers) (omega arith) (a .pre .4) in
-    (omega arith, all-imp (Stand (a .args .file .now) (a .args .lists .now) (held (a .args .places .now) (a .args .docs .now) (a .args .freqs .now))) (LastRead (a .args .places .now)) (take (a .args .pivot-len) (a .args .scorers .scorers)) (last-read _ _ _) first)
+    let a = c .before .before .before in (omega arith, a .pre .4, first-of (LastRead (a .args .places .now)) (a .args .n) (a .args .pivot-len) (a .args .order .now) (a .pre .1) (last-reads _ _ (now a) _ (a .pre .5)))
 
 behind-requires : tie.Need-behind-requires
-behind-requires c κs = let a = start c in omega (arith, c .least-last-doc .ensures, lowest-low (a .args .places .now) 2147483647 (take (a .args .pivot-len) (a .args .scorers .scorers)))
+behind-requires c κs =
+    let d = c .before in let a = start d in omega (arith, d .least-last-doc .ensures, lowest-low (a .args .places .now) 2147483647 (take (a .args .pivot-len) (a .args .order .now)))
 
 least-doc-requires : tie.Need-least-doc-requires
-least-doc-requires c κs = search needs
+least-doc-requires c κs =
+    let a = start (c .before .before .before .before) in (a .pre .1, a .pre .2, a .pre .4, read a)
 
 scorer-to-seek-requires : tie.Need-scorer-to-seek-requires
-scorer-to-seek-requires c κs = search needs
+scorer-to-seek-requires c κs =
+    let a = begin (c .before) in
+    (a .pre .0, omega arith, a .pre .4, a .pre .3, first-of (λ (q : ℕ). q < 16) (a .args .n) (a .args .pivot-len) (a .args .order .now) (a .pre .1) (all-imp (Readable (a .args .places .now)) (λ (q : ℕ). q < 16) (slots a) (λ _ R. R .slot-in) (read a)))
 
-mul-scorer : tie.Need-mul-scorer
-mul-scorer c = omega (arith, at-in c)
+mul-q : tie.Need-mul-q
+mul-q c = omega (arith, at-in c)
 
-array-copy-out-scorer : tie.Need-array-copy-out-scorer
-array-copy-out-scorer c = omega (arith, at-in c)
+element-copy-out-q : tie.Need-element-copy-out-q
+element-copy-out-q c = let a = first c in omega (arith, at-in c, a .pre .4)
+
+doc-requires : tie.Need-doc-requires
+doc-requires c κs =
+    let f = c .before .before .before in
+    let a = first f in
+    let R = all-first (Readable (a .args .places .now)) (a .args .order .now) (a .args .n) (f .scorer-to-seek .result) 0 (omega (arith, at-in f)) (omega (arith, a .pre .4)) (read a) in
+    (R .slot-in, R .inside)
 
 seek-requires : tie.Need-seek-requires
 seek-requires c κs =
-    let b = c .before .before .before .before in
-    let S = stand-in b in
-    (S .slot-in, S .slot, S .doc-is, target-low (b .before))
+    let d = c .before .before .before in
+    let f = d .before .before .before .before in
+    let S = stand-in f in
+    (S .slot-in, S .slot, d .doc .ensures ∙ sym (doc-read _ _ Unstepped (now (first f)) _ S), target-low (f .before .before))
 
-mul-out : tie.Need-mul-out
-mul-out c = omega (arith, at-in (c .before .before .before .before .before))
-
-array-set-from-out : tie.Need-array-set-from-out
-array-set-from-out c = omega (arith, at-in (c .before .before .before .before .before))
+in-order-requires : tie.Need-in-order-requires
+in-order-requires c κs =
+    let k = c .before .before .before in
+    let f = from-seek k in
+    let a = first f in
+    (a .pre .2, a .pre .4, a .pre .3, moved-readable _ _ Unstepped (slots a) (f .scorer-to-seek .result) _ _ (a .pre .5) (in-slots f) _ (here f) (k .seek .ensures))
 
 restored-requires : tie.Need-restored-requires
-restored-requires c κs = let b = c .before .before .before .before .before in (omega (arith, at-in b), start (read b) .pre .2)
+restored-requires c κs =
+    let k = c .before .before .before .before in
+    let f = from-seek k in
+    let a = first f in
+    let e = c .in-order .ensures .0 in
+    (omega (arith, at-in f), omega arith)
+
+keep-order-requires : tie.Need-keep-order-requires
+keep-order-requires c κs =
+    let r = c .before in
+    let i = r .before in
+    let a = first (from-seek (i .before .before .before .before)) in
+    (omega (arith, r .restored .ensures .0, i .in-order .ensures .0), a .pre .4)
 
 returns : tie.Need-returns
 returns c =
-    let b = c .before .before .before .before .before .before in
-    let d = read b in
-    let a = start d in
-    let R = c .restored .ensures in
-    too-low (a .args .file .now) (a .args .lists .now) (a .args .scorers .scorers) (a .args .scorers .len) (a .args .pivot-len) (b .scorer-to-seek .result) _ _ _ _
-    (omega arith) (omega arith) (long a) (a .pre .3) (a .pre .4) (d .least-last-doc .ensures) (b .before .before .behind .ensures) (b .before .least-doc .ensures) (b .scorer-to-seek .ensures)
-    (c .before .seek .ensures) _ (R .0) (R .1 .first .are)
+    let r = c .before .before in
+    let i = r .before in
+    let k = i .before .before .before .before in
+    let f = from-seek k in
+    let e = f .before .before in
+    let b = e .before .before .before in
+    let d = b .before .before in
+    let a = first f in
+    let R = r .restored .ensures in
+    let n : r .restored .result .len ≡ a .args .n = R .0 ∙ i .in-order .ensures .0 in
+    let m : i .in-order .result .len ≡ a .args .n = i .in-order .ensures .0 in
+    record {
+      one = λ s T.
+          let scorers = scorers-read (a .args .file .now) (a .args .lists .now) s (now a) (a .args .tops .now) (a .args .n) (a .args .order .now) (a .pre .5 .stands s) T in
+          one-on _ _ s (slots a) (f .scorer-to-seek .result) _ _ (a .pre .5) (in-slots f) _ (here f) (k .seek .ensures) (a .args .pivot-len) (a .pre .0) (omega (arith, whole a))
+          (f .scorer-to-seek .ensures (a .args .places .now) (a .args .docs .now) ∙ ap placeToSeek (sym (take-take (a .args .pivot-len) (a .args .n) (terms-in a) (a .pre .1)) ∙ ap (take (a .args .pivot-len)) scorers))
+          (e .least-doc .ensures (a .args .tops .now) ∙ ap (λ z. leastDocOf (b .behind .result) (drop (a .args .pivot-len) z)) scorers
+          ∙ ap (λ (z : ℕ). leastDocOf z (drop (a .args .pivot-len) (termsOf (a .args .file .now) (a .args .lists .now) s (a .args .places .now) (slots a))))
+          (b .behind .ensures ∙ ap behind (d .least-last-doc .ensures ∙ ap (leastLastOf (a .args .places .now) 2147483647) (sym (take-take (a .args .pivot-len) (a .args .n) (a .args .order .now) (a .pre .1))))))
+          (a .args .tops .now) T (i .in-order .ensures .1) (rw n at (c .keep-order .ensures .are) ∙ ap (map slotOf) (rw m at (R .1 .first .are)));
+      long = c .keep-order .ensures .long;
+    }
 
 pub block-max-was-too-low-advance-one-scorer-spec : {M : Type 1} → statement M
 block-max-was-too-low-advance-one-scorer-spec =
@@ -105,10 +173,11 @@ block-max-was-too-low-advance-one-scorer-spec =
     behind-requires
     least-doc-requires
     scorer-to-seek-requires
-    mul-scorer
-    array-copy-out-scorer
+    mul-q
+    element-copy-out-q
+    doc-requires
     seek-requires
-    mul-out
-    array-set-from-out
+    in-order-requires
     restored-requires
+    keep-order-requires
     returns)

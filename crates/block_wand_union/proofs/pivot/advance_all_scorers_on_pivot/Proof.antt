@@ -1,54 +1,79 @@
 -- `pivot::advance_all_scorers_on_pivot` meets its contract: each turn one scorer advances in its slot, and the sweep and the sort are the route's.
-use mathlib.Core.Path.{sym, _∙_}
-use Prim.Native.Nat.{_-_, _≤_}
+use mathlib.Core.List.{List}
+use mathlib.Core.Path.{_≡_, ap, _∙_}
+use Prim.Native.Nat.{ℕ, _-_, _<_, _≤_}
 use native.Mathlib.Omega.{arith}
-use lib.ListN.{length, length-map}
+use lib.ListN.{getD, length, length-take, take}
+use lib.Seq.{getD-take}
 use borrow.Author.Needs.{needs}
-use Rattle.term_scorer.specs.Inner.Slots.{held, Sixteen}
+use Rattle.route.specs.Ordering.{sortBy}
+use Rattle.route.specs.Lists.{All}
+use Rattle.bm25.specs.declared.Scoring.{Scoring}
+use Rattle.bm25.specs.declared.Scoring.the-variants.{Unstepped}
+use Rattle.ordering.proofs.Kept.{kept-all, sweep-kept}
+use Rattle.ordering.proofs.Places.{all-first}
+use Rattle.term_scorer.specs.Inner.Slots.{held, Held}
+use Rattle.slot_order.specs.Inner.Rows.{Readable, docAt}
+use Rattle.block_wand_union.specs.Inner.Seats.{Inside}
 use Rattle.block_wand_union.proofs.Advances.{Advancing, advanced, advances, advancing, inside-at, stand-at}
+use Rattle.block_wand_union.proofs.Slots.{readables}
 use Rattle.block_wand_union.proofs.pivot.advance_all_scorers_on_pivot.Statement.{statement}
 use Rattle.block_wand_union.proofs.pivot.advance_all_scorers_on_pivot.Tie as tie
 
 abbrev Inv-loop : tie.InvT-loop
-Inv-loop file lists pivot-len places₀ docs₀ freqs₀ n out₀ i₀ places docs freqs out i =
-    (i ≤ pivot-len) × Advancing file lists (held places₀ docs₀ freqs₀) out₀ n i (held places docs freqs) out
+Inv-loop file lists n pivot-len order places₀ docs₀ freqs₀ i₀ places docs freqs i =
+    (i ≤ pivot-len) × ((s : Scoring) → Advancing file lists s (held places₀ docs₀ freqs₀) (take n order) i (held places docs freqs))
 
 abbrev μ-loop : tie.MeasureT-loop
-μ-loop file lists pivot-len places₀ docs₀ freqs₀ n out₀ i₀ places docs freqs out i = pivot-len - i
+μ-loop file lists n pivot-len order places₀ docs₀ freqs₀ i₀ places docs freqs i = pivot-len - i
 
-abbrev start : tie.After-out Inv-loop μ-loop → tie.Start Inv-loop μ-loop
-start o = o .before .before
+abbrev start : tie.At-loop Inv-loop μ-loop → tie.Start Inv-loop μ-loop
+start l = l .before .before
 
--- an array of 16, by the struct's type
-sixteen : (a : tie.Start Inv-loop μ-loop) → Sixteen (a .args .scorers .scorers)
-sixteen a = sym (length-map (a .args .scorers .scorers) _) ∙ a .good .1 .1 .0 .1 .1 .0 .1 .0 .1
+abbrev first : tie.Start Inv-loop μ-loop → Held
+first a = held (a .args .places .now) (a .args .docs .now) (a .args .freqs .now)
 
-long : (o : tie.After-out Inv-loop μ-loop) → start o .args .scorers .len ≤ length (start o .args .scorers .scorers)
-long o = omega (arith, sixteen (start o))
+abbrev slots : tie.Start Inv-loop μ-loop → List ℕ
+slots a = take (a .args .n) (a .args .order .now)
+
+abbrev key : tie.At-loop Inv-loop μ-loop → ℕ → ℕ
+key l = docAt (l .loop .places) (l .loop .docs)
+
+whole : (a : tie.Start Inv-loop μ-loop) → length (slots a) ≡ a .args .n
+whole a = omega (arith, length-take (a .args .n) (a .args .order .now), a .pre .2)
+
+in-slots : (b : tie.In-loop Inv-loop μ-loop) → b .before .loop .i < length (slots (start (b .before)))
+in-slots b = omega (arith, whole (start (b .before)))
+
+-- the slot at place i
+here : (b : tie.In-loop Inv-loop μ-loop) → (let a = start (b .before) in getD (slots a) (b .before .loop .i) 0 ≡ getD (a .args .order .now) (b .before .loop .i) 0)
+here b = let a = start (b .before) in getD-take (a .args .n) (a .args .order .now) (b .before .loop .i) 0 (omega arith)
+
+inside : (b : tie.In-loop Inv-loop μ-loop) → (let a = start (b .before) in Inside (a .args .lists .now) (first a) (getD (a .args .order .now) (b .before .loop .i) 0))
+inside b =
+    let a = start (b .before) in
+    all-first (Inside (a .args .lists .now) (first a)) (a .args .order .now) (a .args .pivot-len) (b .before .loop .i) 0 (omega arith) (omega (arith, a .pre .2)) (a .pre .4)
+
+read : (l : tie.At-loop Inv-loop μ-loop) → All (Readable (l .loop .places)) (slots (start l))
+read l = readables (start l .args .file .now) (start l .args .lists .now) Unstepped (held (l .loop .places) (l .loop .docs) (l .loop .freqs)) (slots (start l)) (l .loop .inv .1 Unstepped .carried .stands)
 
 loop-holds : tie.Need-loop-holds Inv-loop μ-loop
-loop-holds c = let a = start c in (omega arith, advancing _ _ _ _ _ (sixteen a) (a .pre .2) (a .pre .3))
+loop-holds c = let a = c .before in (omega arith, λ s. advancing _ _ s _ _ (a .pre .3))
 
-mul-scorer : tie.Need-mul-scorer Inv-loop μ-loop
-mul-scorer c = search needs
+mul-advance : tie.Need-mul-advance Inv-loop μ-loop
+mul-advance c = search needs
 
-array-copy-out-scorer : tie.Need-array-copy-out-scorer Inv-loop μ-loop
-array-copy-out-scorer c = search needs
+element-copy-out-advance : tie.Need-element-copy-out-advance Inv-loop μ-loop
+element-copy-out-advance c = search needs
 
 advance-requires : tie.Need-advance-requires Inv-loop μ-loop
 advance-requires c κs =
     let b = c .before .before .before .before in
-    let o = b .before .before in
-    let a = start o in
-    let S = b .before .loop .inv .1 in
-    let X = stand-at _ _ _ _ _ (a .pre .2) (omega arith) (long o) S (omega arith) in
-    (X .slot-in, X .slot, inside-at _ _ _ _ _ (a .pre .2) (omega arith) (long o) S (omega arith) (a .args .pivot-len) (omega arith) (omega arith) (a .pre .4))
-
-mul-out : tie.Need-mul-out Inv-loop μ-loop
-mul-out c = search needs
-
-array-set-from-out : tie.Need-array-set-from-out Inv-loop μ-loop
-array-set-from-out c = search needs
+    let l = b .before in
+    let a = start l in
+    let S = l .loop .inv .1 Unstepped in
+    let X = rw (here b) at (stand-at _ _ Unstepped (first a) (slots a) (a .pre .3) S (in-slots b)) in
+    (X .slot-in, X .slot, rw (here b) at (inside-at _ _ Unstepped (first a) (slots a) (a .pre .3) S (in-slots b) (rw (here b) (inside b))))
 
 add-i : tie.Need-add-i Inv-loop μ-loop
 add-i c = search needs
@@ -59,22 +84,34 @@ loop-less c = search needs
 loop-again : tie.Need-loop-again Inv-loop μ-loop
 loop-again c =
     let b = c .before .before .before .before .before in
-    let o = b .before .before in
-    let a = start o in
-    (omega arith, advances _ _ _ _ _ (a .pre .2) (omega arith) (long o) (b .before .loop .inv .1) (omega arith) (c .advance .ensures))
+    let l = b .before in
+    let a = start l in
+    (omega arith, λ s. advances _ _ s (first a) (slots a) (a .pre .3) (l .loop .inv .1 s) (in-slots b) _ (here b) (c .advance .ensures))
 
 sweep-requires : tie.Need-sweep-requires Inv-loop μ-loop
-sweep-requires c κs = search needs
+sweep-requires c κs =
+    let l = c .before .before .before .before in let a = start l in (a .pre .1, a .pre .2, read l)
 
 sort-by-doc-requires : tie.Need-sort-by-doc-requires Inv-loop μ-loop
-sort-by-doc-requires c κs = search needs
+sort-by-doc-requires c κs =
+    let w = c .before .before .before in
+    let l = w .before .before .before .before .before in
+    let a = start l in
+    let D = w .sweep .ensures in
+    (omega (arith, D .few), D .long, rw (D .are) (kept-all (Readable (l .loop .places)) (sweep-kept (key l) (a .args .n) (slots a)) (read l)))
 
 returns : tie.Need-returns Inv-loop μ-loop
 returns c =
-    let b = c .before .before .before in
-    let o = b .before .before in
-    let a = start o in
-    advanced _ _ _ _ _ (a .pre .2) (omega arith) (long o) (b .before .loop .inv .1) (a .args .pivot-len) (omega arith) (c .before .before .sweep .ensures .0) (c .sort-by-doc .ensures .0)
+    let w = c .before .before .before .before in
+    let l = w .before .before .before .before .before in
+    let a = start l in
+    let D = w .sweep .ensures in
+    let E = c .sort-by-doc .ensures in
+    record {
+      on = λ s. advanced _ _ s (first a) (slots a) (a .pre .3) (l .loop .inv .1 s) (a .args .n) (a .args .pivot-len) (whole a) (omega arith) _ (E .are ∙ ap (sortBy (key l)) (D .are));
+      few = D .few;
+      long = E .long;
+    }
 
 pub advance-all-scorers-on-pivot-spec : {M : Type 1} → statement M
 advance-all-scorers-on-pivot-spec =
@@ -83,11 +120,9 @@ advance-all-scorers-on-pivot-spec =
     Inv-loop
     μ-loop
     loop-holds
-    mul-scorer
-    array-copy-out-scorer
+    mul-advance
+    element-copy-out-advance
     advance-requires
-    mul-out
-    array-set-from-out
     add-i
     loop-less
     loop-again

@@ -1,50 +1,54 @@
 -- `turn::hit` meets its contract: a report is due if the sum of the scores exceeds the threshold, and then the scorers stay; else those that went on are the route's.
-use mathlib.Core.Path.{sym, _∙_}
 use native.Mathlib.Omega.{arith}
-use lib.ListN.{length-map, take}
+use lib.ListN.{take}
 use borrow.Author.Needs.{needs}
 use Rattle.route.proofs.Lists.{all-imp}
-use Rattle.term_scorer.specs.Inner.Slots.{held, Sixteen}
+use Rattle.term_scorer.specs.Inner.Slots.{held, Held}
 use Rattle.block_wand_union.specs.Inner.Seats.{Inside, OnDocument}
 use Rattle.block_wand_union.proofs.OnPivots.{hit-due, hit-quiet}
 use Rattle.block_wand_union.proofs.turn.hit.Statement.{statement}
 use Rattle.block_wand_union.proofs.turn.hit.Tie as tie
 
--- an array of 16, by the struct's type
-sixteen : (a : tie.Start) → Sixteen (a .args .scorers .scorers)
-sixteen a = sym (length-map (a .args .scorers .scorers) _) ∙ a .good .1 .1 .1 .1 .1 .0 .1 .1 .0 .1 .0 .1
-
 abbrev start : tie.After-score-on-pivot → tie.Start
-start s = s .before .before .before .before .before
+start s = s .before .before .before .before .before .before
+
+abbrev now : tie.Start → Held
+now a = held (a .args .places .now) (a .args .docs .now) (a .args .freqs .now)
 
 score-on-pivot-requires : tie.Need-score-on-pivot-requires
-score-on-pivot-requires c κs = let a = c .before .before .before .before in (omega arith, a .pre .2, a .pre .5)
+score-on-pivot-requires c κs =
+    let a = c .before .before .before .before .before in (omega arith, a .pre .2, a .pre .3, a .pre .5, a .pre .6)
 
 returns : tie.Need-returns
 returns c =
-    let s = c .before in
+    let s = c .before .before in
     let a = start s in
-    hit-due (a .args .file .now) (a .args .lists .now) (a .args .similarity .scoring) (a .args .threshold) _ (a .args .scorers) (a .args .span .«pivot_len») (a .args .span .«pivot_doc») (a .pre .0)
-    (s .score-on-pivot .ensures) (c .if1 .taken) (omega (arith, sixteen a)) (a .pre .3) (a .pre .4)
+    hit-due (a .args .file .now) (a .args .lists .now) (a .args .bar .similarity .scoring) (a .args .bar .threshold) (now a) (a .args .order .now) (a .args .n) (a .args .span .«pivot_len») (a .args .span .«pivot_doc») (a .pre .0)
+    (s .score-on-pivot .ensures) (c .if1 .taken) (a .pre .1) (a .pre .3) (a .pre .4)
 
 advance-all-scorers-on-pivot-requires : tie.Need-advance-all-scorers-on-pivot-requires
 advance-all-scorers-on-pivot-requires c κs =
-    let a = start (c .before .before .before .before) in
-    let h = held (a .args .places .now) (a .args .docs .now) (a .args .freqs .now) in
-    (a .pre .0, a .pre .1, a .pre .3, a .pre .4, all-imp (OnDocument (a .args .file .now) (a .args .lists .now) (a .args .caches .now) h) (Inside (a .args .file .now) (a .args .lists .now) h) (take (a .args .span .«pivot_len») (a .args .scorers .scorers)) (λ _ s. s .inside) (a .pre .5))
+    let a = start (c .before .before .before .before .before .before) in
+    (a .pre .0, a .pre .1, a .pre .3, a .pre .4, all-imp (OnDocument (a .args .file .now) (a .args .lists .now) (a .args .caches .now) (now a) (a .args .span .«pivot_doc»)) (Inside (a .args .lists .now) (now a)) (take (a .args .span .«pivot_len») (a .args .order .now)) (λ _ s. s .inside) (a .pre .6))
 
 quiet-requires : tie.Need-quiet-requires
 quiet-requires c κs = search needs
 
 returns-2 : tie.Need-returns-2
 returns-2 c =
-    let e = c .before .before .before .before .before in
-    let a = start (e .before) in
+    let e = c .before .before .before .before .before .before in
+    let s = e .before .before in
+    let a = start s in
     rw (c .quiet .ensures)
-    (hit-quiet (a .args .file .now) (a .args .lists .now) (a .args .similarity .scoring) (a .args .threshold) _ (a .args .scorers) (a .args .span .«pivot_len») (a .args .span .«pivot_doc») (a .pre .0)
-    (e .before .score-on-pivot .ensures) (e .if1 .left) (c .before .advance-all-scorers-on-pivot .ensures))
+    (hit-quiet (a .args .file .now) (a .args .lists .now) (a .args .bar .similarity .scoring) (a .args .bar .threshold) (now a) (a .args .order .now) (a .args .n) (a .args .span .«pivot_len») (a .args .span .«pivot_doc») (a .pre .0)
+    (s .score-on-pivot .ensures) (e .if1 .left) (c .before .advance-all-scorers-on-pivot .ensures))
 
 pub hit-spec : {M : Type 1} → statement M
 hit-spec =
     tie.close
-    (tie.spec score-on-pivot-requires returns advance-all-scorers-on-pivot-requires quiet-requires returns-2)
+    (tie.spec
+    score-on-pivot-requires
+    returns
+    advance-all-scorers-on-pivot-requires
+    quiet-requires
+    returns-2)

@@ -1,12 +1,36 @@
 -- `turn::look` meets its contract: the pivot's places are the route's, and with no pivot the loop ends.
-use mathlib.Core.Path.{sym, _∙_}
+use mathlib.Core.Path.{_≡_, ap, sym, _∙_}
+use lib.ListN.{take}
 use borrow.Author.Needs.{needs}
-use Rattle.block_wand_union.proofs.Steps.{nowhere}
+use Rattle.ordering.specs.Inner.Pivots.{pivotOf}
+use Rattle.block_wand_union.specs.declared.Stage.the-variants.{Looking}
+use Rattle.term_scorer.specs.Inner.Slots.{held, Held}
+use Rattle.block_wand_union.specs.Inner.Seats.{termsOf}
+use Rattle.block_wand_union.proofs.Runs.{place-is}
+use Rattle.block_wand_union.proofs.Slots.{readables, scorers-read}
+use Rattle.block_wand_union.proofs.Steps.{nowhere, stands}
 use Rattle.block_wand_union.proofs.turn.look.Statement.{statement}
 use Rattle.block_wand_union.proofs.turn.look.Tie as tie
 
+abbrev start : tie.After-find-pivot-doc → tie.Start
+start p = p .before .before .before .before .before
+
+abbrev now : tie.Start → Held
+now a = held (a .args .places .now) (a .args .docs .now) (a .args .freqs .now)
+
+-- the scorers that were read are those of the slots
+pivot-is : (p : tie.After-find-pivot-doc) → (let a = start p in
+    p .find-pivot-doc .result ≡ pivotOf (a .args .bar .threshold) (termsOf (a .args .file .now) (a .args .lists .now) (a .args .bar .similarity .scoring) (a .args .places .now) (take (a .args .n) (a .args .order .now))))
+pivot-is p =
+    let a = start p in
+    p .find-pivot-doc .ensures
+    ∙ ap (pivotOf (a .args .bar .threshold)) (scorers-read (a .args .file .now) (a .args .lists .now) (a .args .bar .similarity .scoring) (now a) (a .args .tops .now) (a .args .n) (a .args .order .now) (stands (a .pre .3 .seated)) (a .pre .2))
+
 find-pivot-doc-requires : tie.Need-find-pivot-doc-requires
-find-pivot-doc-requires c κs = c .before .before .pre .0
+find-pivot-doc-requires c κs =
+    let a = c .before .before .before .before in
+    let S = a .pre .3 in
+    (S .few, S .room, a .pre .1, readables (a .args .file .now) (a .args .lists .now) (a .args .bar .similarity .scoring) (now a) (take (a .args .n) (a .args .order .now)) (stands (S .seated)))
 
 enum-told : tie.Need-enum-told
 enum-told c = search needs
@@ -19,17 +43,18 @@ enum-known-pivot c = search needs
 
 to-pivot-requires : tie.Need-to-pivot-requires
 to-pivot-requires c κs =
-    let k = c .before .before .before .before in
+    let k = c .before .before .before .before .before in
     let p = k .before .before .before in
-    let a = p .before .before .before in
-    (a .pre .0, a .pre .1, record { found = sym (k .before .pivot .given .1) ∙ p .find-pivot-doc .ensures; seated = a .pre .2; kept = a .pre .3 })
+    let a = start p in
+    let S = a .pre .3 in
+    (a .pre .0, a .pre .1, record { few = S .few; long = S .room; topped = a .pre .2; found = sym (k .before .pivot .given .1) ∙ pivot-is p; seated = S .seated; kept = rw (place-is (a .args .file .now) (a .args .lists .now) (a .args .bar .similarity .scoring) (a .args .places .now) (record { len = a .args .n; stage = Looking }) (a .args .order .now)) (S .kept) })
 
 returns : tie.Need-returns
 returns c =
     let p = c .before .before .before in
-    let a = p .before .before .before in
-    let e = sym (c .before .enum-told .given .1) ∙ p .find-pivot-doc .ensures in
-    rw (c .quiet .ensures) (nowhere (a .args .threshold) (a .args .scorers) (a .pre .2) e)
+    let a = start p in
+    let S = a .pre .3 in
+    rw (c .quiet .ensures) (nowhere (a .args .bar .threshold) (a .args .order .now) (a .args .n) (S .room) (S .seated) (sym (c .before .enum-told .given .1) ∙ pivot-is p))
 
 returns-2 : tie.Need-returns-2
 returns-2 c = c .to-pivot .ensures

@@ -1,57 +1,62 @@
 -- `turn::on_pivot` meets its contract: a miss leaves the route's scorers, and scorers that all came to the pivot are on a document, so that they can be scored and go on.
 use Prim.Native.Nat.{_≤_, _<_}
 use native.Mathlib.Omega.{arith}
-use lib.ListN.{length-take}
+use lib.ListN.{length-map, length-take, take}
 use lib.Seq.{take-take}
 use borrow.Author.Needs.{needs}
+use Rattle.block_wand_union.specs.Inner.Seats.{termAt}
 use Rattle.block_wand_union.proofs.OnPivots.{came-to, miss, on-document, on-hit, pivot-low, stands-at, went-past}
+use Rattle.block_wand_union.proofs.Slots.{lined}
+use Rattle.term_scorer.specs.Inner.Slots.{held, Held}
 use Rattle.block_wand_union.proofs.turn.on_pivot.Statement.{statement}
 use Rattle.block_wand_union.proofs.turn.on_pivot.Tie as tie
 
 abbrev start : tie.After-align-scorers → tie.Start
-start b = b .before .before .before .before .before
+start b = b .before .before .before .before .before .before
 
-at-len : (a : tie.Start) → (a .args .span .«before_pivot_len» < a .args .scorers .len) × (a .args .span .«pivot_len» ≤ a .args .scorers .len)
+abbrev now : tie.Start → Held
+now a = held (a .args .places .now) (a .args .docs .now) (a .args .freqs .now)
+
+at-len : (a : tie.Start) → (a .args .span .«before_pivot_len» < a .args .n) × (a .args .span .«pivot_len» ≤ a .args .n)
 at-len a =
-    let q = a .pre .2 .1 .found in
-    let n = length-take (a .args .scorers .len) (a .args .scorers .scorers) in
+    let q = a .pre .3 .1 .found in
+    let n = length-take (a .args .n) (a .args .order .now) in
+    let m = length-map (take (a .args .n) (a .args .order .now)) (termAt (a .args .file .now) (a .args .lists .now) (a .args .bar .similarity .scoring) (a .args .places .now)) in
     (omega (arith, q .first, q .inside), omega (arith, q .inside))
 
 align-scorers-requires : tie.Need-align-scorers-requires
 align-scorers-requires c κs =
-    let a = c .before .before .before .before in
-    let A = a .pre .2 .1 in
-    let low = pivot-low A in
-    (at-len a .0, a .pre .0, omega arith, A .seated .apart, stands-at A)
+    let a = c .before .before .before .before .before in
+    let A = a .pre .3 .1 in
+    let low = pivot-low (a .args .order .now) (a .args .n) A in
+    (at-len a .0, a .pre .0, omega arith, a .pre .2, lined (a .args .file .now) (a .args .lists .now) (a .args .bar .similarity .scoring) (now a) (take (a .args .n) (a .args .order .now)) (stands-at (a .args .order .now) (a .args .n) A) (A .seated .apart))
 
 hit-requires : tie.Need-hit-requires
 hit-requires c κs =
-    let t = c .before .before .before in
-    let b = t .before .before in
+    let t = c .before .before .before .before in
+    let b = t .before in
     let a = start b in
+    let A = a .pre .3 .1 in
     let E = b .align-scorers .ensures in
-    let O = came-to E (t .if1 .taken) in
-    let z = b .align-scorers .result .scorers in
-    let same = E .all (t .if1 .taken) in
-    let len : a .args .span .«pivot_len» ≤ z .len = omega (arith, at-len a .1) in
-    (len, omega arith, a .pre .1, O .carried .apart, O .carried .stands, rw (take-take (a .args .span .«pivot_len») (z .len) (z .scorers) len) at (on-document (a .pre .2 .1) O))
+    let O = came-to E (a .args .bar .similarity .scoring) (t .if1 .taken) in
+    (at-len a .1, a .pre .0, a .pre .1, E .long, lined (a .args .file .now) (a .args .lists .now) (a .args .bar .similarity .scoring) _ _ (O .carried .stands) (O .carried .apart), pivot-low (a .args .order .now) (a .args .n) A, rw (take-take (a .args .span .«pivot_len») (a .args .n) _ (at-len a .1)) at (on-document (a .args .order .now) (a .args .n) A _ O (at-len a .1)))
 
 returns : tie.Need-returns
 returns c =
-    let t = c .before .before .before .before in
-    let b = t .before .before in
-    let E = b .align-scorers .ensures in
-    on-hit (start b .pre .2 .1) (came-to E (t .if1 .taken)) (E .few) (c .hit .ensures)
+    let t = c .before .before .before .before .before in
+    let b = t .before in
+    let a = start b in
+    on-hit (a .args .order .now) (a .args .n) (a .pre .3 .1) _ (came-to (b .align-scorers .ensures) (a .args .bar .similarity .scoring) (t .if1 .taken)) (c .hit .ensures)
 
 quiet-requires : tie.Need-quiet-requires
 quiet-requires c κs = search needs
 
 returns-2 : tie.Need-returns-2
 returns-2 c =
-    let b = c .before .before .before in
+    let b = c .before .before in
     let a = start b in
     let E = b .align-scorers .ensures in
-    rw (c .quiet .ensures) (miss (a .pre .2 .1) (a .args .threshold) (went-past E (c .before .if1 .left)) (E .few))
+    rw (c .quiet .ensures) (miss (a .args .order .now) (a .args .n) (a .pre .3 .1) (a .args .bar .threshold) _ (went-past E (a .args .bar .similarity .scoring) (c .before .if1 .left)) (E .few) (E .long))
 
 pub on-pivot-spec : {M : Type 1} → statement M
 on-pivot-spec =

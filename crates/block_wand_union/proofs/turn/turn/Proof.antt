@@ -1,28 +1,36 @@
 -- `turn::turn` meets its contract: at each stage the turn is the route's.
+use mathlib.Core.Path.{_≡_, ap, sym, subst}
+use lib.ListN.{take}
 use borrow.Author.Needs.{needs}
-use Rattle.term_scorer.specs.Inner.Slots.{held}
+use Rattle.term_scorer.specs.Inner.Slots.{held, Held}
+use Rattle.block_wand_union.proofs.Runs.{kept-at, stands-at}
+use Rattle.block_wand_union.proofs.Slots.{lined}
 use Rattle.block_wand_union.proofs.Steps.{goes-on, on-report, stands, stays}
 use Rattle.block_wand_union.proofs.turn.turn.Statement.{statement}
 use Rattle.block_wand_union.proofs.turn.turn.Tie as tie
+
+abbrev now : tie.Start → Held
+now a = held (a .args .places .now) (a .args .docs .now) (a .args .freqs .now)
 
 enum-told : tie.Need-enum-told
 enum-told c = search needs
 
 look-requires : tie.Need-look-requires
 look-requires c κs =
-    let m = c .before .before .before .before in
+    let m = c .before .before .before .before .before in
     let a = m .before .before .before in
-    (a .pre .0, a .pre .1, a .pre .2, rw (m .enum-told .given .1) at (a .pre .3))
+    (a .pre .0, a .pre .1, a .pre .2, stands-at (a .pre .3) (m .enum-told .given .1))
 
 enum-known-stage : tie.Need-enum-known-stage
 enum-known-stage c = search needs
 
 advance-all-scorers-on-pivot-requires : tie.Need-advance-all-scorers-on-pivot-requires
 advance-all-scorers-on-pivot-requires c κs =
-    let m = c .before .before .before in
+    let m = c .before .before .before .before in
     let a = m .before .before .before .before in
-    let R = on-report (a .args .file .now) (a .args .lists .now) (a .args .similarity .scoring) (held (a .args .places .now) (a .args .docs .now) (a .args .freqs .now)) (a .args .scorers) (rw (m .before .stage .given .1) at (a .pre .3)) in
-    (R .0, a .pre .0, a .pre .2 .apart, stands (a .pre .2), R .1)
+    let S = a .pre .3 in
+    let R = on-report (a .args .file .now) (a .args .lists .now) (a .args .bar .similarity .scoring) (now a) (a .args .order .now) (a .args .union .len) (kept-at S (m .before .stage .given .1)) in
+    (R .0, S .few, S .room, lined (a .args .file .now) (a .args .lists .now) (a .args .bar .similarity .scoring) (now a) (take (a .args .union .len) (a .args .order .now)) (stands (S .seated)) (S .seated .apart), R .1)
 
 quiet-requires : tie.Need-quiet-requires
 quiet-requires c κs = search needs
@@ -34,20 +42,22 @@ quiet-requires-2 : tie.Need-quiet-requires-2
 quiet-requires-2 c κs = search needs
 
 returns : tie.Need-returns
-returns c = let m = c .before .before .before .before .before in rw (m .enum-told .given .1) (c .look .ensures)
+returns c =
+    let m = c .before .before .before .before .before .before in rw (m .enum-told .given .1) (c .look .ensures)
 
 returns-2 : tie.Need-returns-2
 returns-2 c =
-    let m = c .before .before .before .before .before in
+    let m = c .before .before .before .before .before .before in
     let a = m .before .before .before .before in
-    let e = m .before .stage .given .1 in
-    rw (e, c .quiet .ensures) (goes-on (a .args .threshold) (a .args .scorers) (a .pre .2) (c .before .advance-all-scorers-on-pivot .ensures))
+    let S = a .pre .3 in
+    rw (m .before .stage .given .1, c .quiet .ensures) (goes-on (a .args .bar .threshold) (a .args .order .now) (a .args .union .len) (S .room) (S .seated) (c .before .advance-all-scorers-on-pivot .ensures))
 
 returns-3 : tie.Need-returns-3
 returns-3 c =
     let m = c .before in
     let a = m .before .before .before in
-    rw (m .enum-told2 .given .1, c .quiet2 .ensures) (stays (a .args .threshold) (a .args .scorers) (a .pre .2))
+    let S = a .pre .3 in
+    rw (m .enum-told2 .given .1, c .quiet2 .ensures) (stays (a .args .bar .threshold) (a .args .order .now) (a .args .union .len) (S .room) (S .seated))
 
 pub turn-spec : {M : Type 1} → statement M
 turn-spec =

@@ -7,17 +7,18 @@ use borrow.Author.Needs.{needs}
 use Rattle.route.specs.Union.{isOver}
 use Rattle.route.proofs.Cases.{lt-of-ne}
 use Rattle.term_scorer.specs.Inner.Slots.{held}
-use Rattle.block_wand_union.specs.Inner.Seats.{alive, stageOf, terms}
-use Rattle.block_wand_union.proofs.Runs.{OnWay, begun, not-false, not-true, over, paused, quiet-turn, reports}
+use Rattle.block_wand_union.specs.Inner.Seats.{stageOf, terms}
+use Rattle.block_wand_union.specs.Inner.Runs.{placeOf}
+use Rattle.block_wand_union.proofs.Runs.{OnWay, begun, not-false, not-true, over, paused, quiet-turn, reports, stands-on}
 use Rattle.block_wand_union.proofs.walk.walk.Statement.{statement}
 use Rattle.block_wand_union.proofs.walk.walk.Tie as tie
 
 abbrev Inv-loop : tie.InvT-loop
-Inv-loop file similarity lists caches threshold turns places₀ docs₀ freqs₀ bounds₀ left₀ now₀ taken₀ places docs freqs bounds left now taken =
-    OnWay file lists (terms (similarity .scoring) caches bounds₀) threshold now₀ (held places₀ docs₀ freqs₀) (alive left₀) turns (held places docs freqs) bounds left now taken
+Inv-loop file bar lists caches turns tops order₀ places₀ docs₀ freqs₀ bounds₀ now₀ taken₀ order places docs freqs bounds now taken =
+    OnWay file lists (bar .similarity .scoring) caches (bar .threshold) tops (placeOf file lists (bar .similarity .scoring) now₀ order₀ places₀) turns (held places docs freqs) bounds now order taken
 
 abbrev μ-loop : tie.MeasureT-loop
-μ-loop file similarity lists caches threshold turns places₀ docs₀ freqs₀ bounds₀ left₀ now₀ taken₀ places docs freqs bounds left now taken = turns - taken
+μ-loop file bar lists caches turns tops order₀ places₀ docs₀ freqs₀ bounds₀ now₀ taken₀ order places docs freqs bounds now taken = turns - taken
 
 abbrev at-loop : tie.Then1 Inv-loop μ-loop → tie.At-loop Inv-loop μ-loop
 at-loop t = t .before .before
@@ -25,8 +26,11 @@ at-loop t = t .before .before
 abbrev start : tie.At-loop Inv-loop μ-loop → tie.Start Inv-loop μ-loop
 start l = l .before .before
 
+abbrev else-of : tie.After-turn Inv-loop μ-loop → tie.Else2 Inv-loop μ-loop
+else-of k = k .before .before .before .before .before .before
+
 -- the route has not ended
-on : (t : tie.Then1 Inv-loop μ-loop) → isOver (stageOf (at-loop t .loop .now)) ≡ false
+on : (t : tie.Then1 Inv-loop μ-loop) → isOver (stageOf (at-loop t .loop .now .stage)) ≡ false
 on t = sym (t .before .is-over .ensures) ∙ not-true _ (t .if1 .taken)
 
 room : (e : tie.Else2 Inv-loop μ-loop) → at-loop (e .before) .loop .taken < start (at-loop (e .before)) .args .turns
@@ -34,8 +38,7 @@ room e = lt-of-ne (at-loop (e .before) .loop .inv .within) (e .if2 .left)
 
 loop-holds : tie.Need-loop-holds Inv-loop μ-loop
 loop-holds c =
-    let a = c .before in
-    begun (a .args .threshold) (a .args .stage) (a .args .scorers) (a .args .turns) (a .pre .0) (a .pre .2) (a .pre .3)
+    let a = c .before in begun (a .args .bar .threshold) (a .args .union) (a .args .order .now) (a .args .turns) (a .pre .3) (a .pre .2)
 
 is-over-requires : tie.Need-is-over-requires Inv-loop μ-loop
 is-over-requires c κs = search needs
@@ -46,38 +49,39 @@ stopped-requires c κs = search needs
 returns : tie.Need-returns Inv-loop μ-loop
 returns c =
     let p = c .before in
-    rw (c .stopped .ensures) (paused (at-loop (p .before) .loop .inv) (on (p .before)) (p .if2 .taken))
+    let l = at-loop (p .before) in
+    rw (c .stopped .ensures) (l .loop .inv .stands, paused (l .loop .inv) (on (p .before)) (p .if2 .taken))
 
 turn-requires : tie.Need-turn-requires Inv-loop μ-loop
 turn-requires c κs =
-    let e = c .before .before .before .before in
+    let e = c .before .before .before .before .before in
     let l = at-loop (e .before) in
     let S = l .loop .inv in
-    (S .few, start l .pre .1, S .seated, S .kept)
+    (start l .pre .0, start l .pre .1, S .topped, S .stands)
 
 add-taken : tie.Need-add-taken Inv-loop μ-loop
 add-taken c =
-    let e = c .before .before .before .before .before .before in
-    omega (arith, room e, start (at-loop (e .before)) .fits .turns)
+    let e = else-of (c .before) in omega (arith, room e, start (at-loop (e .before)) .fits .turns)
 
 stopped-requires-2 : tie.Need-stopped-requires-2 Inv-loop μ-loop
 stopped-requires-2 c κs = search needs
 
 returns-2 : tie.Need-returns-2 Inv-loop μ-loop
 returns-2 c =
-    let d = c .before in
-    let n = d .before .before in
-    let e = n .before .before .before .before .before in
-    rw (c .stopped2 .ensures) (reports (at-loop (e .before) .loop .inv) (on (e .before)) (room e) (n .turn .ensures) (d .if3 .taken))
+    let n = c .before .before in
+    let k = n .before in
+    let e = else-of k in
+    let S = at-loop (e .before) .loop .inv in
+    rw (c .stopped2 .ensures) (stands-on S (on (e .before)) (room e) (k .turn .ensures), reports S (on (e .before)) (room e) (k .turn .ensures) (c .before .if3 .taken))
 
 loop-less : tie.Need-loop-less Inv-loop μ-loop
-loop-less c = omega (arith, room (c .before .before .before .before .before .before .before))
+loop-less c = omega (arith, room (else-of (c .before .before)))
 
 loop-again : tie.Need-loop-again Inv-loop μ-loop
 loop-again c =
-    let n = c .before .before in
-    let e = n .before .before .before .before .before in
-    quiet-turn (at-loop (e .before) .loop .inv) (on (e .before)) (room e) (n .turn .ensures) (c .if3 .left)
+    let k = c .before .before in
+    let e = else-of k in
+    quiet-turn (at-loop (e .before) .loop .inv) (on (e .before)) (room e) (k .turn .ensures) (c .if3 .left)
 
 stopped-requires-3 : tie.Need-stopped-requires-3 Inv-loop μ-loop
 stopped-requires-3 c κs = search needs
@@ -86,7 +90,8 @@ returns-3 : tie.Need-returns-3 Inv-loop μ-loop
 returns-3 c =
     let e = c .before in
     let o = e .before in
-    rw (c .stopped3 .ensures) (over (o .before .loop .inv) (sym (o .is-over .ensures) ∙ not-false _ (e .if1 .left)))
+    let S = o .before .loop .inv in
+    rw (c .stopped3 .ensures) (S .stands, over S (sym (o .is-over .ensures) ∙ not-false _ (e .if1 .left)))
 
 pub walk-spec : {M : Type 1} → statement M
 walk-spec =

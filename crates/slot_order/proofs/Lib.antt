@@ -1,0 +1,2 @@
+-- Laws of the row that belong to no one function.
+pub mod Rows

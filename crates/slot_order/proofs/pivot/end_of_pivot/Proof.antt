@@ -1,0 +1,81 @@
+-- `pivot::end_of_pivot` meets its contract: each turn passes one more scorer on the document.
+use mathlib.Core.List.{List, [], map}
+use mathlib.Core.Path.{refl, sym, _∙_}
+use Prim.Native.Nat.{ℕ, _-_, _≤_}
+use native.Mathlib.Omega.{arith}
+use lib.Ieee.{Float}
+use lib.ListN.{getD, length, length-map}
+use borrow.Author.Needs.{needs}
+use Rattle.ordering.specs.Inner.Scorers.{noScorer}
+use Rattle.ordering.specs.declared.TermScorer.{TermScorer}
+use Rattle.ordering.proofs.Pivoting.{Running, leaves, runs, runs-out}
+use Rattle.slot_order.specs.Inner.Rows.{Readable, termIn}
+use Rattle.slot_order.proofs.Rows.{map-at, read-at, reading}
+use Rattle.slot_order.proofs.pivot.end_of_pivot.Statement.{statement}
+use Rattle.slot_order.proofs.pivot.end_of_pivot.Tie as tie
+
+abbrev Inv-loop : tie.InvT-loop
+Inv-loop order n from doc places docs i₀ i =
+    (i ≤ n) × ((tops : List Float) → Running doc (map (termIn tops places docs) order) n from i)
+
+abbrev μ-loop : tie.MeasureT-loop
+μ-loop order n from doc places docs i₀ i = n - i
+
+abbrev scorers : tie.Start Inv-loop μ-loop → List Float → ℕ → TermScorer
+scorers a tops = termIn tops (a .args .places .now) (a .args .docs .now)
+
+long : (a : tie.Start Inv-loop μ-loop) (tops : List Float) → a .args .n ≤ length (map (scorers a tops) (a .args .order .now))
+long a tops = omega (arith, length-map (a .args .order .now) (scorers a tops), a .pre .2)
+
+read : (c : tie.In-loop Inv-loop μ-loop) → Readable (c .before .before .args .places .now) (getD (c .before .before .args .order .now) (c .before .loop .i) 0)
+read c = let a = c .before .before in read-at (a .pre .1) (reading (a .pre .3) (a .pre .2)) (c .before .loop .i) (omega arith)
+
+loop-holds : tie.Need-loop-holds Inv-loop μ-loop
+loop-holds c = (omega arith, λ tops. record { inside = omega arith; whole = refl })
+
+mul-doc : tie.Need-mul-doc Inv-loop μ-loop
+mul-doc c = search needs
+
+element-copy-out-doc : tie.Need-element-copy-out-doc Inv-loop μ-loop
+element-copy-out-doc c = search needs
+
+doc-requires : tie.Need-doc-requires Inv-loop μ-loop
+doc-requires c κs = let R = read (c .before) in (R .slot-in, R .inside)
+
+returns : tie.Need-returns Inv-loop μ-loop
+returns c =
+    let b = c .before .before .before in
+    let a = b .before .before in
+    λ tops. leaves _ _ _ _ (long a tops) (b .before .loop .inv .1 tops) (omega arith) (rw (map-at (scorers a tops) (a .args .order .now) (b .before .loop .i) 0 noScorer (omega (arith, a .pre .2))) (λ e. c .if1 .taken (c .before .doc .ensures ∙ e)))
+
+add-i : tie.Need-add-i Inv-loop μ-loop
+add-i c = search needs
+
+loop-less : tie.Need-loop-less Inv-loop μ-loop
+loop-less c = search needs
+
+loop-again : tie.Need-loop-again Inv-loop μ-loop
+loop-again c =
+    let b = c .before .before .before in
+    let a = b .before .before in
+    (omega arith, λ tops. runs _ _ _ _ (long a tops) (b .before .loop .inv .1 tops) (omega arith) (rw (map-at (scorers a tops) (a .args .order .now) (b .before .loop .i) 0 noScorer (omega (arith, a .pre .2))) (sym (c .before .doc .ensures) ∙ c .if1 .left)))
+
+returns-2 : tie.Need-returns-2 Inv-loop μ-loop
+returns-2 c =
+    let a = c .before .before in λ tops. runs-out _ _ _ _ (long a tops) (c .before .loop .inv .1 tops) (omega arith)
+
+pub end-of-pivot-spec : {M : Type 1} → statement M
+end-of-pivot-spec =
+    tie.close
+    (tie.spec
+    Inv-loop
+    μ-loop
+    loop-holds
+    mul-doc
+    element-copy-out-doc
+    doc-requires
+    returns
+    add-i
+    loop-less
+    loop-again
+    returns-2)

@@ -1,0 +1,2 @@
+-- Invariants of the code.
+pub mod Rows

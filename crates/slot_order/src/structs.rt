@@ -1,0 +1,65 @@
+// The scorers as structs in an array of 16, read off the tables in their order, and their slots written back.
+use ordering::Scorers;
+use ordering::TermScorer;
+use term_scorer::slot;
+ghost use mathlib.Core.List.{map};
+ghost use mathlib.Core.Path.{_≡_};
+ghost use Prim.Native.Nat.{_≤_};
+ghost use lib.ListN.{take};
+ghost use Rattle.arrays.specs.Lent.{before, after};
+ghost use Rattle.route.specs.Lists.{All};
+ghost use Rattle.ordering.specs.Inner.Scorers.{slotOf};
+ghost use Rattle.term_scorer.specs.Inner.Slots.{Sixteen};
+ghost use Rattle.slot_order.specs.Inner.Rows.{Ordered, Readable, termIn};
+
+// The scorers of the first n slots.
+pub fn in_order(
+    order: &[usize; 16],
+    n: usize,
+    tops: &[f32; 16],
+    places: &[[usize; 8]; 16],
+    docs: &[[u32; 128]; 16],
+) -> Scorers
+    requires { ⌜ (n ≤ 16) × Sixteen (now order) × Sixteen (now tops) × All (Readable (now places)) (take n (now order)) ⌝ }
+    ensures { λ r.
+        let scorers = map (termIn (before tops) (before places) (before docs)) (take n (before order)) in
+        ⌜ (r .len ≡ n) × (take n (r .scorers) ≡ scorers) ⌝ }
+{
+    let mut out = [TermScorer {
+        doc: 0,
+        max_score: 0.0,
+        slot: 0,
+    }; 16];
+    let mut i = 0usize;
+    while i < n {
+        let q = order[i];
+        let doc = slot::doc(q, places, docs);
+        out[i] = TermScorer {
+            doc,
+            max_score: tops[q],
+            slot: q,
+        };
+        i += 1;
+    }
+    Scorers {
+        scorers: out,
+        len: n,
+    }
+}
+
+// The scorers' slots, in their order.
+pub fn keep_order(scorers: Scorers, order: &mut [usize; 16])
+    requires { ⌜ (scorers .len ≤ 16) × Sixteen (now order) ⌝ }
+    ensures { λ _.
+        let slots = map slotOf (take (scorers .len) (scorers .scorers)) in
+        ⌜ Ordered (scorers .len) (before order) (scorers .len) slots (after order) ⌝ }
+{
+    let len = scorers.len;
+    let array = scorers.scorers;
+    let mut i = 0usize;
+    while i < len {
+        let scorer = array[i];
+        order[i] = scorer.slot;
+        i += 1;
+    }
+}
