@@ -8,7 +8,7 @@ use lib.ListN.{drop, getD, length, length-take, take}
 use lib.Seq.{getD-take}
 use lib.Ieee.{Float}
 use Rattle.route.specs.F32.{f32}
-use Rattle.route.specs.Lists.{All}
+use Rattle.arrays.specs.Every.{All}
 use Rattle.route.specs.Ordering.{sortBy}
 use Rattle.route.specs.Score.{sum, sumFrom}
 use Rattle.route.specs.Cursor.{Cursor, fresh}

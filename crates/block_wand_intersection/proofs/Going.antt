@@ -7,7 +7,7 @@ use native.Mathlib.Numerals.{add-one}
 use native.Mathlib.Omega.{arith}
 use lib.ListN.{drop, take}
 use lib.Ieee.{Float}
-use Rattle.route.specs.Lists.{All}
+use Rattle.arrays.specs.Every.{All}
 use Rattle.route.specs.Intersection.{InterPlace, isOver}
 use Rattle.route.proofs.Cases.{lt-of-ne}
 use Rattle.route.proofs.Lists.{all-each}

@@ -7,7 +7,7 @@ use native.Mathlib.Omega.{arith}
 use lib.ListN.{drop, getD, length, length-map, set, take}
 use lib.Seq.{drop-cons, take-suc}
 use lib.Ieee.{Float}
-use Rattle.route.specs.Lists.{All}
+use Rattle.arrays.specs.Every.{All}
 use Rattle.route.specs.Score.{sum}
 use Rattle.route.specs.Cursor.{Cursor, advanceIn}
 use Rattle.route.specs.F32.{f32}
@@ -17,7 +17,7 @@ use Rattle.route.proofs.Lists.{all-imp}
 use Rattle.bm25.specs.declared.Scoring.{Scoring}
 use Rattle.bm25.specs.declared.Scoring.the-variants.{Unstepped}
 use Rattle.ordering.specs.Inner.Scorers.{byDoc, noScorer, Moving}
-use Rattle.ordering.specs.declared.TermScorer.{TermScorer}
+use Rattle.term_scorer.specs.declared.TermScorer.{TermScorer}
 use Rattle.ordering.proofs.Carried.{sort-map, sweep-map}
 use Rattle.ordering.proofs.Places.{all-at, map-append}
 use Rattle.ordering.proofs.Kept.{kept-all, kept-trans, sort-kept, sweep-kept}

@@ -5,7 +5,7 @@ use Prim.Native.Nat.{suc, ℕ, _-_, _<_, _≤_}
 use native.Mathlib.Omega.{arith}
 use lib.ListN.{drop, getD, length, length-map, set, take}
 use lib.Ieee.{Float}
-use Rattle.route.specs.Lists.{All}
+use Rattle.arrays.specs.Every.{All}
 use Rattle.route.specs.Cursor.{Cursor, seekIn}
 use Rattle.route.specs.Ordering.{putBack}
 use Rattle.route.specs.Scorer.{Scorer, docOf}
@@ -14,7 +14,7 @@ use Rattle.route.proofs.Lists.{all-imp}
 use Rattle.bm25.specs.declared.Scoring.{Scoring}
 use Rattle.bm25.specs.declared.Scoring.the-variants.{Unstepped}
 use Rattle.ordering.specs.Inner.Scorers.{byDoc, fromPlace, noScorer, returned}
-use Rattle.ordering.specs.declared.TermScorer.{TermScorer}
+use Rattle.term_scorer.specs.declared.TermScorer.{TermScorer}
 use Rattle.ordering.proofs.Carried.{returned-map}
 use Rattle.ordering.proofs.Kept as kept
 use Rattle.ordering.proofs.OnRoute.{SameDoc, missed-on-route}

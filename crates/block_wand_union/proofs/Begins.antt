@@ -5,7 +5,7 @@ use Prim.Native.Nat.{ℕ, _≤_, _<_}
 use native.Mathlib.Omega.{arith}
 use lib.ListN.{getD}
 use lib.Ieee.{Float}
-use Rattle.route.specs.Lists.{All}
+use Rattle.arrays.specs.Every.{All}
 use Rattle.route.specs.F32.{f32}
 use Rattle.route.specs.Cursor.{fresh}
 use Rattle.route.specs.Ordering.{sortBy}
@@ -16,7 +16,7 @@ use Rattle.route.proofs.Lists.{all-imp, all-map, all-perm}
 use Rattle.route.proofs.Ordering.{sort-perm, sort-sorted}
 use Rattle.route.proofs.Cursor.{fresh-is}
 use Rattle.ordering.specs.Inner.Scorers.{Apart, byDoc}
-use Rattle.ordering.specs.declared.TermScorer.{TermScorer}
+use Rattle.term_scorer.specs.declared.TermScorer.{TermScorer}
 use Rattle.ordering.proofs.Kept.{kept-all, kept-apart, sort-kept}
 use Rattle.ordering.proofs.OnRoute.{SameDoc, sorted-on-route}
 use Rattle.notefile.specs.Header.{documents}

@@ -7,14 +7,14 @@ use native.Mathlib.Omega.{arith}
 use lib.ListN.{getD, length, length-set, length-take, take}
 use lib.Seq.{drop-cons, getD-take, set-getD, take-suc}
 use lib.Ieee.{Float}
-use Rattle.route.specs.Lists.{All}
+use Rattle.arrays.specs.Every.{All}
 use Rattle.route.specs.Score.{sumFrom}
 use Rattle.route.specs.Cursor.{Cursor, seekBlockIn}
 use Rattle.route.specs.F32.{f32}
 use Rattle.route.specs.Scorer.{Scorer, blockMaxScore, seekBlock}
 use Rattle.bm25.specs.declared.Scoring.{Scoring}
 use Rattle.ordering.specs.Inner.Scorers.{Apart, noScorer, Moving}
-use Rattle.ordering.specs.declared.TermScorer.{TermScorer}
+use Rattle.term_scorer.specs.declared.TermScorer.{TermScorer}
 use Rattle.ordering.proofs.Places.{all-at, map-append}
 use Rattle.ordering.proofs.Turns.{replaced-all}
 use Rattle.ordering.proofs.Moving.{moves-on-doc, moving}

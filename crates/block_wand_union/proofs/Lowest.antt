@@ -6,7 +6,7 @@ use native.Mathlib.Numerals.{add-one}
 use native.Mathlib.Omega.{arith}
 use lib.ListN.{drop, getD, length, length-map, length-take, set, take}
 use lib.Ieee.{Float}
-use Rattle.route.specs.Lists.{All}
+use Rattle.arrays.specs.Every.{All}
 use Rattle.route.specs.Postings.{TERMINATED}
 use Rattle.route.specs.Cursor.{seekIn}
 use Rattle.route.specs.Scorer.{Scorer, lastDocInBlock}
@@ -18,7 +18,7 @@ use Rattle.bm25.specs.declared.Scoring.{Scoring}
 use Rattle.bm25.specs.declared.Scoring.the-variants.{Unstepped}
 use Rattle.ordering.specs.Inner.Scorers.{leastDocOf, moved, noScorer, slotOf}
 use Rattle.ordering.specs.Inner.Pivots.{placeToSeek}
-use Rattle.ordering.specs.declared.TermScorer.{TermScorer}
+use Rattle.term_scorer.specs.declared.TermScorer.{TermScorer}
 use Rattle.ordering.proofs.Places.{all-at, all-take, drop-take-cons, drop-take-nil, map-take}
 use Rattle.ordering.proofs.Found.{seek-inside}
 use Rattle.ordering.proofs.Kept.{kept-all, moved-kept}

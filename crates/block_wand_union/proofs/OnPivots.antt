@@ -8,7 +8,7 @@ use native.Mathlib.Omega.{arith}
 use lib.ListN.{drop, getD, length, length-map, length-take, take, take-append-drop}
 use lib.Seq.{take-take}
 use lib.Ieee.{Float}
-use Rattle.route.specs.Lists.{All}
+use Rattle.arrays.specs.Every.{All}
 use Rattle.route.specs.Score.{sum}
 use Rattle.route.specs.F32.{f32}
 use Rattle.route.specs.Postings.{TERMINATED}
@@ -25,7 +25,7 @@ use Rattle.bm25.specs.declared.Scoring.{Scoring}
 use Rattle.bm25.specs.declared.Scoring.the-variants.{Unstepped}
 use Rattle.ordering.specs.Inner.Scorers.{noScorer}
 use Rattle.ordering.specs.Inner.Pivots.{Found}
-use Rattle.ordering.specs.declared.TermScorer.{TermScorer}
+use Rattle.term_scorer.specs.declared.TermScorer.{TermScorer}
 use Rattle.ordering.proofs.Places.{all-at, all-drop, all-take, drop-take, drop-take-cons, map-append, map-drop, map-take}
 use Rattle.ordering.proofs.UnionTurns.{after-hit, after-miss, scored-due, scored-quiet}
 use Rattle.notefile.specs.Header.{documents}

@@ -11,7 +11,7 @@ use lib.Seq.{getD-set-other, getD-set-same, take-suc}
 use lib.Ieee.{Float, nan}
 use borrow.Author.Tests.{eqb-false, eqb-true}
 use Rattle.route.specs.F32.{f32}
-use Rattle.route.specs.Lists.{All}
+use Rattle.arrays.specs.Every.{All}
 use Rattle.route.specs.Union.{UnionPlace, isOver, unionTurn}
 use Rattle.route.specs.Inner.Unions.{UnionKept}
 use Rattle.route.proofs.Cases.{on-test}
@@ -19,7 +19,7 @@ use Rattle.route.proofs.Lists.{all-append, all-imp}
 use Rattle.route.proofs.Union.Ends.{union-nears}
 use Rattle.bm25.specs.declared.Scoring.{Scoring}
 use Rattle.ordering.specs.Inner.Scorers.{slotOf}
-use Rattle.ordering.specs.declared.TermScorer.{TermScorer}
+use Rattle.term_scorer.specs.declared.TermScorer.{TermScorer}
 use Rattle.notefile.specs.Header.{documents}
 use Rattle.reports.specs.Inner.Turns.{Went}
 use Rattle.reports.specs.declared.Event.the-variants as event

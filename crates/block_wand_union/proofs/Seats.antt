@@ -6,7 +6,7 @@ use native.Mathlib.Omega.{arith}
 use lib.ListN.{drop, getD, length, length-set, set, take, take-append-drop}
 use lib.Seq.{getD-set-other, getD-set-same, set-getD}
 use lib.Ieee.{Float, nan}
-use Rattle.route.specs.Lists.{All}
+use Rattle.arrays.specs.Every.{All}
 use Rattle.route.specs.Postings.{Postings}
 use Rattle.route.specs.Cursor.{Cursor, blockMax}
 use Rattle.route.specs.F32.{f32}
@@ -14,7 +14,7 @@ use Rattle.route.specs.Scorer.{onCur}
 use Rattle.route.proofs.Lists.{all-imp, perm-eq}
 use Rattle.bm25.specs.declared.Scoring.{Scoring}
 use Rattle.ordering.specs.Inner.Scorers.{Apart, noScorer}
-use Rattle.ordering.specs.declared.TermScorer.{TermScorer}
+use Rattle.term_scorer.specs.declared.TermScorer.{TermScorer}
 use Rattle.ordering.proofs.Kept.{Kept, Off, kept-all, kept-apart, slots-all, slots-apart}
 use Rattle.ordering.proofs.OnRoute.{Fair, SameDoc}
 use Rattle.ordering.proofs.Places.{all-at}

@@ -7,7 +7,7 @@ use native.Mathlib.Omega.{arith}
 use lib.ListN.{drop, length-map, length-take, take}
 use lib.Seq.{take-take}
 use lib.Ieee.{Float}
-use Rattle.route.specs.Lists.{All}
+use Rattle.arrays.specs.Every.{All}
 use Rattle.route.specs.F32.{f32}
 use Rattle.route.specs.Score.{sum}
 use Rattle.route.specs.Route.{Turn}
@@ -18,7 +18,7 @@ use Rattle.route.proofs.Lists.{all-append, all-imp, all-map, all-zip}
 use Rattle.route.proofs.Union.Safe.{safe-shallow}
 use Rattle.bm25.specs.declared.Scoring.{Scoring}
 use Rattle.ordering.specs.Inner.Pivots.{pivotOf, Found}
-use Rattle.ordering.specs.declared.TermScorer.{TermScorer}
+use Rattle.term_scorer.specs.declared.TermScorer.{TermScorer}
 use Rattle.ordering.specs.declared.Pivot.the-variants.{Nowhere}
 use Rattle.ordering.proofs.Places.{all-drop, all-take, map-drop, map-take}
 use Rattle.ordering.proofs.Found.{pivot-found}

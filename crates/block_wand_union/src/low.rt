@@ -1,5 +1,5 @@
 // Past blocks that are too low: one scorer goes on.
-use ordering::TERMINATED;
+use notefile::block::TERMINATED;
 use ordering_lent::restored;
 use slot_order::pivot::least_doc;
 use slot_order::pivot::scorer_to_seek;
@@ -10,7 +10,7 @@ ghost use mathlib.Core.Path.{_≡_};
 ghost use Prim.Native.Nat.{_≤_, _<_};
 ghost use lib.ListN.{take};
 ghost use Rattle.arrays.specs.Lent.{before, after};
-ghost use Rattle.route.specs.Lists.{All};
+ghost use Rattle.arrays.specs.Every.{All};
 ghost use Rattle.route.specs.Union.{behind};
 ghost use Rattle.term_scorer.specs.Inner.Slots.{held, Sixteen};
 ghost use Rattle.block_wand_union.specs.Inner.Seats.{Lined};

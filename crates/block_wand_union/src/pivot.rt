@@ -9,7 +9,7 @@ ghost use mathlib.Core.Path.{_≡_};
 ghost use Prim.Native.Nat.{_≤_, _<_};
 ghost use lib.ListN.{take};
 ghost use Rattle.arrays.specs.Lent.{before, after};
-ghost use Rattle.route.specs.Lists.{All};
+ghost use Rattle.arrays.specs.Every.{All};
 ghost use Rattle.route.specs.Score.{sum};
 ghost use Rattle.route.specs.F32.{f32};
 ghost use Rattle.route.specs.Scorer.{scoreHere};

@@ -15,7 +15,7 @@ ghost use Prim.Native.Nat.{_≤_, _<_};
 ghost use lib.Ieee.{Float};
 ghost use lib.ListN.{take};
 ghost use Rattle.arrays.specs.Lent.{before, after};
-ghost use Rattle.route.specs.Lists.{All};
+ghost use Rattle.arrays.specs.Every.{All};
 ghost use Rattle.notefile.specs.Header.{normReader};
 ghost use Rattle.term_scorer.specs.Inner.Slots.{held, Sixteen};
 ghost use Rattle.block_wand_union.specs.Inner.Seats.{Lined, OnDocument, TopIs, terms, termsOf};

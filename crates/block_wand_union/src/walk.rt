@@ -12,7 +12,7 @@ ghost use Prim.Native.Nat.{_≤_};
 ghost use lib.ListN.{take};
 ghost use Rattle.arrays.specs.Lent.{before, after};
 ghost use Rattle.route.specs.F32.{f32};
-ghost use Rattle.route.specs.Lists.{All};
+ghost use Rattle.arrays.specs.Every.{All};
 ghost use Rattle.route.specs.Union.{isOver, unionTurn};
 ghost use Rattle.notefile.specs.Header.{normReader};
 ghost use Rattle.reports.specs.Inner.Turns.{Went};

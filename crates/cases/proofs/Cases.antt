@@ -14,7 +14,7 @@ use Rattle.codec.specs.Bits.{bitsAt}
 use Rattle.codec.specs.VInts.{vintPlace, vintValue, vintWhole}
 use Rattle.codec.specs.VInt.{vintAt}
 use Rattle.fieldnorm.specs.Code.{fieldnorm}
-use Rattle.route.specs.Lists.{All}
+use Rattle.arrays.specs.Every.{All}
 use Rattle.route.specs.Rule as rules
 use Rattle.compression.specs.Documents.{docAt}
 use Rattle.bm25.specs.Score.{scoreOf}

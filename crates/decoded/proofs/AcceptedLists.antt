@@ -7,7 +7,7 @@ use native.Mathlib.Omega.{arith}
 use lib.Dec.{T, lit<}
 use lib.Ieee.{Float, lt}
 use Rattle.floats.specs.Step.{within}
-use Rattle.route.specs.Lists.{All}
+use Rattle.arrays.specs.Every.{All}
 use Rattle.route.specs.F32.{f32}
 use Rattle.route.specs.Postings.{Postings, start}
 use Rattle.route.specs.Inner.Lists.{ListOk}

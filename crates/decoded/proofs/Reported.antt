@@ -9,7 +9,7 @@ use lib.ListN.{length}
 use lib.Ieee.{Float, binary32, fits, isNan}
 use lib.Ieee.Fits.{add-fits}
 use Rattle.floats.proofs.Number.{add-clear, clear, clear-number, within-clear}
-use Rattle.route.specs.Lists.{All}
+use Rattle.arrays.specs.Every.{All}
 use Rattle.route.specs.F32.{f32}
 use Rattle.route.specs.Report.{Report}
 use Rattle.route.specs.Rule.{Rule}

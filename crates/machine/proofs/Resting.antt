@@ -4,7 +4,7 @@ use mathlib.Core.List.{List, [], _∷_, map}
 use Prim.Native.Nat.{ℕ}
 use lib.ListN.{take}
 use lib.Ieee.{Float}
-use Rattle.route.specs.Lists.{All}
+use Rattle.arrays.specs.Every.{All}
 use Rattle.reports.specs.Inner.Runs.{AtRest}
 use Rattle.term_scorer.specs.Inner.Slots.{cursorAt}
 use Rattle.term_scorer.specs.declared.score.Similarity.{Similarity}

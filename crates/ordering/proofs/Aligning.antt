@@ -8,11 +8,11 @@ use lib.ListN.{drop, getD, length, length-set, set, take, take-append-drop}
 use lib.Seq.{drop-drop, drop-set-lt, getD-set-same, getD-take, take-set-le, take-set-lt, take-take}
 use lib.Ieee.{Float}
 use borrow.Author.Tests.{eq-eqb, ne-eqb}
-use Rattle.route.specs.Lists.{All}
+use Rattle.arrays.specs.Every.{All}
 use Rattle.route.specs.Scorer.{Scorer, docOf, seek}
 use Rattle.route.specs.Union.{Around, alignOn, alignScorers, aligned, missed}
 use Rattle.ordering.specs.Inner.Scorers.{Apart, noScorer, slotOf, Same}
-use Rattle.ordering.specs.declared.TermScorer.{TermScorer}
+use Rattle.term_scorer.specs.declared.TermScorer.{TermScorer}
 use Rattle.ordering.proofs.Places.{all-drop, all-first, all-take, drop-take, drop-take-cons, drop-take-nil, map-append}
 use Rattle.ordering.proofs.Kept.{Off, others-apart, slots-apart}
 use Rattle.ordering.proofs.Turns.{SameOff, all-off, replaced-slots, same-map}

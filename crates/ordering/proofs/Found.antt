@@ -7,12 +7,12 @@ use lib.Dec.{eqb}
 use lib.ListN.{drop, length, length-drop, take}
 use lib.Ieee.{Float}
 use borrow.Author.Tests.{eqb-false, eqb-true}
-use Rattle.route.specs.Lists.{All}
+use Rattle.arrays.specs.Every.{All}
 use Rattle.route.specs.F32.{f32}
 use Rattle.route.specs.Postings.{TERMINATED}
 use Rattle.route.proofs.Cases.{on-test}
 use Rattle.ordering.specs.Inner.Pivots.{Found, beforePivot, countOn, highest, pivotAt, pivotOf, placeOfHighest, placeToSeek}
-use Rattle.ordering.specs.declared.TermScorer.{TermScorer}
+use Rattle.term_scorer.specs.declared.TermScorer.{TermScorer}
 use Rattle.ordering.specs.declared.Pivot.the-variants.{At, Nowhere}
 use Rattle.ordering.proofs.Places.{drop-take}
 

@@ -8,10 +8,10 @@ use native.Mathlib.Omega.{arith}
 use lib.ListN.{drop, getD, length, length-map, set, take, take-append-drop}
 use lib.Seq.{drop-cons, drop-drop, drop-set-lt, getD-drop, set-getD, take-suc, take-suc-set}
 use lib.Ieee.{Float}
-use Rattle.route.specs.Lists.{All}
+use Rattle.arrays.specs.Every.{All}
 use Rattle.route.specs.Scorer.{Scorer}
 use Rattle.ordering.specs.Inner.Scorers.{Apart, Moving, Same, noScorer, slotOf}
-use Rattle.ordering.specs.declared.TermScorer.{TermScorer}
+use Rattle.term_scorer.specs.declared.TermScorer.{TermScorer}
 use Rattle.ordering.proofs.Places.{map-append}
 use Rattle.ordering.proofs.Kept.{others-apart, slots-apart}
 use Rattle.ordering.proofs.Turns.{SameOff, all-off, replaced-slots, same-map}

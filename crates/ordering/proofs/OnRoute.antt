@@ -8,7 +8,7 @@ use lib.Dec.{eqb}
 use lib.ListN.{drop, getD, length, take}
 use lib.Seq.{drop-drop}
 use lib.Ieee.{Float}
-use Rattle.route.specs.Lists.{All}
+use Rattle.arrays.specs.Every.{All}
 use Rattle.route.specs.F32.{f32}
 use Rattle.route.specs.Postings.{TERMINATED}
 use Rattle.route.specs.Ordering.{putBack, restoreOrdering, retain, sortBy, sweep}
@@ -18,7 +18,7 @@ use Rattle.route.proofs.Cases.{on-test}
 use Rattle.route.proofs.Lists.{all-imp}
 use Rattle.ordering.specs.Inner.Scorers.{byDoc, leastDocOf, moved, noScorer, returned}
 use Rattle.ordering.specs.Inner.Pivots.{beforePivot, countOn, highest, pivotAt, pivotOf, placeToSeek}
-use Rattle.ordering.specs.declared.TermScorer.{TermScorer}
+use Rattle.term_scorer.specs.declared.TermScorer.{TermScorer}
 use Rattle.ordering.specs.declared.Pivot as code
 use Rattle.ordering.specs.declared.Pivot.the-variants.{At, Nowhere}
 use Rattle.ordering.proofs.Places.{all-at, all-drop, drop-take, fromPlace-split, join, map-append}

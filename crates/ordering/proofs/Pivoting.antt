@@ -13,7 +13,7 @@ use Rattle.route.specs.F32.{f32}
 use Rattle.route.specs.Postings.{TERMINATED}
 use Rattle.ordering.specs.Inner.Scorers.{noScorer}
 use Rattle.ordering.specs.Inner.Pivots.{beforePivot, countOn, pivotAt, pivotOf}
-use Rattle.ordering.specs.declared.TermScorer.{TermScorer}
+use Rattle.term_scorer.specs.declared.TermScorer.{TermScorer}
 use Rattle.ordering.specs.declared.Pivot.the-variants.{At, Nowhere}
 use Rattle.ordering.proofs.Places.{drop-take-cons, drop-take-nil}
 

@@ -5,7 +5,7 @@ use Prim.Native.Nat.{suc, zero, ℕ, _+_, _-_, _<_, _≤_}
 use native.Mathlib.Omega.{arith}
 use lib.ListN.{drop, getD, length, length-take, take, take-append-drop}
 use lib.Seq.{drop-cons, getD-take, take-nil}
-use Rattle.route.specs.Lists.{All}
+use Rattle.arrays.specs.Every.{All}
 use Rattle.ordering.specs.Inner.Scorers.{fromPlace}
 
 module _ {A : Type 0} where

@@ -11,7 +11,7 @@ use lib.Ieee.{Float}
 use Rattle.route.specs.F32.{f32}
 use Rattle.ordering.specs.Inner.Scorers.{leastDocOf, noScorer}
 use Rattle.ordering.specs.Inner.Pivots.{highest, placeOfHighest, placeToSeek}
-use Rattle.ordering.specs.declared.TermScorer.{TermScorer}
+use Rattle.term_scorer.specs.declared.TermScorer.{TermScorer}
 use Rattle.ordering.proofs.Places.{drop-take-cons, drop-take-nil}
 
 module _ (l : List TermScorer) (n : ℕ) where

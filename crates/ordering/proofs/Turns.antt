@@ -6,7 +6,7 @@ use native.Mathlib.Omega.{arith}
 use lib.ListN.{drop, getD, length, length-map, length-set, length-take, set, take}
 use lib.Seq.{drop-set-lt, getD-set-same, getD-take, map-set-same, set-split, take-set-le, take-take}
 use lib.Ieee.{Float}
-use Rattle.route.specs.Lists.{All}
+use Rattle.arrays.specs.Every.{All}
 use Rattle.route.specs.F32.{f32}
 use Rattle.route.specs.Postings.{TERMINATED}
 use Rattle.route.specs.Ordering.{restoreOrdering, sortBy, sweep}
@@ -15,7 +15,7 @@ use Rattle.route.specs.Union.{advanceAllScorersOnPivot, behind, blockMaxWasTooL
 use Rattle.route.proofs.Lists.{all-append}
 use Rattle.ordering.specs.Inner.Scorers.{Apart, byDoc, leastDocOf, moved, noScorer, slotOf}
 use Rattle.ordering.specs.Inner.Pivots.{placeToSeek}
-use Rattle.ordering.specs.declared.TermScorer.{TermScorer}
+use Rattle.term_scorer.specs.declared.TermScorer.{TermScorer}
 use Rattle.ordering.proofs.Places.{all-drop, all-take, join, map-append}
 use Rattle.ordering.proofs.Kept.{Off, kept-all, others-apart, sweep-kept}
 use Rattle.ordering.proofs.Found.{seek-inside}

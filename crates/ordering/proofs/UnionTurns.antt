@@ -8,7 +8,7 @@ use native.Mathlib.Omega.{arith}
 use lib.ListN.{drop, length, length-map, length-take, take, take-append-drop}
 use lib.Seq.{drop-drop, take-take}
 use lib.Ieee.{Float}
-use Rattle.route.specs.Lists.{All}
+use Rattle.arrays.specs.Every.{All}
 use Rattle.route.specs.Score.{sum}
 use Rattle.route.specs.F32.{f32}
 use Rattle.route.specs.Scorer.{Scorer, advance, blockMaxScore, scoreHere, seekBlock}
@@ -16,7 +16,7 @@ use Rattle.route.specs.Route.{Load, Turn, loadsBack, loadsOf, quiet}
 use Rattle.route.specs.Union.{Around, UnionPlace, advanceAllScorersOnPivot, afterAlign, afterPivot, alignScorers, aligned, blockMaxWasTooLow, called, goOn, missed, missedOn, onPivot, over, scored, tooLowLoads, unionTurn}
 use Rattle.ordering.specs.Inner.Pivots.{pivotOf, Found}
 use Rattle.ordering.specs.Inner.Scorers.{Moving}
-use Rattle.ordering.specs.declared.TermScorer.{TermScorer}
+use Rattle.term_scorer.specs.declared.TermScorer.{TermScorer}
 use Rattle.ordering.specs.declared.Pivot.the-variants.{At, Nowhere}
 use Rattle.ordering.proofs.Places.{drop-take, join, map-append, map-drop, map-take}
 use Rattle.ordering.proofs.OnRoute.{Fair, pivot-on-route, pivotIn}

@@ -13,7 +13,7 @@ use Rattle.route.specs.Postings.{Postings}
 use Rattle.route.specs.Inner.Cursors.{Wf, Past}
 use Rattle.route.proofs.Cursor.{fresh-is}
 use Rattle.bm25.specs.declared.Scoring.{Scoring}
-use Rattle.ordering.specs.declared.TermScorer.{TermScorer}
+use Rattle.term_scorer.specs.declared.TermScorer.{TermScorer}
 use Rattle.notefile.specs.Header.{documents}
 use Rattle.decoded.specs.Lists.{queried}
 use Rattle.slot_rows.proofs.Rows.{cur-inside, doc-in-array}

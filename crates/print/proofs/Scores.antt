@@ -8,7 +8,7 @@ use lib.Dec.{T, leb}
 use lib.ListN.{length, getD, take}
 use lib.Ieee.{Float, nan}
 use Rattle.floats.specs.Threshold.{thresholdOk}
-use Rattle.route.specs.Lists.{All}
+use Rattle.arrays.specs.Every.{All}
 use Rattle.route.specs.F32.{f32}
 use Rattle.route.specs.Report.{Report, Callback}
 use Rattle.route.specs.Rule as rules

@@ -19,7 +19,7 @@ use Rattle.bm25.specs.declared.Scoring.{Scoring}
 use Rattle.bm25.specs.declared.Scoring.the-variants.{Unstepped}
 use Rattle.bm25.proofs.WeightLaws.{max-score-is}
 use Rattle.ordering.specs.Inner.Scorers.{noScorer}
-use Rattle.ordering.specs.declared.TermScorer.{TermScorer}
+use Rattle.term_scorer.specs.declared.TermScorer.{TermScorer}
 use Rattle.notefile.specs.Header.{listCount}
 use Rattle.notefile.specs.Parts.{partOf}
 use Rattle.notefile.specs.Lists.{listBound, scoreFor}

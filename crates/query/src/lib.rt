@@ -3,7 +3,7 @@ use bm25::Bm25Weight;
 use bm25::Scoring;
 use notefile::header::Header;
 use notefile::part::read_part;
-use ordering::TermScorer;
+use term_scorer::TermScorer;
 use term_scorer::slot;
 ghost use mathlib.Core.Path.{_≡_};
 ghost use Prim.Native.Nat.{_≤_, _<_};

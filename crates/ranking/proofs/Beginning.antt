@@ -8,7 +8,7 @@ use native.Mathlib.Omega.{arith}
 use lib.ListN.{length, getD, getD-replicate, replicate, take}
 use lib.Seq.{length-take-le}
 use lib.Ieee.{Float}
-use Rattle.route.specs.Lists.{All}
+use Rattle.arrays.specs.Every.{All}
 use Rattle.route.specs.F32.{f32}
 use Rattle.route.specs.Cursor.{Cursor, fresh}
 use Rattle.route.specs.Ordering.{retain}
@@ -27,7 +27,7 @@ use Rattle.bm25.specs.declared.Scoring.{Scoring}
 use Rattle.rule.specs.declared.Rule.{Rule}
 use Rattle.ordering.specs.Inner.Scorers.{Apart, Left, byDoc, noScorer}
 use Rattle.ordering.specs.declared.Scorers.{Scorers}
-use Rattle.ordering.specs.declared.TermScorer.{TermScorer}
+use Rattle.term_scorer.specs.declared.TermScorer.{TermScorer}
 use Rattle.ordering.proofs.Kept.{kept-all, kept-apart, retain-kept}
 use Rattle.ordering.proofs.OnRoute.{SameDoc, retained-on-route}
 use Rattle.notefile.specs.Header.{documents, normReader}

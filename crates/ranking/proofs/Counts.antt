@@ -8,7 +8,7 @@ use lib.Dec.{leb}
 use lib.ListN.{length, length-take, take}
 use lib.Ieee.{Float}
 use Rattle.floats.proofs.Pattern.{same-bits}
-use Rattle.route.specs.Lists.{All}
+use Rattle.arrays.specs.Every.{All}
 use Rattle.route.specs.Report.{Report}
 use Rattle.route.specs.Rule as rules
 use Rattle.route.proofs.Cases.{by-test}

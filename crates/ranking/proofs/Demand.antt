@@ -10,7 +10,7 @@ use lib.ListN.{length, getD, drop, take}
 use lib.Ieee.{Float, lt}
 use borrow.Author.Tests.{eqb-true, ne-eqb}
 use Rattle.floats.specs.Threshold.{thresholdOk}
-use Rattle.route.specs.Lists.{All}
+use Rattle.arrays.specs.Every.{All}
 use Rattle.route.specs.Score.{larger, smaller}
 use Rattle.route.specs.F32.{f32}
 use Rattle.route.specs.Report.{Report}

@@ -3,7 +3,7 @@ use block_wand_single::Phase;
 use block_wand_single::Single;
 use machine::Machine;
 use notefile::header::Header;
-use ordering::TermScorer;
+use term_scorer::TermScorer;
 use ordering::retain;
 use plain_scan::Plain;
 use query::open_lists;

@@ -7,7 +7,7 @@ use mathlib.Core.Path.{ap, sym, _∙_, _≡_}
 use Prim.Native.Nat.{ℕ, _≤_}
 use native.Mathlib.Omega.{arith}
 use lib.ListN.{length}
-use Rattle.route.specs.Lists.{All}
+use Rattle.arrays.specs.Every.{All}
 use Rattle.route.specs.Score.{Ops, larger, smaller}
 use Rattle.route.specs.Report.{Report}
 use Rattle.route.specs.Rule.{Rule, limited, ruled}

@@ -5,7 +5,7 @@ use mathlib.Core.Path.{ap, refl, subst, _∙_, _≡_}
 use Prim.Native.Nat.{suc, ℕ, _+_, _-_, _≤_}
 use native.Mathlib.Omega.{arith}
 use lib.ListN.{length, length-append}
-use Rattle.route.specs.Lists.{All}
+use Rattle.arrays.specs.Every.{All}
 use Rattle.route.specs.Score.{Ops, sum, sumFrom}
 use Rattle.route.proofs.Lists.{Perm, all-append, all-perm, p-cons, p-nil, p-swap, p-trans, perm-length}
 use Rattle.route.proofs.Order.{Ordered}

@@ -3,7 +3,7 @@ use mathlib.Core.List.{List, [], map, _++_, _∷_}
 use mathlib.Core.Path.{ap, refl, subst, _∙_, _≡_}
 use Prim.Native.Nat.{suc}
 use lib.ListN.{drop, length, take}
-use Rattle.route.specs.Lists.{All}
+use Rattle.arrays.specs.Every.{All}
 
 -- A permutation as a plain derivation: no truncation and no path at its heads, so that it can be recursed on directly.
 pub data Perm {A : Type 0} : List A → List A → Type 0 where

@@ -9,7 +9,7 @@ use native.Mathlib.Omega.{arith}
 use lib.Dec.{eqb, ltb}
 use lib.ListN.{drop, length, take, take-append-drop}
 use borrow.Author.Tests.{eq-eqb, eqb-true, ne-eqb}
-use Rattle.route.specs.Lists.{All}
+use Rattle.arrays.specs.Every.{All}
 use Rattle.route.specs.Score.{Ops, sum}
 use Rattle.route.specs.Report.{Callback, Report}
 use Rattle.route.specs.Postings.{Postings, TERMINATED, lastDoc}

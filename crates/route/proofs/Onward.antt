@@ -6,7 +6,7 @@ use mathlib.Core.Path.{subst, sym, _≡_}
 use Prim.Native.Nat.{suc, zero, ℕ, _+_, _<_, _≤_}
 use native.Mathlib.Omega.{arith}
 use lib.ListN.{length}
-use Rattle.route.specs.Lists.{All}
+use Rattle.arrays.specs.Every.{All}
 use Rattle.route.specs.Score.{Ops, sumFrom}
 use Rattle.route.specs.Report.{Callback, Report, dueAt, reported}
 use Rattle.route.specs.Rule.{Rule, ruled}

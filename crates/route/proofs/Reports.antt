@@ -5,7 +5,7 @@ use mathlib.Core.Path.{refl, subst, sym}
 use Prim.Native.Nat.{suc, zero, ℕ, _+_, _≤_}
 use native.Mathlib.Omega.{arith}
 use lib.ListN.{length}
-use Rattle.route.specs.Lists.{All}
+use Rattle.arrays.specs.Every.{All}
 use Rattle.route.specs.Score.{Ops}
 use Rattle.route.specs.Report.{Callback, Report}
 use Rattle.route.specs.Rule.{Rule, ruled}

@@ -7,7 +7,7 @@ use native.Mathlib.Omega.{arith}
 use lib.Dec.{leb}
 use lib.ListN.{getD, length, length-append, take}
 use borrow.Author.Tests.{leb-false, leb-true}
-use Rattle.route.specs.Lists.{All}
+use Rattle.arrays.specs.Every.{All}
 use Rattle.route.specs.Score.{Ops, larger}
 use Rattle.route.specs.Report.{Report}
 use Rattle.route.specs.Rule.{Rule, best, insertDown, lastOf, rankFrom, ruled, scores, script, thresholdAfter}

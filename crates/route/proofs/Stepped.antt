@@ -19,7 +19,7 @@ use Rattle.floats.proofs.Exact.{difference-exact}
 use Rattle.floats.proofs.Grid.{grid-add, grid-has, grid-steps}
 use Rattle.floats.proofs.Steps.{steps-lt}
 use Rattle.floats.proofs.Threshold.{level-steps}
-use Rattle.route.specs.Lists.{All}
+use Rattle.arrays.specs.Every.{All}
 use Rattle.route.specs.Score.{larger, smaller}
 use Rattle.route.specs.F32.{f32}
 use Rattle.route.specs.Report.{Report}

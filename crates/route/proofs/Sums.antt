@@ -6,7 +6,7 @@ use mathlib.Core.Path.{ap, refl, subst, sym, _∙_, _≡_}
 use Prim.Native.Nat.{suc, ℕ, _+_, _<_, _≤_}
 use native.Mathlib.Omega.{arith}
 use lib.ListN.{length}
-use Rattle.route.specs.Lists.{All}
+use Rattle.arrays.specs.Every.{All}
 use Rattle.route.specs.Score.{Ops, sum, sumFrom}
 use Rattle.route.specs.Plain.{optList, totalOf}
 use Rattle.route.proofs.Lists.{Perm, perm-length}

@@ -6,7 +6,7 @@ use mathlib.Core.Option.{Option, none, some}
 use mathlib.Core.Path.{ap, refl, subst, sym, _∙_, _≡_}
 use Prim.Native.Nat.{suc, zero, ℕ, _≤_}
 use native.Mathlib.Omega.{arith}
-use Rattle.route.specs.Lists.{All}
+use Rattle.arrays.specs.Every.{All}
 use Rattle.route.specs.Score.{Ops}
 use Rattle.route.specs.Report.{Report}
 use Rattle.route.specs.Rule.{Rule, ruled, scores, thresholdAfter}

@@ -1,5 +1,4 @@
 -- What a reader must believe of runs, from the bottom: scores and rules, decoded lists, the plain scan, a scorer's moves, the three routes, all modes.
-pub mod Lists
 pub mod Score
 pub mod F32
 pub mod Report

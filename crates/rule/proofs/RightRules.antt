@@ -7,7 +7,7 @@ use lib.Ieee.{Float, lt}
 use borrow.Author.Tests.{leb-true}
 use Rattle.arrays.proofs.Every.{first-true, second-true}
 use Rattle.floats.specs.Threshold.{thresholdOk}
-use Rattle.route.specs.Lists.{All}
+use Rattle.arrays.specs.Every.{All}
 use Rattle.route.specs.F32.{f32}
 use Rattle.route.specs.Inner.Rules.{Rises, RuleOk}
 use Rattle.bm25.specs.declared.Scoring.{Scoring}

@@ -1,6 +1,6 @@
 // What is found by the scorers' documents and list bounds: the pivot, the scorer to seek, and how far it may.
 use ordering::Pivot;
-use ordering::TERMINATED;
+use notefile::block::TERMINATED;
 use term_scorer::slot;
 ghost use mathlib.Core.List.{List, map};
 ghost use mathlib.Core.Path.{_≡_};
@@ -9,7 +9,7 @@ ghost use lib.Ieee.{Float};
 ghost use lib.ListN.{drop, take};
 ghost use Rattle.arrays.specs.Lent.{before};
 ghost use Rattle.route.specs.F32.{f32};
-ghost use Rattle.route.specs.Lists.{All};
+ghost use Rattle.arrays.specs.Every.{All};
 ghost use Rattle.ordering.specs.Inner.Pivots.{beforePivot, countOn, pivotOf, placeToSeek};
 ghost use Rattle.ordering.specs.Inner.Scorers.{leastDocOf};
 ghost use Rattle.term_scorer.specs.Inner.Slots.{Sixteen};

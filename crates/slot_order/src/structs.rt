@@ -1,13 +1,13 @@
 // The scorers as structs in an array of 16, read off the tables in their order, and their slots written back.
 use ordering::Scorers;
-use ordering::TermScorer;
+use term_scorer::TermScorer;
 use term_scorer::slot;
 ghost use mathlib.Core.List.{map};
 ghost use mathlib.Core.Path.{_≡_};
 ghost use Prim.Native.Nat.{_≤_};
 ghost use lib.ListN.{take};
 ghost use Rattle.arrays.specs.Lent.{before, after};
-ghost use Rattle.route.specs.Lists.{All};
+ghost use Rattle.arrays.specs.Every.{All};
 ghost use Rattle.ordering.specs.Inner.Scorers.{slotOf};
 ghost use Rattle.term_scorer.specs.Inner.Slots.{Sixteen};
 ghost use Rattle.slot_order.specs.Inner.Rows.{Ordered, Readable, termIn};

@@ -12,3 +12,11 @@ pub const BOUNDS: usize = 0;
 pub const RESTS: usize = 1;
 
 pub const SCORES: usize = 2;
+
+// The document that a scorer stands on, its list bound, and the slot in which its list, its place there and its decoded
+// block are kept.
+pub struct TermScorer {
+    pub doc: u32,
+    pub max_score: f32,
+    pub slot: usize,
+}

@@ -5,14 +5,14 @@ use mathlib.Core.List.{List, [], _∷_, map}
 use Prim.Native.Nat.{ℕ, min, _≤_, _<_}
 use lib.ListN.{drop, take}
 use lib.Ieee.{Float}
-use Rattle.route.specs.Lists.{All}
+use Rattle.arrays.specs.Every.{All}
 use Rattle.route.specs.Score.{sum}
 use Rattle.route.specs.F32.{f32}
 use Rattle.route.specs.Scorer.{blockMaxScore, seekBlock}
 use Rattle.route.specs.Union.{Around, advanceAllScorersOnPivot, aligned, alignScorers, blockMaxWasTooLow, missed, missedOn}
 use Rattle.bm25.specs.declared.Scoring.{Scoring}
 use Rattle.ordering.specs.Inner.Scorers.{Moving}
-use Rattle.ordering.specs.declared.TermScorer.{TermScorer}
+use Rattle.term_scorer.specs.declared.TermScorer.{TermScorer}
 use Rattle.term_scorer.specs.Inner.Slots.{Held, lastAt, Sixteen}
 use Rattle.term_scorer.specs.Inner.Weights.{FloatRow}
 use Rattle.block_wand_union.specs.Inner.Seats.{Carried, Seat, Terms, TopIs, onRoute, scorerAt, terms, termsOf}

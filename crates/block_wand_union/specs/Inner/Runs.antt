@@ -11,7 +11,7 @@ use Rattle.route.specs.Union.{UnionPlace, isOver}
 use Rattle.route.specs.Inner.Unions.{UnionKept}
 use Rattle.bm25.specs.declared.Scoring.{Scoring}
 use Rattle.ordering.specs.Inner.Scorers.{byDoc, slotOf}
-use Rattle.ordering.specs.declared.TermScorer.{TermScorer}
+use Rattle.term_scorer.specs.declared.TermScorer.{TermScorer}
 use Rattle.notefile.specs.Header.{documents}
 use Rattle.reports.specs.declared.Event.{Event}
 use Rattle.term_scorer.specs.Inner.Slots.{Held, Sixteen}

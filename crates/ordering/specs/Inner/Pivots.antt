@@ -6,10 +6,10 @@ use Prim.Native.Nat.{ℕ, suc, _+_, _≤_, _<_}
 use lib.Dec.{eqb}
 use lib.ListN.{drop, length, take}
 use lib.Ieee.{Float}
-use Rattle.route.specs.Lists.{All}
+use Rattle.arrays.specs.Every.{All}
 use Rattle.route.specs.F32.{f32}
 use Rattle.route.specs.Postings.{TERMINATED}
-use Rattle.ordering.specs.declared.TermScorer.{TermScorer}
+use Rattle.term_scorer.specs.declared.TermScorer.{TermScorer}
 use Rattle.ordering.specs.declared.Pivot.{Pivot}
 use Rattle.ordering.specs.declared.Pivot.the-variants.{Nowhere, At}
 

@@ -8,7 +8,7 @@ use Rattle.route.specs.Cursor.{fresh}
 use Rattle.route.specs.F32.{f32}
 use Rattle.bm25.specs.declared.Scoring.{Scoring}
 use Rattle.ordering.specs.Inner.Scorers.{noScorer}
-use Rattle.ordering.specs.declared.TermScorer.{TermScorer}
+use Rattle.term_scorer.specs.declared.TermScorer.{TermScorer}
 use Rattle.notefile.specs.Header.{listCount}
 use Rattle.notefile.specs.Parts.{partOf}
 use Rattle.decoded.specs.Lists.{listOf}

@@ -12,7 +12,7 @@ use Rattle.route.specs.Inner.Rules.{Takes}
 use Rattle.rule.specs.declared.Rule.{Rule}
 use Rattle.ordering.specs.Inner.Scorers.{byDoc, noScorer, Left}
 use Rattle.ordering.specs.declared.Scorers.{Scorers}
-use Rattle.ordering.specs.declared.TermScorer.{TermScorer}
+use Rattle.term_scorer.specs.declared.TermScorer.{TermScorer}
 use Rattle.notefile.specs.Header.{documents}
 use Rattle.notefile.specs.Refusal.{fileRefusal}
 use Rattle.reports.specs.Inner.Runs.{callbackOf}

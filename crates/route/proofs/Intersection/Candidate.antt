@@ -8,7 +8,7 @@ use native.Mathlib.Omega.{arith}
 use lib.Dec.{eqb, ltb}
 use lib.ListN.{length, length-append, length-map}
 use borrow.Author.Tests.{eqb-false, eqb-true, ltb-true}
-use Rattle.route.specs.Lists.{All}
+use Rattle.arrays.specs.Every.{All}
 use Rattle.route.specs.Score.{Ops, sum, sumBack}
 use Rattle.route.specs.Postings.{Postings, TERMINATED, scoreOf}
 use Rattle.route.specs.Plain.{optList, present}

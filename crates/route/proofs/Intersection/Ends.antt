@@ -9,7 +9,7 @@ use native.Mathlib.Omega.{arith}
 use lib.Dec.{eqb, leb, ltb}
 use lib.ListN.{length}
 use borrow.Author.Tests.{eqb-true, leb-false, leb-true, ltb-true}
-use Rattle.route.specs.Lists.{All}
+use Rattle.arrays.specs.Every.{All}
 use Rattle.route.specs.Score.{Ops, sum, sumBack}
 use Rattle.route.specs.Report.{Report}
 use Rattle.route.specs.Postings.{Postings, TERMINATED, docAt, start}

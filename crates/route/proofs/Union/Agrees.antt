@@ -9,7 +9,7 @@ use native.Mathlib.Omega.{arith}
 use lib.Dec.{eqb, leb}
 use lib.ListN.{length, length-append, length-map}
 use borrow.Author.Tests.{eqb-false, eqb-true, leb-false, leb-true}
-use Rattle.route.specs.Lists.{All}
+use Rattle.arrays.specs.Every.{All}
 use Rattle.route.specs.Score.{Ops, sum}
 use Rattle.route.specs.Report.{Callback, reported}
 use Rattle.route.specs.Postings.{Postings, TERMINATED, scoreOf}

@@ -8,7 +8,7 @@ use native.Mathlib.Omega.{arith}
 use lib.Dec.{eqb, ltb}
 use lib.ListN.{drop, length, length-append, length-map, length-take, take, take-append-drop}
 use borrow.Author.Tests.{eqb-false, le-leb, ltb-false, ltb-true}
-use Rattle.route.specs.Lists.{All}
+use Rattle.arrays.specs.Every.{All}
 use Rattle.route.specs.Score.{Ops, sum}
 use Rattle.route.specs.Postings.{Postings, TERMINATED}
 use Rattle.route.specs.Ordering.{retain, sweep}

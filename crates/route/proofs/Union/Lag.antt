@@ -7,7 +7,7 @@ use native.Mathlib.Omega.{arith}
 use lib.Dec.{eqb, leb, ltb}
 use lib.ListN.{length}
 use borrow.Author.Tests.{le-ltb, leb-false, leb-true, lt-ltb}
-use Rattle.route.specs.Lists.{All}
+use Rattle.arrays.specs.Every.{All}
 use Rattle.route.specs.Score.{Ops, sum}
 use Rattle.route.specs.Postings.{TERMINATED, lastDoc}
 use Rattle.route.specs.Cursor.{Cursor, blockMax, docHere, loadAt, nextIn, seekBlockIn, tailMax}

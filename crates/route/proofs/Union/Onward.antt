@@ -7,7 +7,7 @@ use Prim.Native.Nat.{suc, ℕ, _<_, _≤_}
 use native.Mathlib.Omega.{arith}
 use lib.Dec.{eqb}
 use lib.ListN.{length}
-use Rattle.route.specs.Lists.{All}
+use Rattle.arrays.specs.Every.{All}
 use Rattle.route.specs.Score.{Ops, sum}
 use Rattle.route.specs.Postings.{Postings, TERMINATED}
 use Rattle.route.specs.Ordering.{retain, sortBy}

@@ -6,7 +6,7 @@ use Prim.Native.Nat.{pred, suc, zero, ℕ, _+_, _-_, _<_, _≤_}
 use native.Mathlib.Omega.{arith}
 use lib.Dec.{eqb, leb, ltb}
 use borrow.Author.Tests.{eqb-false, eqb-true, leb-false, leb-true, ltb-false, ltb-true}
-use Rattle.route.specs.Lists.{All}
+use Rattle.arrays.specs.Every.{All}
 use Rattle.route.specs.Postings.{TERMINATED, docAt, lastDoc, start}
 use Rattle.route.specs.Cursor.{docHere, findIn, loadAt, nextIn, seekBlockIn, skipTo}
 use Rattle.route.specs.Ordering.{restoreOrdering, swapRemove, sweep}

@@ -6,7 +6,7 @@ use native.Mathlib.Omega.{arith}
 use lib.Dec.{leb, ltb}
 use lib.ListN.{length, length-append, length-map}
 use borrow.Author.Tests.{leb-false, leb-true, ltb-false, ltb-true}
-use Rattle.route.specs.Lists.{All}
+use Rattle.arrays.specs.Every.{All}
 use Rattle.route.specs.Score.{Ops, sum}
 use Rattle.route.specs.Report.{Callback}
 use Rattle.route.specs.Postings.{Postings, TERMINATED}

@@ -2,7 +2,7 @@
 use mathlib.Core.List.{List, _∷_}
 use Prim.Native.Nat.{ℕ, _≤_}
 use lib.ListN.{length}
-use Rattle.route.specs.Lists.{All}
+use Rattle.arrays.specs.Every.{All}
 use Rattle.route.specs.Score.{Ops}
 use Rattle.route.specs.Report.{Report}
 use Rattle.route.specs.Postings.{TERMINATED}

@@ -3,7 +3,7 @@ use mathlib.Core.List.{List}
 use mathlib.Core.Path.{_≡_}
 use Prim.Native.Nat.{suc, ℕ, _+_, _<_, _≤_}
 use lib.ListN.{drop, length, take}
-use Rattle.route.specs.Lists.{All}
+use Rattle.arrays.specs.Every.{All}
 use Rattle.route.specs.Score.{Ops}
 use Rattle.route.specs.Postings.{Postings, TERMINATED, start}
 use Rattle.route.specs.Cursor.{Cursor}

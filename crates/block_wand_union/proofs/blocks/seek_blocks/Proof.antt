@@ -9,7 +9,7 @@ use lib.Seq.{getD-take}
 use borrow.Author.Needs.{needs}
 use Rattle.route.specs.Cursor.{seekBlockIn}
 use Rattle.ordering.specs.Inner.Scorers.{noScorer}
-use Rattle.ordering.specs.declared.TermScorer.{TermScorer}
+use Rattle.term_scorer.specs.declared.TermScorer.{TermScorer}
 use Rattle.term_scorer.specs.Inner.Slots.{cursorAt, held, listAt}
 use Rattle.slot_order.proofs.Rows.{map-at}
 use Rattle.block_wand_union.specs.Inner.Seats.{Seat, Seated, termAt, terms, termsOf}

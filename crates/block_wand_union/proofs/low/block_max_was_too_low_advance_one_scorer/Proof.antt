@@ -5,7 +5,7 @@ use Prim.Native.Nat.{ℕ, _<_, _≤_}
 use native.Mathlib.Omega.{arith}
 use lib.ListN.{drop, getD, length, length-map, length-take, take}
 use lib.Seq.{getD-take, take-take}
-use Rattle.route.specs.Lists.{All}
+use Rattle.arrays.specs.Every.{All}
 use Rattle.route.specs.Union.{behind}
 use Rattle.route.proofs.Lists.{all-imp}
 use Rattle.route.proofs.Union.Pivot.{behind-is}
@@ -13,7 +13,7 @@ use Rattle.bm25.specs.declared.Scoring.{Scoring}
 use Rattle.bm25.specs.declared.Scoring.the-variants.{Unstepped}
 use Rattle.ordering.specs.Inner.Pivots.{placeToSeek}
 use Rattle.ordering.specs.Inner.Scorers.{leastDocOf, slotOf}
-use Rattle.ordering.specs.declared.TermScorer.{TermScorer}
+use Rattle.term_scorer.specs.declared.TermScorer.{TermScorer}
 use Rattle.ordering.proofs.Places.{all-first}
 use Rattle.term_scorer.specs.Inner.Slots.{held, Held}
 use Rattle.slot_order.specs.Inner.Rows.{Readable, termIn}

@@ -7,7 +7,7 @@ use lib.ListN.{getD, length, length-take, take}
 use lib.Seq.{getD-take}
 use borrow.Author.Needs.{needs}
 use Rattle.route.specs.Ordering.{sortBy}
-use Rattle.route.specs.Lists.{All}
+use Rattle.arrays.specs.Every.{All}
 use Rattle.bm25.specs.declared.Scoring.{Scoring}
 use Rattle.bm25.specs.declared.Scoring.the-variants.{Unstepped}
 use Rattle.ordering.proofs.Kept.{kept-all, sweep-kept}

@@ -4,7 +4,7 @@ use Prim.Native.Nat.{_-_, _≤_}
 use native.Mathlib.Omega.{arith}
 use lib.ListN.{getD, length-set, take}
 use borrow.Author.Needs.{needs}
-use Rattle.route.specs.Lists.{All}
+use Rattle.arrays.specs.Every.{All}
 use Rattle.ordering.proofs.Places.{all-first}
 use Rattle.term_scorer.specs.Inner.Slots.{Sixteen}
 use Rattle.block_wand_union.specs.Inner.Seats.{TopIs, Topped}

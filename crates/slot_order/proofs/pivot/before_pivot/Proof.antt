@@ -6,7 +6,7 @@ use lib.Ieee.{ofBits}
 use lib.ListN.{getD, length, length-map}
 use borrow.Author.Needs.{needs}
 use Rattle.ordering.specs.Inner.Scorers.{noScorer}
-use Rattle.ordering.specs.declared.TermScorer.{TermScorer}
+use Rattle.term_scorer.specs.declared.TermScorer.{TermScorer}
 use Rattle.ordering.proofs.Places.{all-first}
 use Rattle.ordering.proofs.Pivoting.{Summing, summing, exceeds, adds, never}
 use Rattle.slot_order.specs.Inner.Rows.{termIn}

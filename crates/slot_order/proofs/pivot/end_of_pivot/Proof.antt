@@ -7,7 +7,7 @@ use lib.Ieee.{Float}
 use lib.ListN.{getD, length, length-map}
 use borrow.Author.Needs.{needs}
 use Rattle.ordering.specs.Inner.Scorers.{noScorer}
-use Rattle.ordering.specs.declared.TermScorer.{TermScorer}
+use Rattle.term_scorer.specs.declared.TermScorer.{TermScorer}
 use Rattle.ordering.proofs.Pivoting.{Running, leaves, runs, runs-out}
 use Rattle.slot_order.specs.Inner.Rows.{Readable, termIn}
 use Rattle.slot_order.proofs.Rows.{map-at, read-at, reading}

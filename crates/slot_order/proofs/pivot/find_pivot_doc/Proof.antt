@@ -10,7 +10,7 @@ use Rattle.route.specs.F32.{f32}
 use Rattle.ordering.specs.Inner.Pivots.{beforePivot}
 use Rattle.ordering.specs.Inner.Scorers.{noScorer}
 use Rattle.ordering.specs.declared.Pivot.the-variants.{At}
-use Rattle.ordering.specs.declared.TermScorer.{TermScorer}
+use Rattle.term_scorer.specs.declared.TermScorer.{TermScorer}
 use Rattle.ordering.proofs.Pivoting.{none-exceeds, finished, found}
 use Rattle.slot_order.specs.Inner.Rows.{Readable, termIn}
 use Rattle.slot_order.proofs.Rows.{map-at, read-at, reading}

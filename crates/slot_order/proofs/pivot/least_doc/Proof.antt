@@ -8,7 +8,7 @@ use lib.Ieee.{Float}
 use lib.ListN.{drop, getD, length, length-map, take}
 use borrow.Author.Needs.{needs}
 use Rattle.ordering.specs.Inner.Scorers.{leastDocOf, noScorer}
-use Rattle.ordering.specs.declared.TermScorer.{TermScorer}
+use Rattle.term_scorer.specs.declared.TermScorer.{TermScorer}
 use Rattle.ordering.proofs.Seeking.{Lowering, lowers, lowest}
 use Rattle.slot_order.specs.Inner.Rows.{Readable, termIn}
 use Rattle.slot_order.proofs.Rows.{map-at, read-at, reading}

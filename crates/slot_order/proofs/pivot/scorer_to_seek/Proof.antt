@@ -5,7 +5,7 @@ use native.Mathlib.Omega.{arith}
 use lib.ListN.{getD, length, length-map}
 use borrow.Author.Needs.{needs}
 use Rattle.ordering.specs.Inner.Scorers.{noScorer}
-use Rattle.ordering.specs.declared.TermScorer.{TermScorer}
+use Rattle.term_scorer.specs.declared.TermScorer.{TermScorer}
 use Rattle.ordering.proofs.Places.{all-first}
 use Rattle.ordering.proofs.Seeking.{Seeking, begun, higher, lower, ended}
 use Rattle.slot_order.specs.Inner.Rows.{termIn}

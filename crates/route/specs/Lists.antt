@@ -1,7 +1,0 @@
--- Every member of a list.
-use mathlib.Core.List.{List, [], _∷_}
-
--- P holds of each
-abbrev pub All : {A : Type 0} → (A → Type 0) → List A → Type 0
-All P [] = Unit {0}
-All P (x ∷ xs) = P x × All P xs
