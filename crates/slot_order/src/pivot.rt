@@ -1,6 +1,6 @@
 // What is found by the scorers' documents and list bounds: the pivot, the scorer to seek, and how far it may.
-use ordering::Pivot;
 use notefile::block::TERMINATED;
+use ordering::Pivot;
 use term_scorer::slot;
 ghost use mathlib.Core.List.{List, map};
 ghost use mathlib.Core.Path.{_≡_};
