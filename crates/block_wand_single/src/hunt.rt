@@ -37,8 +37,8 @@ fn score_postings(
 {
     let norms = similarity.norms;
     let scoring = similarity.scoring;
-    let weight = weight_of(list);
-    bm25_block::score_block(file, norms, cache, weight, scoring, docs, freqs, values);
+    let w = weight_of(list, cache);
+    bm25_block::score_block(file, norms, w, scoring, docs, freqs, values);
 }
 
 // To the first posting of a block from `doc` on, with the scores of its block. Over where there is none.

@@ -8,9 +8,9 @@ use lib.ListN.{getD, length, set}
 use lib.Ieee.{Float, nan, binary32, ofBits}
 use Rattle.route.specs.Cursor.{blockMax}
 use Rattle.route.specs.F32.{f32}
+use Rattle.bm25.specs.Inner.Weight.{NormsOf}
 use Rattle.bm25.specs.declared.Scoring.{Scoring}
 use Rattle.notefile.specs.Lists.{fullBlocks}
-use Rattle.notefile.specs.Inner.Given.{WeighedIn}
 use Rattle.notefile.specs.declared.part.Part.{Part}
 use Rattle.decoded.specs.Lists.{listOf}
 use Rattle.slot_rows.specs.Inner.Rows.{cursorIn}
@@ -30,7 +30,7 @@ pub record FloatRows (floats : List (List Float)) : Type 0 where
 
 -- a list's norms
 abbrev pub NormsIn : Part → List Float → Type 0
-NormsIn x cache = WeighedIn x (ofBits binary32 (x .weight)) cache
+NormsIn x cache = NormsOf (ofBits binary32 (x .average)) cache
 
 -- slot q has its list's norms
 abbrev pub Weighed : List (List ℕ) → List (List Float) → ℕ → Type 0

@@ -1,9 +1,8 @@
 -- `hunt::score_postings` meets its contract: norm codes and frequencies are those of the decoded block.
 use borrow.Author.Needs.{needs}
-use Rattle.notefile.specs.Inner.Given.{weightOf}
 use Rattle.postings.proofs.BlockBounds.{score-is}
 use Rattle.slot_rows.specs.Inner.Rows.{partIn}
-use Rattle.term_scorer.proofs.Scores.{weighed-by}
+use Rattle.term_scorer.proofs.Scores.{weight-in}
 use Rattle.block_wand_single.proofs.hunt.score_postings.Statement.{statement}
 use Rattle.block_wand_single.proofs.hunt.score_postings.Tie as tie
 
@@ -19,11 +18,9 @@ returns c =
     let b = w .before in
     let a = b .before in
     let x = partIn (a .args .list .now) in
-    let cache = a .args .cache .now in
-    let weight = w .weight-of .result in
     record {
       long = c .score-block .ensures .long;
-      at = score-is (a .args .file .now) x (weightOf x weight cache) (weighed-by x cache (w .weight-of .ensures) (a .pre .3))
+      at = score-is (a .args .file .now) x (w .weight-of .result) (weight-in x (a .args .cache .now) (a .pre .3) (w .weight-of .ensures))
           (λ k. b .shared-slice-known .given k .fits) (a .args .similarity .scoring) (a .pre .0) (a .args .docs .now) (a .args .freqs .now) (c .score-block .ensures);
     }
 
