@@ -19,7 +19,7 @@ pub const LAST: usize = 3;
 
 pub const LOADED: usize = 4;
 
-const DECODED: usize = 5;
+pub const DECODED: usize = 5;
 
 pub const CUR: usize = 6;
 

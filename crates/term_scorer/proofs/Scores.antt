@@ -22,6 +22,7 @@ use Rattle.bm25.specs.Inner.Weight.{scoreIn}
 use Rattle.bm25.specs.Inner.Bound.{listBoundIn}
 use Rattle.bm25.specs.declared.Bm25Weight.{Bm25Weight}
 use Rattle.bm25.specs.declared.Scoring.{Scoring}
+use Rattle.bm25_block.specs.Inner.Block.{Scored}
 use Rattle.notefile.specs.Header.{normCodeOf, normReader}
 use Rattle.notefile.specs.Lists.{blockScore, fullBlocks}
 use Rattle.notefile.specs.Inner.Given.{weightOf, WeightIn}
@@ -32,10 +33,11 @@ use Rattle.decoded.specs.Lists.{listOf}
 use Rattle.postings.specs.Inner.Decoded.{docIn}
 use Rattle.postings.specs.Inner.Places.{cursorOf}
 use Rattle.postings.specs.declared.cursor.SegmentPostings.{SegmentPostings}
+use Rattle.postings.proofs.BlockBounds.{score-at, score-is}
 use Rattle.slot_rows.specs.Inner.Rows.{cursorIn, partIn, postingsIn, PlaceIn}
 use Rattle.slot_rows.proofs.Rows.{cursor-is}
 use Rattle.term_scorer.specs.Inner.Slots.{listAt, partAt, cursorAt}
-use Rattle.term_scorer.specs.Inner.Weights.{blockMaxAt, BoundFound, Bounded, BoundKept, NormsIn}
+use Rattle.term_scorer.specs.Inner.Weights.{blockMaxAt, BlockScores, BoundFound, Bounded, BoundKept, NormsIn}
 use Rattle.term_scorer.specs.declared.score.BlockMax.{BlockMax}
 use Rattle.term_scorer.specs.declared.score.BlockMax.the-variants.{Known, Unknown}
 use Rattle.term_scorer.specs.declared.score.Bound.{Bound}
@@ -62,7 +64,7 @@ module _ (file : List ℕ) (x : Part) (w : Bm25Weight) (W : WeightIn x w) (scori
       unfolding postingsIn cursorIn
       freq-is l = P .placed .holds .freqs-are .at i hi ∙ rw (lt-ltb at (x .count) l)
 
-      pub score-in-block : {doc id freq : ℕ} → doc ≡ docIn file x at → doc < 2147483647 → id ≡ fieldnormId norms file doc → freq ≡ getD freqs i 0
+      score-in-block : {doc id freq : ℕ} → doc ≡ docIn file x at → doc < 2147483647 → id ≡ fieldnormId norms file doc → freq ≡ getD freqs i 0
           → {r : Float} → r ≡ scored scoring (scoreIn w id freq) → r ≡ listOf scoring file x .score at
       unfolding listOf blockScore normCodeOf
       score-in-block {doc} {id} {freq} ed hd ei ef {r} er =
@@ -76,6 +78,11 @@ module _ (file : List ℕ) (x : Part) (w : Bm25Weight) (W : WeightIn x w) (scori
         → {r : Float} → r ≡ scored scoring (scoreIn w id freq) → r ≡ listOf scoring file x .score (cursorIn row .at)
     unfolding postingsIn cursorIn
     score-here ed hd ei ef er = score-in-block (getD row 6 0) (P .placed .inside) ed hd ei ef er
+
+    -- of all postings of the decoded block
+    pub block-scores : {scores : List Float} → Scored norms file w scoring docs freqs scores → BlockScores (listOf scoring file x) (cursorIn row .dec) scores
+    unfolding listOf cursorIn postingsIn
+    block-scores S = record { at = λ i h l. score-is file x w W bytes scoring en docs freqs S i h ∙ score-at scoring (P .placed .holds) i h l }
 
   -- the list bound
   pub max-by : {r : Float} → r ≡ scored scoring (listBoundIn w) → r ≡ listOf scoring file x .top

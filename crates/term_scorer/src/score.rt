@@ -12,16 +12,15 @@ use slot_rows::place::postings_of;
 use slot_rows::place::weight_of;
 ghost use mathlib.Core.Path.{_≡_};
 ghost use mathlib.Core.List.{[]};
-ghost use Prim.Native.Nat.{_+_, _<_};
+ghost use Prim.Native.Nat.{_<_};
 ghost use lib.ListN.{getD};
 ghost use Rattle.arrays.specs.Lent.{before, after};
-ghost use Rattle.route.specs.Postings.{start};
 ghost use Rattle.notefile.specs.Header.{normReader};
 ghost use Rattle.notefile.specs.Inner.Given.{Limits, WeightIn};
 ghost use Rattle.postings.specs.Inner.Decoded.{docIn, ListIn};
 ghost use Rattle.slot_rows.specs.Inner.Rows.{partIn, PartRow, PlaceIn};
 ghost use Rattle.term_scorer.specs.Inner.Slots.{cursorAt, held, listAt, partAt, SlotIn};
-ghost use Rattle.term_scorer.specs.Inner.Weights.{blockMaxAt, BoundFound, Bounded, BoundKept, FloatRow, NormsIn, Weighed};
+ghost use Rattle.term_scorer.specs.Inner.Weights.{blockMaxAt, BlockScores, BoundFound, Bounded, BoundKept, FloatRow, NormsIn, Weighed};
 
 // What every score of a run is made with: the file's norm codes, and stepped scores or unstepped ones.
 pub struct Similarity {
@@ -102,32 +101,29 @@ pub fn max_score(
     w.max_score(scoring)
 }
 
-// The score of posting i of the block that slot q decoded last, which is document doc.
-pub fn score_in_block(
+// The scores of the block that slot q decoded last, made at once.
+pub fn score_block(
     file: &[u8],
     similarity: Similarity,
     lists: &[[usize; 8]; 16],
     caches: &[[f32; 256]; 16],
     q: usize,
-    i: usize,
-    doc: u32,
     places: &[[usize; 8]; 16],
     docs: &[[u32; 128]; 16],
     freqs: &[[u32; 128]; 16],
-) -> f32
+    scores: &mut [f32; 128],
+)
     requires { let slots = held (now places) (now docs) (now freqs) in
         ⌜ (q < 16) × (similarity .norms ≡ normReader (now file)) × SlotIn (now file) (now lists) slots q
-        × Weighed (now lists) (now caches) q × (i < 128)
-        × (doc ≡ docIn (now file) (partAt (now lists) q) (start 128 (cursorAt (now places) q .dec) + i)) × (doc < 2147483647) ⌝ }
-    ensures { λ r.
-        let at = start 128 (cursorAt (before places) q .dec) + i in
-        ⌜ r ≡ listAt (similarity .scoring) (before file) (before lists) q .score at ⌝ }
+        × Weighed (now lists) (now caches) q ⌝ }
+    ensures { λ _.
+        let list = listAt (similarity .scoring) (before file) (before lists) q in
+        ⌜ BlockScores list (cursorAt (before places) q .dec) (after scores) × FloatRow (after scores) ⌝ }
 {
     let norms = similarity.norms;
     let scoring = similarity.scoring;
-    let id = norms.fieldnorm_id(file, doc);
     let w = weight_in(lists, caches, q);
-    w.score(scoring, id, freqs[q][i])
+    bm25_block::score_block(file, norms, w, scoring, &docs[q], &freqs[q], scores);
 }
 
 // The bound of the skip reader's block. It lasts unless the block is a tail that is not loaded.
