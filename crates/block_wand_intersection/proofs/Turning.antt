@@ -6,8 +6,8 @@ use mathlib.Core.Path.{ap, refl, subst, sym, _∙_, _≡_}
 use Prim.Native.Nat.{ℕ, _+_, _≤_}
 use native.Mathlib.Numerals.{add-one}
 use native.Mathlib.Omega.{arith}
-use lib.ListN.{drop, getD, set, take}
-use lib.Seq.{getD-set-same}
+use lib.ListN.{drop, getD, length-set, set, take}
+use lib.Seq.{getD-set-other, getD-set-same}
 use lib.Ieee.{Float}
 use borrow.Author.Tests.{le-ltb}
 use Rattle.block_search.specs.Search.{countBelow}
@@ -21,11 +21,11 @@ use Rattle.route.specs.Intersection.{InterPlace, Stage as RouteStage, Tried, ca
 use Rattle.route.proofs.Cases.{on-test}
 use Rattle.slot_rows.specs.Inner.Rows.{cursorIn}
 use Rattle.term_scorer.specs.Inner.Slots.{Held, cursorAt}
-use Rattle.term_scorer.specs.Inner.Weights.{FloatRows}
+use Rattle.term_scorer.specs.Inner.Weights.{BlockScores, FloatRow, FloatRows}
 use Rattle.term_scorer.proofs.Floats.{rows-set}
 use Rattle.intersection_window.specs.Inner.Scorers.{Query, Ready, leaderIn, listIn, placeAt, scorerAt, secondariesIn, slotAt}
-use Rattle.intersection_window.specs.Inner.Candidates.{Finds, FindsBy, Rests, Tries, behind, candidateOf, leftIn}
-use Rattle.intersection_window.specs.Inner.Windows.{Sums, Turns, Windowed, boundsOf, boundsRow, restsRow}
+use Rattle.intersection_window.specs.Inner.Candidates.{BlockRows, Finds, FindsBy, Rests, Tries, behind, candidateOf, leftIn}
+use Rattle.intersection_window.specs.Inner.Windows.{Sums, Turns, Windowed, boundsOf, boundsRow, restsRow, scoresRow}
 use Rattle.intersection_window.specs.declared.candidate.Candidate.{Candidate}
 use Rattle.intersection_window.specs.declared.candidate.Candidate.the-variants.{Due as DueWith, Passed}
 use Rattle.intersection_window.specs.declared.candidate.Posting.{Posting}
@@ -35,8 +35,8 @@ use Rattle.intersection_window.specs.declared.leader.Next.the-variants.{At, Now
 use Rattle.intersection_window.specs.declared.window.Window.{Window as Answer}
 use Rattle.intersection_window.specs.declared.window.Window.the-variants.{Low, Open as Opened, Over as RunOut}
 use Rattle.intersection_window.proofs.Gathering.{map-map}
-use Rattle.intersection_window.proofs.Finding.{few-below, first-candidates}
-use Rattle.block_wand_intersection.specs.Inner.Stands.{Open, StageKept, Stands, leftAt, maxSum, stageOf}
+use Rattle.intersection_window.proofs.Finding.{block-rows, few-below, first-candidates}
+use Rattle.block_wand_intersection.specs.Inner.Stands.{Open, Scored, StageKept, Stands, leftAt, maxSum, stageOf}
 use Rattle.block_wand_intersection.specs.Inner.Turns.{TakesTurn, behindCandidate, interTurn, movedTo, quietly}
 use Rattle.block_wand_intersection.specs.declared.Intersection.{Intersection}
 use Rattle.block_wand_intersection.specs.declared.Stage.{Stage}
@@ -71,7 +71,7 @@ module _ (x : Query) (t : Float) {v : Intersection} {h : Held} {floats : List (L
   at stage = placeAt x (h .places) (stageOf x (h .places) floats stage) (v .doc)
 
   -- the tables stay
-  stands-at : (d : ℕ) (stage : Stage) → StageKept x floats stage → Stands x (movedTo v d stage) h floats
+  stands-at : (d : ℕ) (stage : Stage) → StageKept x (h .places) floats stage → Stands x (movedTo v d stage) h floats
   stands-at d stage k = record { order = S .order; ready = S .ready; rows = S .rows; len-is = S .len-is; max-is = S .max-is; stage = k }
 
   abbrev Taken : Turned → Type 0
@@ -82,7 +82,7 @@ module _ (x : Query) (t : Float) {v : Intersection} {h : Held} {floats : List (L
   test-is : f32 .above (maxScoreSum f32 (leaderIn x (h .places)) (secondariesIn x (h .places))) t ≡ f32 .above (v .«max_sum») t
   test-is = ap (λ (z : Float). f32 .above z t) (max-is x (h .places) ∙ sym (S .max-is))
 
-  module _ (to : Stage) (k : StageKept x floats to)
+  module _ (to : Stage) (k : StageKept x (h .places) floats to)
       (n : interTurn t (at (v .stage)) .next
       ≡ placeAt x (h .places) (cond (f32 .above (maxScoreSum f32 (leaderIn x (h .places)) (secondariesIn x (h .places))) t) (stageOf x (h .places) floats to) over) (v .doc))
       (u : interTurn t (at (v .stage)) .due ≡ none) where
@@ -92,14 +92,14 @@ module _ (x : Query) (t : Float) {v : Intersection} {h : Held} {floats : List (L
         (λ b. let a = test-is ∙ b in rw b (record { stands = stands-at (v .doc) to k; next-is = n ∙ rw a; due-is = u }))
         (λ b. let a = test-is ∙ b in rw b (record { stands = stands-at (v .doc) Over tt; next-is = n ∙ rw a; due-is = u }))
 
-  pub exits-early : v .stage ≡ Early → {r : Turned} → r ≡ quietly v (v .doc) (cond (f32 .above (v .«max_sum») t) Window Over) → Taken r
-  exits-early e er =
-      subst Taken (sym er) (exits Window tt (ap (λ (s : Stage). interTurn t (at s) .next) e) (ap (λ (s : Stage). interTurn t (at s) .due) e))
+  exits-scored : Scored x (h .places) floats → v .stage ≡ Early → {r : Turned} → r ≡ quietly v (v .doc) (cond (f32 .above (v .«max_sum») t) Window Over) → Taken r
+  exits-scored k e er =
+      subst Taken (sym er) (exits Window k (ap (λ (s : Stage). interTurn t (at s) .next) e) (ap (λ (s : Stage). interTurn t (at s) .due) e))
 
   pub exits-called : (c : Candidates) → v .stage ≡ Called c → {r : Turned} → r ≡ quietly v (v .doc) (cond (f32 .above (v .«max_sum») t) (Within c) Over) → Taken r
   exits-called c e er =
       subst Taken (sym er)
-      (exits (Within c) (subst (StageKept x floats) e (S .stage)) (ap (λ (s : Stage). interTurn t (at s) .next) e) (ap (λ (s : Stage). interTurn t (at s) .due) e))
+      (exits (Within c) (subst (StageKept x (h .places) floats) e (S .stage)) (ap (λ (s : Stage). interTurn t (at s) .next) e) (ap (λ (s : Stage). interTurn t (at s) .due) e))
 
   pub stays-over : v .stage ≡ Over → {r : Turned} → r ≡ quietly v (v .doc) Over → Taken r
   stays-over e er =
@@ -123,21 +123,34 @@ module _ (x : Query) (t : Float) {v : Intersection} {h : Held} {floats : List (L
         let l = le-ltb (v .doc) TERMINATED k in
         subst Taken (sym er) (record { stands = stands-at (v .doc) Over tt; next-is = turns-to (rw l); due-is = no-report })
 
-    module _ {h′ : Held} {bounds : List Float} {a : Answer} (T : Turns x t (v .doc) h a h′ bounds) where
+    -- the row has the scores of the block that the leader had decoded, whatever the bounds are
+    pub scores-before : (bounds : List Float) → let scores = scoresRow (set floats 0 bounds) in BlockScores (listIn x (slotAt x 0)) (cursorAt (h .places) (slotAt x 0) .dec) scores × FloatRow scores
+    scores-before bounds =
+        let e = getD-set-other floats 0 2 bounds [] (λ z. omega arith) in
+        (rw e (subst (StageKept x (h .places) floats) w (S .stage)), rw e (S .rows .row 2 (omega arith)))
+
+    module _ {h′ : Held} {bounds : List Float} {a : Answer} (T : Turns x t (v .doc) h a h′ bounds) {scores : List Float}
+        (K : BlockScores (listIn x (slotAt x 0)) (cursorAt (h′ .places) (slotAt x 0) .dec) scores × FloatRow scores) where
       abbrev By : Answer → Type 0
       By z = Windowed x t (v .doc) h z h′ bounds
 
-      -- the bounds are back in their row
+      -- the bounds are back in their row, and the scores
       abbrev floats₁ : List (List Float)
-      floats₁ = set floats 0 bounds
+      floats₁ = set (set floats 0 bounds) 2 scores
 
       bounds-there : boundsRow floats₁ ≡ bounds
-      bounds-there = getD-set-same floats 0 bounds [] (omega (arith, S .rows .three))
+      bounds-there = getD-set-other (set floats 0 bounds) 2 0 scores [] (λ z. omega arith) ∙ getD-set-same floats 0 bounds [] (omega (arith, S .rows .three))
+
+      scores-there : scoresRow floats₁ ≡ scores
+      scores-there = getD-set-same (set floats 0 bounds) 2 scores [] (omega (arith, length-set floats 0 bounds, S .rows .three))
+
+      scored-there : Scored x (h′ .places) floats₁
+      scored-there = rw scores-there (K .0)
 
       pub rows-there : FloatRows floats₁
-      rows-there = rows-set 0 bounds (S .rows) (omega arith) (T .ready .long)
+      rows-there = rows-set 2 scores (rows-set 0 bounds (S .rows) (omega arith) (T .ready .long)) (omega arith) (K .1)
 
-      stands-there : {floats′ : List (List Float)} → FloatRows floats′ → boundsRow floats′ ≡ bounds → (d : ℕ) (stage : Stage) → StageKept x floats′ stage → Stands x (movedTo v d stage) h′ floats′
+      stands-there : {floats′ : List (List Float)} → FloatRows floats′ → boundsRow floats′ ≡ bounds → (d : ℕ) (stage : Stage) → StageKept x (h′ .places) floats′ stage → Stands x (movedTo v d stage) h′ floats′
       stands-there R e d stage k = record {
         order = S .order;
         ready = subst (Ready x h′) (sym e) (T .ready);
@@ -158,7 +171,7 @@ module _ (x : Query) (t : Float) {v : Intersection} {h : Held} {floats : List (L
       pub window-low : {end : ℕ} → a ≡ Low end → {r : Turned} → r ≡ quietly v (end + 1) Window → TakesTurn x t v h floats r h′ floats₁
       window-low {end} e er =
           subst (λ (z : Turned). TakesTurn x t v h floats z h′ floats₁) (sym er)
-          (record { stands = stands-there rows-there bounds-there (end + 1) Window tt; next-is = turns-to (rw add-one (subst By e (T .turned) .0)); due-is = no-report })
+          (record { stands = stands-there rows-there bounds-there (end + 1) Window scored-there; next-is = turns-to (rw add-one (subst By e (T .turned) .0)); due-is = no-report })
 
       module _ {end : ℕ} {total : Float} (e : a ≡ Opened end total) {floats₂ : List (List Float)} (U : Sums (x .len) (x .order) floats₁ floats₂)
           {next : ℕ} (en : next ≡ countBelow 128 (getD (h′ .docs) (slotAt x 0) []) (v .doc)) where
@@ -167,6 +180,9 @@ module _ (x : Query) (t : Float) {v : Intersection} {h : Held} {floats : List (L
 
         bounds-then : boundsRow floats₂ ≡ bounds
         bounds-then = U .bounds ∙ bounds-there
+
+        scored-then : Scored x (h′ .places) floats₂
+        scored-then = rw (U .scores) scored-there
 
         open-there : Open x floats₂ left
         open-there = record {
@@ -179,7 +195,7 @@ module _ (x : Query) (t : Float) {v : Intersection} {h : Held} {floats : List (L
         window-open er =
             subst (λ (z : Turned). TakesTurn x t v h floats z h′ floats₂) (sym er)
             (record {
-              stands = stands-there (U .rows) bounds-then (v .doc) (Within left) open-there;
+              stands = stands-there (U .rows) bounds-then (v .doc) (Within left) (scored-then, open-there);
               next-is =
                   turns-to
                   (subst By e (T .turned) .0
@@ -192,8 +208,15 @@ module _ (x : Query) (t : Float) {v : Intersection} {h : Held} {floats : List (L
   -- ---- a candidate
 
   module _ (c : Candidates) (w : v .stage ≡ Within c) where
+    kept : Scored x (h .places) floats × Open x floats c
+    kept = subst (StageKept x (h .places) floats) w (S .stage)
+
     pub opened : Open x floats c
-    opened = subst (StageKept x floats) w (S .stage)
+    opened = kept .1
+
+    -- the rows of the leader's block
+    pub leader-rows : BlockRows (listIn x (slotAt x 0)) (cursorAt (h .places) (slotAt x 0) .dec) (getD (h .docs) (slotAt x 0) []) (scoresRow floats)
+    leader-rows = block-rows (x .scoring) (S .ready .seated .slot (slotAt x 0) (S .order .below 0 (S .order .leader))) (kept .0)
 
     abbrev q : ℕ
     q = slotAt x 0
@@ -217,7 +240,7 @@ module _ (x : Query) (t : Float) {v : Intersection} {h : Held} {floats : List (L
           let z : leftIn l b c ≡ [] = subst (FindsBy l b c) e (F .finds) in
           subst Taken (sym er)
           (record {
-            stands = stands-at (c .«window_end» + 1) Window tt;
+            stands = stands-at (c .«window_end» + 1) Window (kept .0);
             next-is = ap (λ (s : Stage). interTurn t (at s) .next) w ∙ ap (λ (cs : List (Report Float)). interTurn t (before cs) .next) z ∙ (rw add-one);
             due-is = ap (λ (s : Stage). interTurn t (at s) .due) w ∙ ap (λ (cs : List (Report Float)). interTurn t (before cs) .due) z;
           })
@@ -253,10 +276,13 @@ module _ (x : Query) (t : Float) {v : Intersection} {h : Held} {floats : List (L
               ∙ ap (λ (row : List ℕ). record { stage = f (leftIn l (cursorIn row .dec) rest); doc = v .doc; leader = record { ord = q; list = l; cur = cursorIn row }; secs = secondariesIn x (h′ .places) })
               (sym (T .leader .place))
 
-          still-open : Open x floats rest
-          still-open = record { inside = found .1; small = opened .small; rests = opened .rests }
+          still-open : Scored x (h′ .places) floats × Open x floats rest
+          still-open = (
+            subst (λ (row : List ℕ). BlockScores l (cursorIn row .dec) (scoresRow floats)) (sym (T .leader .place)) (kept .0),
+            record { inside = found .1; small = opened .small; rests = opened .rests },
+          )
 
-          stands-then : (stage : Stage) → StageKept x floats stage → Stands x (movedTo v (v .doc) stage) h′ floats
+          stands-then : (stage : Stage) → StageKept x (h′ .places) floats stage → Stands x (movedTo v (v .doc) stage) h′ floats
           stands-then stage o = record {
             order = S .order;
             ready = record { seated = T .seated; kept = T .bounds (boundsRow floats) (S .ready .kept); long = S .ready .long };
@@ -283,3 +309,28 @@ module _ (x : Query) (t : Float) {v : Intersection} {h : Held} {floats : List (L
 
         pub tried : {h′ : Held} (k : Candidate) → Tries x (p .doc) (p .score) t (restsRow floats) h h′ k → {r : Turned} → r ≡ behindCandidate v rest p k → TakesTurn x t v h floats r h′ floats
         tried {h′} k T er = subst (λ (z : Turned). TakesTurn x t v h floats z h′ floats) (sym er) (candidate-turn k T)
+
+-- the early exit, once the leader's block is scored
+module _ (x : Query) (t : Float) {v : Intersection} {h : Held} {floats : List (List Float)} (S : Stands x v h floats) (e : v .stage ≡ Early) {scores : List Float}
+    (K : BlockScores (listIn x (slotAt x 0)) (cursorAt (h .places) (slotAt x 0) .dec) scores × FloatRow scores) where
+  abbrev scored : List (List Float)
+  scored = set floats 2 scores
+
+  still-stands : Stands x v h scored
+  still-stands = record {
+    order = S .order;
+    ready = rw (getD-set-other floats 2 0 scores [] (λ z. omega arith)) (S .ready);
+    rows = rows-set 2 scores (S .rows) (omega arith) (K .1);
+    len-is = S .len-is;
+    max-is = S .max-is;
+    stage = subst (StageKept x (h .places) scored) (sym e) tt;
+  }
+
+  -- before it no row is looked at
+  same-turn : interTurn t (placeAt x (h .places) (stageOf x (h .places) floats (v .stage)) (v .doc)) ≡ interTurn t (placeAt x (h .places) (stageOf x (h .places) scored (v .stage)) (v .doc))
+  same-turn = rw e
+
+  pub exits-early : {r : Turned} → r ≡ quietly v (v .doc) (cond (f32 .above (v .«max_sum») t) Window Over) → TakesTurn x t v h floats r h scored
+  exits-early er =
+      let T = exits-scored x t still-stands (rw (getD-set-same floats 2 scores [] (omega (arith, S .rows .three))) (K .0)) e er in
+      record { stands = T .stands; next-is = ap (λ (u : Turn (InterPlace Float) Float). u .next) same-turn ∙ T .next-is; due-is = ap (λ (u : Turn (InterPlace Float) Float). u .due) same-turn ∙ T .due-is }

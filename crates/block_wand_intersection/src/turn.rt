@@ -12,20 +12,26 @@ use intersection_window::window::Window;
 use intersection_window::window::next_window;
 use intersection_window::window::sum_rests;
 use notefile::block::TERMINATED;
+use slot_rows::place::DECODED;
 use term_scorer::BOUNDS;
 use term_scorer::Floats;
 use term_scorer::RESTS;
+use term_scorer::SCORES;
 use term_scorer::score::Similarity;
+use term_scorer::score::score_block;
 ghost use mathlib.Core.Bool.{cond};
 ghost use mathlib.Core.Path.{_≡_};
+ghost use Prim.Native.Nat.{_<_};
 ghost use Rattle.arrays.specs.Lent.{before, after};
 ghost use Rattle.route.specs.F32.{f32};
-ghost use Rattle.term_scorer.specs.Inner.Slots.{held};
+ghost use Rattle.notefile.specs.Header.{normReader};
+ghost use Rattle.term_scorer.specs.Inner.Slots.{cursorAt, held, listAt, SlotIn};
+ghost use Rattle.term_scorer.specs.Inner.Weights.{BlockScores, FloatRow, Weighed};
 ghost use Rattle.intersection_window.specs.Inner.Candidates.{behind};
 ghost use Rattle.intersection_window.specs.Inner.Scorers.{query};
 ghost use Rattle.block_wand_intersection.specs.Inner.Stands.{overIn, AtCandidates, AtWindow, Stands};
 ghost use Rattle.block_wand_intersection.specs.Inner.Turns.{behindCandidate, quietly, TakesTurn};
-ghost use Rattle.block_wand_intersection.specs.declared.Stage.the-variants.{Over};
+ghost use Rattle.block_wand_intersection.specs.declared.Stage.the-variants.{Early, Over};
 
 // A report is due, its document and its score; or none.
 pub enum Due {
@@ -110,6 +116,78 @@ fn after_candidate(
     }
 }
 
+// The early exit. The leader's first block is decoded, and is scored before the first window.
+fn early_turn(
+    file: &[u8],
+    similarity: Similarity,
+    v: Intersection,
+    lists: &[[usize; 8]; 16],
+    caches: &[[f32; 256]; 16],
+    threshold: f32,
+    order: &[usize; 16],
+    places: &[[usize; 8]; 16],
+    docs: &[[u32; 128]; 16],
+    freqs: &[[u32; 128]; 16],
+    floats: &mut Floats,
+) -> Turned
+    requires { let asked = query similarity (now file) (now lists) (now caches) (v .len) (now order) in
+        ⌜ Stands asked v (held (now places) (now docs) (now freqs)) (now floats) × (v .stage ≡ Early) ⌝ }
+    ensures { λ r.
+        let asked = query similarity (before file) (before lists) (before caches) (v .len) (before order) in
+        let slots = held (before places) (before docs) (before freqs) in
+        ⌜ TakesTurn asked threshold v slots (before floats) r slots (after floats) ⌝ }
+{
+    let leader = order[0];
+    score_block(
+        file,
+        similarity,
+        lists,
+        caches,
+        leader,
+        places,
+        docs,
+        freqs,
+        &mut floats[SCORES],
+    );
+    exit(v, threshold, Stage::Window)
+}
+
+// The scores of the leader's block, where the row has those of block `scored`: made again if another was decoded since.
+fn keep_scores(
+    file: &[u8],
+    similarity: Similarity,
+    lists: &[[usize; 8]; 16],
+    caches: &[[f32; 256]; 16],
+    leader: usize,
+    scored: usize,
+    places: &[[usize; 8]; 16],
+    docs: &[[u32; 128]; 16],
+    freqs: &[[u32; 128]; 16],
+    scores: &mut [f32; 128],
+)
+    requires { let slots = held (now places) (now docs) (now freqs) in
+        let list = listAt (similarity .scoring) (now file) (now lists) leader in
+        ⌜ (leader < 16) × (similarity .norms ≡ normReader (now file)) × SlotIn (now file) (now lists) slots leader
+        × Weighed (now lists) (now caches) leader × BlockScores list scored (now scores) × FloatRow (now scores) ⌝ }
+    ensures { λ _.
+        let list = listAt (similarity .scoring) (before file) (before lists) leader in
+        ⌜ BlockScores list (cursorAt (before places) leader .dec) (after scores) × FloatRow (after scores) ⌝ }
+{
+    if places[leader][DECODED] != scored {
+        score_block(
+            file,
+            similarity,
+            lists,
+            caches,
+            leader,
+            places,
+            docs,
+            freqs,
+            scores,
+        );
+    }
+}
+
 // A window: over behind the last document or where a list has run out, too low, or open.
 fn window_turn(
     file: &[u8],
@@ -137,6 +215,8 @@ fn window_turn(
     if doc >= TERMINATED {
         return quiet(v, doc, Stage::Over);
     }
+    let leader = order[0];
+    let scored = places[leader][DECODED];
     let window = next_window(
         file,
         similarity,
@@ -151,12 +231,23 @@ fn window_turn(
         freqs,
         &mut floats[BOUNDS],
     );
+    keep_scores(
+        file,
+        similarity,
+        lists,
+        caches,
+        leader,
+        scored,
+        places,
+        docs,
+        freqs,
+        &mut floats[SCORES],
+    );
     match window {
         Window::Over => quiet(v, doc, Stage::Over),
         Window::Low(window_end) => quiet(v, window_end + 1, Stage::Window),
         Window::Open(window_end, block_max_sum) => {
             sum_rests(len, order, floats);
-            let leader = order[0];
             let next = search_block(&docs[leader], doc);
             let left = Candidates {
                 next,
@@ -192,17 +283,7 @@ fn within_turn(
         ⌜ TakesTurn asked threshold v old (before floats) r new (before floats) ⌝ }
 {
     let leader = order[0];
-    let found = next_candidate(
-        file,
-        similarity,
-        lists,
-        caches,
-        leader,
-        left,
-        places,
-        docs,
-        freqs,
-    );
+    let found = next_candidate(left, &docs[leader], &floats[SCORES]);
     match found {
         Next::Nowhere => quiet(v, left.window_end + 1, Stage::Window),
         Next::At(next, candidate) => {
@@ -249,7 +330,19 @@ pub fn turn(
 {
     let stage = v.stage;
     match stage {
-        Stage::Early => exit(v, threshold, Stage::Window),
+        Stage::Early => early_turn(
+            file,
+            similarity,
+            v,
+            lists,
+            caches,
+            threshold,
+            order,
+            places,
+            docs,
+            freqs,
+            floats,
+        ),
         Stage::Window => window_turn(
             file,
             similarity,

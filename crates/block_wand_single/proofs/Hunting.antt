@@ -19,27 +19,17 @@ use Rattle.route.proofs.Places.{last-cap}
 use Rattle.route.proofs.Single.Ends.{single-nears}
 use Rattle.bm25.specs.declared.Scoring.{Scoring}
 use Rattle.notefile.specs.Header.{documents}
-use Rattle.notefile.specs.declared.part.Part.{Part}
-use Rattle.decoded.specs.Lists.{listOf}
 use Rattle.skip_reader.specs.Inner.Decoded.{doc-is, docIn}
-use Rattle.postings.proofs.BlockBounds.{score-at}
-use Rattle.slot_rows.specs.Inner.Rows.{cursorIn, postingsIn, PlaceIn}
 use Rattle.slot_rows.proofs.Rows.{cur-inside, doc-in-array}
-use Rattle.term_scorer.specs.Inner.Slots.{Held, cursorAt, held, listAt, partAt, MovedSlot}
-use Rattle.term_scorer.specs.Inner.Weights.{Bounded}
+use Rattle.term_scorer.specs.Inner.Slots.{Held, cursorAt, held, listAt, partAt, MovedSlot, SlotIn}
+use Rattle.term_scorer.specs.Inner.Weights.{BlockScores, Bounded, FloatRow}
 use Rattle.term_scorer.specs.declared.score.Similarity.{Similarity}
 use Rattle.block_wand_single.specs.Inner.Places.{onWalk, phaseOf, placeOf, singleRoute, skipped, MovedTo, Skips}
-use Rattle.block_wand_single.specs.Inner.Stands.{BlockScores, Entered, Hunted, Ready, Scores, Stands}
+use Rattle.block_wand_single.specs.Inner.Stands.{Entered, Hunted, Ready, Stands}
 use Rattle.block_wand_single.specs.declared.Phase.{Phase}
 use Rattle.block_wand_single.specs.declared.Phase.the-variants.{Hunt, Over, Walk}
 use Rattle.block_wand_single.specs.declared.Single.{Single}
 use Rattle.block_wand_single.proofs.Scorers.{bounded-cursor, moved-to, ready-bounded, ready-moved, ready-scored, right, standing-in}
-
--- the scores of decoded documents and frequencies are the route's
-block-scores : {file : List ℕ} {x : Part} (scoring : Scoring) {row docs freqs values : List _} → PlaceIn file x row docs freqs → Scores file x scoring docs freqs values
-    → BlockScores (listOf scoring file x) (cursorIn row .dec) values
-unfolding listOf cursorIn postingsIn
-block-scores scoring P S = record { at = λ i h l. S .at i h ∙ score-at scoring (P .placed .holds) i h l }
 
 module _ {file : List ℕ} {similarity : Similarity} {lists : List (List ℕ)} {caches : List (List Float)} where
   -- ---- the way into a block
@@ -62,16 +52,24 @@ module _ {file : List ℕ} {similarity : Similarity} {lists : List (List ℕ)} {
       abbrev To : Scoring → Cursor
       To s = seekIn (listAt s file lists q) 128 (x .doc) (cursorAt (h .places) q)
 
+      -- where it has come to
+      pub slot-then : SlotIn file lists h′ q
+      slot-then =
+          let s = R .slot .sixteen in
+          record {
+            sixteen = (ap length (M .places-only) ∙ length-set (h .places) q _ ∙ s .0, ap length (M .docs-only) ∙ length-set (h .docs) q _ ∙ s .1, ap length (M .freqs-only) ∙ length-set (h .freqs) q _ ∙ s .2);
+            part-row = R .slot .part-row;
+            list = R .slot .list;
+            place = M .moved .place;
+          }
+
       doc-lands : (s : Scoring) → doc ≡ docHere (listAt s file lists q) (To s)
       doc-lands s = M .moved .doc-is ∙ ap (λ (z : Cursor). docIn file (partAt lists q) (z .at)) (M .moved .cursor-is s) ∙ sym (doc-is file (partAt lists q) s (To s .at))
 
       lands : (phase : Phase) → phaseOf phase ≡ cond (eqb doc TERMINATED) route.over route.walk
           → MovedTo file lists q (λ s. route.landed 128 f32 (listAt s file lists q) (To s)) h h′ (record { slot = q; doc = doc; phase = phase })
       lands phase e =
-          let s = R .slot .sixteen in
-          moved-to (R .slot)
-          (ap length (M .places-only) ∙ length-set (h .places) q _ ∙ s .0, ap length (M .docs-only) ∙ length-set (h .docs) q _ ∙ s .1, ap length (M .freqs-only) ∙ length-set (h .freqs) q _ ∙ s .2)
-          (M .moved) phase doc
+          moved-to (R .slot) (slot-then .sixteen) (M .moved) phase doc
           (λ s.
           ap (λ (z : route.Phase). record { phase = z; cur = To s; doc = doc }) e
           ∙ ap (λ (z : ℕ). record { phase = cond (eqb z TERMINATED) route.over route.walk; cur = To s; doc = z }) (doc-lands s))
@@ -82,7 +80,7 @@ module _ {file : List ℕ} {similarity : Similarity} {lists : List (List ℕ)} {
           record { slot-is = refl; place-is = L .place-is (similarity .scoring); ready = ready-moved R L; scores = λ w. absurd (false≢true w) }
 
       pub entered : (doc ≡ 2147483647 → ⊥) → (values : List Float)
-          → Scores file (partAt lists q) (similarity .scoring) (getD (h′ .docs) q []) (getD (h′ .freqs) q []) values
+          → BlockScores (listAt (similarity .scoring) file lists q) (cursorAt (h′ .places) q .dec) values × FloatRow values
           → Entered file similarity lists caches x h (record { slot = q; doc = doc; phase = Walk }) h′ (set floats 2 values)
       entered e values S =
           let L = lands Walk (sym (rw (ne-eqb doc TERMINATED e))) in
@@ -90,8 +88,8 @@ module _ {file : List ℕ} {similarity : Similarity} {lists : List (List ℕ)} {
           record {
             slot-is = refl;
             place-is = L .place-is (similarity .scoring);
-            ready = ready-scored (ready-moved R L) values (S .long);
-            scores = λ _. rw (getD-set-same floats 2 values [] (omega arith)) (block-scores (similarity .scoring) (M .moved .place) S);
+            ready = ready-scored (ready-moved R L) values (S .1);
+            scores = λ _. rw (getD-set-same floats 2 values [] (omega arith)) (S .0);
           }
 
   -- ---- a scan that stands

@@ -2,44 +2,20 @@
 use crate::Phase;
 use crate::Single;
 use notefile::block::TERMINATED;
-use slot_rows::place::weight_of;
 use term_scorer::BOUNDS;
 use term_scorer::Floats;
 use term_scorer::SCORES;
 use term_scorer::score::Similarity;
 use term_scorer::score::block_max;
+use term_scorer::score::score_block;
 use term_scorer::slot;
 ghost use mathlib.Core.Path.{_≡_};
 ghost use Prim.Native.Nat.{_≤_, _<_};
 ghost use Rattle.arrays.specs.Lent.{before, after};
-ghost use Rattle.notefile.specs.Header.{normReader};
-ghost use Rattle.skip_reader.specs.Inner.Decoded.{ListIn};
-ghost use Rattle.slot_rows.specs.Inner.Rows.{partIn, PartRow};
 ghost use Rattle.term_scorer.specs.Inner.Slots.{held, StandingIn};
-ghost use Rattle.term_scorer.specs.Inner.Weights.{NormsIn};
 ghost use Rattle.block_wand_single.specs.Inner.Places.{Skips};
-ghost use Rattle.block_wand_single.specs.Inner.Stands.{Ready, Scores, Stands, Entered, Hunted};
+ghost use Rattle.block_wand_single.specs.Inner.Stands.{Ready, Stands, Entered, Hunted};
 ghost use Rattle.block_wand_single.specs.declared.Phase.the-variants.{Hunt};
-
-// The scores of a decoded block, made at once for the walk.
-fn score_postings(
-    file: &[u8],
-    similarity: Similarity,
-    list: &[usize; 8],
-    cache: &[f32; 256],
-    docs: &[u32; 128],
-    freqs: &[u32; 128],
-    values: &mut [f32; 128],
-)
-    requires { ⌜ (similarity .norms ≡ normReader (now file)) × PartRow (now list) × ListIn (now file) (partIn (now list))
-        × NormsIn (partIn (now list)) (now cache) ⌝ }
-    ensures { λ _. ⌜ Scores (before file) (partIn (before list)) (similarity .scoring) (before docs) (before freqs) (after values) ⌝ }
-{
-    let norms = similarity.norms;
-    let scoring = similarity.scoring;
-    let weight = weight_of(list);
-    bm25_block::score_block(file, norms, cache, weight, scoring, docs, freqs, values);
-}
 
 // To the first posting of a block from `doc` on, with the scores of its block. Over where there is none.
 fn enter(
@@ -70,13 +46,15 @@ fn enter(
             phase: Phase::Over,
         };
     }
-    score_postings(
+    score_block(
         file,
         similarity,
-        &lists[q],
-        &caches[q],
-        &docs[q],
-        &freqs[q],
+        lists,
+        caches,
+        q,
+        places,
+        docs,
+        freqs,
         &mut floats[SCORES],
     );
     Single {

@@ -4,10 +4,8 @@ mod limits;
 pub use limits::average_ok;
 pub use limits::weight_ok;
 ghost use mathlib.Core.Path.{_≡_};
-ghost use lib.ListN.{getD};
-ghost use lib.Ieee.{nan};
-ghost use Rattle.arrays.specs.Lent.{before};
-ghost use Rattle.bm25.specs.Score.{normOf, scoreAt};
+ghost use lib.Ieee.{binary32, add, mul, div};
+ghost use Rattle.bm25.specs.Score.{normOf};
 ghost use Rattle.bm25.specs.Scoring.{scored};
 ghost use Rattle.bm25.specs.Bound.{maxTf};
 ghost use Rattle.bm25.specs.Inner.Weight.{NormsOf, WeightOf, scoreIn};
@@ -19,9 +17,9 @@ const K1: f32 = 1.2;
 const B: f32 = 0.75;
 
 // The highest norm code and the highest frequency: the list bound's pair.
-pub const MAX_FIELDNORM_ID: u8 = 255;
+const MAX_FIELDNORM_ID: u8 = 255;
 
-pub const MAX_TERM_FREQ: u32 = 2013265944;
+const MAX_TERM_FREQ: u32 = 2013265944;
 
 // Whether scores and bounds are cut down to multiples of 1/1024.
 pub enum Scoring {
@@ -57,11 +55,10 @@ fn compute_tf_cache(average: f32) -> [f32; 256]
     cache
 }
 
-// The score of a frequency at a norm.
-fn score_at(weight: f32, norm: f32, term_freq: u32) -> f32
-    ensures { λ r. ⌜ r ≡ scoreAt weight norm «term_freq» ⌝ }
+// The score of a frequency, made f32, at a norm.
+pub fn score_at(weight: f32, norm: f32, tf: f32) -> f32
+    ensures { λ r. ⌜ r ≡ mul binary32 weight (div binary32 tf (add binary32 tf norm)) ⌝ }
 {
-    let tf = floats::u32_to_f32(term_freq);
     weight * (tf / (tf + norm))
 }
 
@@ -76,28 +73,13 @@ fn in_scoring(scoring: Scoring, score: f32) -> f32
 }
 
 // The frequency that a skip entry's maximum-frequency code stands for.
-pub fn decode_block_wand_max_tf(max_tf_code: u8) -> u32
+fn decode_block_wand_max_tf(max_tf_code: u8) -> u32
     ensures { λ r. ⌜ r ≡ maxTf «max_tf_code» ⌝ }
 {
     if max_tf_code == 255 {
         return 4294967295;
     }
     max_tf_code as u32
-}
-
-// One document's score from a list's norms in a lent array: `score` without a copy of its struct, for places that score one posting at a
-// time.
-pub fn score_by(
-    cache: &[f32; 256],
-    weight: f32,
-    scoring: Scoring,
-    fieldnorm_id: u8,
-    term_freq: u32,
-) -> f32
-    ensures { λ r. ⌜ r ≡ scored scoring (scoreAt weight (getD (before cache) «fieldnorm_id» nan) «term_freq») ⌝ }
-{
-    let i = fieldnorm_id as usize;
-    in_scoring(scoring, score_at(weight, cache[i], term_freq))
 }
 
 impl Bm25Weight {
@@ -118,7 +100,8 @@ impl Bm25Weight {
         ensures { λ r. ⌜ r ≡ scored scoring (scoreIn self «fieldnorm_id» «term_freq») ⌝ }
     {
         let i = fieldnorm_id as usize;
-        in_scoring(scoring, score_at(self.weight, self.cache[i], term_freq))
+        let tf = floats::u32_to_f32(term_freq);
+        in_scoring(scoring, score_at(self.weight, self.cache[i], tf))
     }
 
     // The list bound.

@@ -1,4 +1,5 @@
-// The scores of a block's postings: weight and norms are lent, each posting's norm is read first, and the float work is a loop of its own.
+// The scores of a block's postings: each posting's norm is read first, and the float work is a loop of its own.
+use bm25::Bm25Weight;
 use bm25::Scoring;
 use fieldnorm::FieldNormReader;
 ghost use mathlib.Core.Path.{_≡_};
@@ -6,7 +7,7 @@ ghost use mathlib.Core.Bool.{true};
 ghost use Prim.Native.Nat.{_<_, _≤_};
 ghost use Rattle.arrays.specs.Lent.{before, after};
 ghost use Rattle.floats.specs.Whole.{wholeF32};
-ghost use Rattle.bm25_block.specs.Inner.Block.{Gathered, Whole, Weighed, CutDown, Scored, allExact};
+ghost use Rattle.bm25_block.specs.Inner.Block.{Gathered, Weighed, CutDown, Scored, allExact};
 
 // A code as a place in the cache.
 fn place(id: u8) -> usize
@@ -57,52 +58,41 @@ fn exact(n: u32) -> f32
     (n % 33554432) as f32
 }
 
-// Frequencies as f32, where f32 holds each of them.
-fn exact_tfs(term_freqs: &[u32; 128], tfs: &mut [f32; 128])
+// Scores in place of norms, where f32 holds each frequency.
+fn weigh_exact(weight: f32, term_freqs: &[u32; 128], scores: &mut [f32; 128])
     requires { ⌜ allExact (now «term_freqs») ≡ true ⌝ }
-    ensures { λ _. ⌜ Whole (before «term_freqs») (after tfs) ⌝ }
-{
-    let n = (&tfs[..]).len();
-    let mut i = 0usize;
-    while i < n {
-        tfs[i] = exact(term_freqs[i]);
-        i += 1;
-    }
-}
-
-// Frequencies as f32, each rounded to the nearest.
-fn rounded_tfs(term_freqs: &[u32; 128], tfs: &mut [f32; 128])
-    ensures { λ _. ⌜ Whole (before «term_freqs») (after tfs) ⌝ }
-{
-    let n = (&tfs[..]).len();
-    let mut i = 0usize;
-    while i < n {
-        tfs[i] = floats::u32_to_f32(term_freqs[i]);
-        i += 1;
-    }
-}
-
-// Frequencies as f32: nearly every block has none above 2^24, and then the loop has no branch.
-fn to_tfs(term_freqs: &[u32; 128], tfs: &mut [f32; 128])
-    ensures { λ _. ⌜ Whole (before «term_freqs») (after tfs) ⌝ }
-{
-    if all_exact(term_freqs) {
-        exact_tfs(term_freqs, tfs);
-    } else {
-        rounded_tfs(term_freqs, tfs);
-    }
-}
-
-// Scores in place of frequencies.
-fn weigh(weight: f32, norms: &[f32; 128], scores: &mut [f32; 128])
-    ensures { λ _. ⌜ Weighed weight (before norms) (before scores) (after scores) ⌝ }
+    ensures { λ _. ⌜ Weighed weight (before «term_freqs») (before scores) (after scores) ⌝ }
 {
     let n = (&scores[..]).len();
     let mut i = 0usize;
     while i < n {
-        let tf = scores[i];
-        scores[i] = weight * (tf / (tf + norms[i]));
+        let tf = exact(term_freqs[i]);
+        scores[i] = bm25::score_at(weight, scores[i], tf);
         i += 1;
+    }
+}
+
+// Scores in place of norms, each frequency rounded to the nearest f32.
+fn weigh_rounded(weight: f32, term_freqs: &[u32; 128], scores: &mut [f32; 128])
+    ensures { λ _. ⌜ Weighed weight (before «term_freqs») (before scores) (after scores) ⌝ }
+{
+    let n = (&scores[..]).len();
+    let mut i = 0usize;
+    while i < n {
+        let tf = floats::u32_to_f32(term_freqs[i]);
+        scores[i] = bm25::score_at(weight, scores[i], tf);
+        i += 1;
+    }
+}
+
+// Scores in place of norms: nearly every block has no frequency above 2^24, and then the loop has no branch.
+fn weigh(weight: f32, term_freqs: &[u32; 128], scores: &mut [f32; 128])
+    ensures { λ _. ⌜ Weighed weight (before «term_freqs») (before scores) (after scores) ⌝ }
+{
+    if all_exact(term_freqs) {
+        weigh_exact(weight, term_freqs, scores);
+    } else {
+        weigh_rounded(weight, term_freqs, scores);
     }
 }
 
@@ -118,24 +108,20 @@ fn step_all(scores: &mut [f32; 128])
     }
 }
 
-// The scores of 128 postings, by their documents and frequencies. The norms are lent: a list's struct is 1 KB, and a copy of it costs as
-// much as several scores.
+// The scores of 128 postings, by their documents and frequencies.
 pub fn score_block(
     file: &[u8],
     reader: FieldNormReader,
-    cache: &[f32; 256],
-    weight: f32,
+    w: Bm25Weight,
     scoring: Scoring,
     docs: &[u32; 128],
     term_freqs: &[u32; 128],
     scores: &mut [f32; 128],
 )
-    ensures { λ _. ⌜ Scored reader (before file) (before cache) weight scoring (before docs) (before «term_freqs») (after scores) ⌝ }
+    ensures { λ _. ⌜ Scored reader (before file) w scoring (before docs) (before «term_freqs») (after scores) ⌝ }
 {
-    let mut norms = [0.0f32; 128];
-    read_norms(file, reader, cache, docs, &mut norms);
-    to_tfs(term_freqs, scores);
-    weigh(weight, &norms, scores);
+    read_norms(file, reader, &w.cache, docs, scores);
+    weigh(w.weight, term_freqs, scores);
     if let Scoring::Stepped = scoring {
         step_all(scores);
     }

@@ -7,7 +7,7 @@ use Prim.Native.Nat.{min, suc, ℕ, _+_, _-_, _<_, _≤_}
 use native.Mathlib.Omega.{arith}
 use lib.Dec.{ltb}
 use lib.ListN.{getD}
-use lib.Ieee.{Float}
+use lib.Ieee.{Float, nan}
 use borrow.Author.Tests.{le-ltb, lt-ltb, ltb-false, ltb-true}
 use Rattle.arrays.proofs.Order.{lt-or-ge}
 use Rattle.block_search.specs.Search.{countBelow}
@@ -18,18 +18,18 @@ use Rattle.route.specs.Report.{Report}
 use Rattle.route.specs.Postings.{Postings, docAt, start}
 use Rattle.route.specs.Cursor.{findIn}
 use Rattle.route.specs.Intersection.{candidatesFrom, candidatesIn}
-use Rattle.route.specs.Inner.Lists.{ListOk}
 use Rattle.route.proofs.Places.{docAt-in, docAt-out}
 use Rattle.bm25.specs.declared.Scoring.{Scoring}
 use Rattle.notefile.specs.Header.{documents}
 use Rattle.notefile.specs.declared.part.Part.{Part}
 use Rattle.decoded.proofs.AcceptedLists.{list-ok}
-use Rattle.skip_reader.specs.Inner.Decoded.{Decoded, doc-is, docIn}
+use Rattle.skip_reader.specs.Inner.Decoded.{Decoded, doc-is}
 use Rattle.skip_reader.proofs.Blocks.{decoded-sorted}
 use Rattle.postings.proofs.Moves.{find-is}
 use Rattle.slot_rows.specs.Inner.Rows.{cursorIn, postingsIn}
 use Rattle.term_scorer.specs.Inner.Slots.{Held, SlotIn, cursorAt, listAt, partAt}
-use Rattle.intersection_window.specs.Inner.Candidates.{Finds, candidatesLeft, leftIn}
+use Rattle.term_scorer.specs.Inner.Weights.{BlockScores}
+use Rattle.intersection_window.specs.Inner.Candidates.{BlockRows, Finds, candidatesLeft, leftIn}
 use Rattle.intersection_window.specs.declared.leader.Candidates.{Candidates}
 use Rattle.intersection_window.specs.declared.leader.Next.the-variants.{At, Nowhere}
 
@@ -51,9 +51,6 @@ module _ (scoring : Scoring) {file : List ℕ} {lists : List (List ℕ)} {h : He
   unfolding postingsIn cursorIn
   decoded = S .place .placed .holds
 
-  ok : ListOk 128 (documents file) l
-  ok = list-ok scoring file part (S .list .right) (S .list .few)
-
   -- how many documents of the block are below d
   found : (d : ℕ) → findIn l d 128 (start 128 b) ≡ start 128 b + countBelow 128 docs d
   found d = find-is (S .list) decoded d scoring
@@ -69,6 +66,19 @@ module _ (scoring : Scoring) {file : List ℕ} {lists : List (List ℕ)} {h : He
   first-candidates ts d e ef =
       ap (λ (p : ℕ). candidatesFrom f32 l ts (min (findIn l (suc e) 128 (start 128 b)) (l .len) - p) p) (found d ∙ rw ef)
 
+  -- its two rows
+  pub block-rows : {scores : List Float} → BlockScores l b scores → BlockRows l b docs scores
+  block-rows B = record {
+    limit = documents file;
+    ok = list-ok scoring file part (S .list .right) (S .list .few);
+    sorted = block-sorted;
+    docs-are = λ i h. decoded .docs-are .at i h ∙ sym (doc-is file part scoring (start 128 b + i));
+    below-is = found;
+    scores-are = B;
+  }
+
+-- a block of a list, by its rows
+module _ {l : Postings Float} {b : ℕ} {docs : List ℕ} {scores : List Float} (R : BlockRows l b docs scores) where
   module _ (e : ℕ) where
     -- behind the last candidate of a window up to e
     abbrev end : ℕ
@@ -82,32 +92,29 @@ module _ (scoring : Scoring) {file : List ℕ} {lists : List (List ℕ)} {h : He
       nothing-left k = let z : end - (start 128 b + i) ≡ 0 = omega arith in ap (λ (m : ℕ). candidatesFrom f32 l ts m (start 128 b + i)) z
 
       pub block-ends : 128 ≤ i → candidatesLeft l b ts e i ≡ []
-      block-ends k = nothing-left (omega (arith, found (suc e), few-below (suc e)))
+      block-ends k = nothing-left (omega (arith, R .below-is (suc e), at-most docs (R .sorted) (suc e)))
 
       module _ (hi : i < 128) {doc : ℕ} (ed : doc ≡ getD docs i 0) where
         abbrev p : ℕ
         p = start 128 b + i
 
-        pub doc-there : doc ≡ docIn file part p
-        doc-there = ed ∙ decoded .docs-are .at i hi
-
         doc-at : doc ≡ docAt l p
-        doc-at = doc-there ∙ sym (doc-is file part scoring p)
+        doc-at = ed ∙ R .docs-are i hi
 
         test-is : ltb doc (suc e) ≡ ltb i below
-        test-is = ap (λ (z : ℕ). ltb z (suc e)) ed ∙ place-test docs block-sorted (suc e) i hi
+        test-is = ap (λ (z : ℕ). ltb z (suc e)) ed ∙ place-test docs (R .sorted) (suc e) i hi
 
         pub window-ends : e < doc → candidatesLeft l b ts e i ≡ []
         window-ends k =
             let z = ltb-false i below (sym test-is ∙ le-ltb doc (suc e) k) in
-            nothing-left (omega (arith, found (suc e)))
+            nothing-left (omega (arith, R .below-is (suc e)))
 
         in-list : p < l .len → l .doc p < 2147483647
-        in-list k = omega (arith, ok .below p k, ok .few)
+        in-list k = omega (arith, R .ok .below p k, R .ok .few)
 
         pub list-ends : doc ≡ 2147483647 → candidatesLeft l b ts e i ≡ []
         list-ends k = elim (lt-or-ge p (l .len)) [
-          | inl u ↦ absurd (omega (arith, in-list u, doc-at, docAt-in 128 (documents file) l ok p u))
+          | inl u ↦ absurd (omega (arith, in-list u, doc-at, docAt-in 128 (R .limit) l (R .ok) p u))
           | inr u ↦ nothing-left (omega arith)
         ]
 
@@ -115,17 +122,17 @@ module _ (scoring : Scoring) {file : List ℕ} {lists : List (List ℕ)} {h : He
           inside : p < l .len
           inside = elim (lt-or-ge p (l .len)) [
             | inl u ↦ u
-            | inr u ↦ absurd (n (doc-at ∙ docAt-out 128 (documents file) l ok p u))
+            | inr u ↦ absurd (n (doc-at ∙ docAt-out 128 (R .limit) l (R .ok) p u))
           ]
 
           doc-of : l .doc p ≡ doc
-          doc-of = sym (doc-at ∙ docAt-in 128 (documents file) l ok p inside)
+          doc-of = sym (doc-at ∙ docAt-in 128 (R .limit) l (R .ok) p inside)
 
-          pub doc-small : doc < 2147483647
+          doc-small : doc < 2147483647
           doc-small = omega (arith, in-list inside, doc-of)
 
           before-end : p < end
-          before-end = let z = ltb-true i below (sym test-is ∙ lt-ltb doc (suc e) (omega arith)) in omega (arith, found (suc e), inside)
+          before-end = let z = ltb-true i below (sym test-is ∙ lt-ltb doc (suc e) (omega arith)) in omega (arith, R .below-is (suc e), inside)
 
           opens : candidatesLeft l b ts e i ≡ candidatesFrom f32 l ts (suc (end - (start 128 b + (i + 1)))) p
           opens = let z : end - p ≡ suc (end - (start 128 b + (i + 1))) = omega (arith, before-end) in ap (λ (m : ℕ). candidatesFrom f32 l ts m p) z
@@ -133,7 +140,10 @@ module _ (scoring : Scoring) {file : List ℕ} {lists : List (List ℕ)} {h : He
           rest-is : candidatesFrom f32 l ts (end - (start 128 b + (i + 1))) (suc p) ≡ candidatesLeft l b ts e (i + 1)
           rest-is = let z : suc p ≡ start 128 b + (i + 1) = omega arith in ap (candidatesFrom f32 l ts (end - (start 128 b + (i + 1)))) z
 
-          module _ {score : Float} (es : score ≡ l .score p) where
+          module _ {score : Float} (there : score ≡ getD scores i nan) where
+            es : score ≡ l .score p
+            es = there ∙ R .scores-are .at i hi inside
+
             leaves-out : f32 .above score ts ≡ false → candidatesLeft l b ts e i ≡ candidatesLeft l b ts e (i + 1)
             leaves-out a = let a′ : f32 .above (l .score p) ts ≡ false = ap (λ (z : Float). f32 .above z ts) (sym es) ∙ a in opens ∙ (rw a′ rest-is)
 
@@ -157,14 +167,12 @@ module _ (l : Postings Float) (b : ℕ) (c : Candidates) where
   pub ends : {i : ℕ} → Finding i → candidatesLeft l b (c .«score_threshold») (c .«window_end») i ≡ [] → Finds l b c Nowhere
   ends F z = record { finds = F .same ∙ z }
 
-module _ (scoring : Scoring) {file : List ℕ} {lists : List (List ℕ)} {h : Held} {q : ℕ} (S : SlotIn file lists h q) (c : Candidates) {i : ℕ}
-    (F : Finding (listAt scoring file lists q) (cursorAt (h .places) q .dec) c i) (hi : i < 128) {doc : ℕ} (ed : doc ≡ getD (getD (h .docs) q []) i 0)
-    (k : doc ≤ c .«window_end») (n : doc ≡ 2147483647 → ⊥) {score : Float} (es : score ≡ listAt scoring file lists q .score (start 128 (cursorAt (h .places) q .dec) + i)) where
-  pub skips : f32 .above score (c .«score_threshold») ≡ false → Finding (listAt scoring file lists q) (cursorAt (h .places) q .dec) c (i + 1)
-  skips a = record { high = omega arith; same = F .same ∙ leaves-out scoring S (c .«window_end») (c .«score_threshold») i hi ed k n es a }
+module _ {l : Postings Float} {b : ℕ} {docs : List ℕ} {scores : List Float} (R : BlockRows l b docs scores) (c : Candidates) {i : ℕ} (F : Finding l b c i) (hi : i < 128)
+    {doc : ℕ} (ed : doc ≡ getD docs i 0) (k : doc ≤ c .«window_end») (n : doc ≡ 2147483647 → ⊥) {score : Float} (es : score ≡ getD scores i nan) where
+  pub skips : f32 .above score (c .«score_threshold») ≡ false → Finding l b c (i + 1)
+  skips a = record { high = omega arith; same = F .same ∙ leaves-out R (c .«window_end») (c .«score_threshold») i hi ed k n es a }
 
-  pub hits : f32 .above score (c .«score_threshold») ≡ true
-      → Finds (listAt scoring file lists q) (cursorAt (h .places) q .dec) c (At (i + 1) (record { doc = doc; score = score }))
+  pub hits : f32 .above score (c .«score_threshold») ≡ true → Finds l b c (At (i + 1) (record { doc = doc; score = score }))
   hits a = record {
-    finds = (F .same ∙ takes scoring S (c .«window_end») (c .«score_threshold») i hi ed k n es a, omega arith, doc-small scoring S (c .«window_end») (c .«score_threshold») i hi ed k n);
+    finds = (F .same ∙ takes R (c .«window_end») (c .«score_threshold») i hi ed k n es a, omega arith, doc-small R (c .«window_end») (c .«score_threshold») i hi ed k n);
   }

@@ -14,7 +14,7 @@ use Rattle.ordering.proofs.Places.{map-drop}
 use Rattle.term_scorer.specs.Inner.Slots.{Sixteen}
 use Rattle.term_scorer.specs.Inner.Weights.{FloatRows}
 use Rattle.term_scorer.proofs.Floats.{rows-set}
-use Rattle.intersection_window.specs.Inner.Windows.{Sums, boundsRow, restsRow}
+use Rattle.intersection_window.specs.Inner.Windows.{Sums, boundsRow, restsRow, scoresRow}
 use Rattle.intersection_window.proofs.Parts.{part-first, part-none}
 
 module _ (n : ℕ) (order : List ℕ) (floats₀ : List (List Float)) where
@@ -31,6 +31,7 @@ module _ (n : ℕ) (order : List ℕ) (floats₀ : List (List Float)) where
     pub running-is : running ≡ sumAt i
     pub written : (k : ℕ) → i ≤ k → k < n → getD (restsRow floats) k nan ≡ sumAt (suc k)
     pub same : boundsRow floats ≡ boundsRow floats₀
+    pub scores : scoresRow floats ≡ scoresRow floats₀
     pub rows : FloatRows floats
 
   pub begun : 0 < n → FloatRows floats₀ → Summing n (f32 .nil) floats₀
@@ -40,6 +41,7 @@ module _ (n : ℕ) (order : List ℕ) (floats₀ : List (List Float)) where
     running-is = sym (ap (sumBack f32) (part-none order boundAt n n (omega arith)));
     written = λ k u v. absurd (omega arith);
     same = refl;
+    scores = refl;
     rows = r;
   }
 
@@ -76,6 +78,7 @@ module _ (n : ℕ) (order : List ℕ) (floats₀ : List (List Float)) where
                     rw z (getD-set-same (restsRow floats) j running nan (omega arith) ∙ at)
               ];
           same = b;
+          scores = getD-set-other floats 1 2 (set (restsRow floats) j running) [] (λ z. omega arith) ∙ S .scores;
           rows = rows-set 1 (set (restsRow floats) j running) (S .rows) (omega arith) (length-set (restsRow floats) j running ∙ l);
         }
 
@@ -85,5 +88,6 @@ module _ (n : ℕ) (order : List ℕ) (floats₀ : List (List Float)) where
           let e : suc k ≡ 1 + k = omega arith in
           S .written k (omega arith) v ∙ ap sumAt e ∙ ap (sumBack f32) (sym (sym (map-drop boundAt k (drop 1 (take n order))) ∙ ap (map boundAt) (drop-drop k 1 (take n order))));
       bounds = S .same;
+      scores = S .scores;
       rows = S .rows;
     }

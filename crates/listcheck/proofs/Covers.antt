@@ -12,10 +12,11 @@ use Rattle.arrays.proofs.Every.{each, all}
 use Rattle.floats.specs.Step.{within}
 use Rattle.floats.proofs.Order.{not-above, below-le, lower-below}
 use Rattle.fieldnorm.specs.declared.FieldNormReader.{FieldNormReader}
+use Rattle.bm25.specs.declared.Bm25Weight.{Bm25Weight}
 use Rattle.bm25.specs.declared.Scoring.the-variants.{Unstepped}
 use Rattle.bm25_block.specs.Inner.Block.{Scored}
 use Rattle.notefile.specs.Header.{normReader}
-use Rattle.notefile.specs.Inner.Given.{WeighedIn}
+use Rattle.notefile.specs.Inner.Given.{WeightIn}
 use Rattle.notefile.specs.Inner.Reads.{allCovered, scoreAmong}
 use Rattle.notefile.specs.declared.part.Part.{Part}
 use Rattle.notefile.proofs.Scores.{score-of-doc}
@@ -50,10 +51,10 @@ module _ (maxScore own : Float) (t : T (within 1000 maxScore)) (b : T (within 10
   low-both (inl (e, f)) = rw f (own-lower e)
   low-both (inr (e, f)) = rw f (max-score-lower e)
 
-module _ (file : List ℕ) (x : Part) (weight : Float) (cache : List Float) (W : WeighedIn x weight cache) (bytes : (k : ℕ) → getD file k 0 < 256) (reader : FieldNormReader) (er : reader ≡ normReader file)
-    (docs freqs : List ℕ) (scores : List Float) (S : Scored reader file cache weight Unstepped docs freqs scores) where
+module _ (file : List ℕ) (x : Part) (w : Bm25Weight) (W : WeightIn x w) (bytes : (k : ℕ) → getD file k 0 < 256) (reader : FieldNormReader) (er : reader ≡ normReader file)
+    (docs freqs : List ℕ) (scores : List Float) (S : Scored reader file w Unstepped docs freqs scores) where
   score-is : (i : ℕ) → i < 128 → getD scores i nan ≡ scoreAmong file x docs freqs i
-  score-is i h = S .at i h ∙ score-of-doc x weight cache W file bytes er (getD docs i 0) (getD freqs i 0)
+  score-is i h = S .at i h ∙ score-of-doc x w W file bytes er (getD docs i 0) (getD freqs i 0)
 
   pub covered-is : (n : ℕ) → n ≤ 128 → (bound : Float) → allCovered bound n (λ i. getD scores i nan) ≡ allCovered bound n (scoreAmong file x docs freqs)
   covered-is n h bound = every-same _ _ n (λ i l. ap (λ (z : Float). not (lt bound z)) (score-is i (omega arith)))

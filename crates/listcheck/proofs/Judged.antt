@@ -8,24 +8,23 @@ use native.Mathlib.Numerals.{add-one}
 use native.Mathlib.Omega.{arith}
 use lib.Dec.{T}
 use lib.ListN.{getD}
-use lib.Ieee.{Float, nan, lt}
+use lib.Ieee.{Float, lt}
 use borrow.Author.Tests.{lt-ltb, le-ltb}
 use Rattle.arrays.specs.Every.{every}
 use Rattle.arrays.proofs.Every.{fails, one-more}
 use Rattle.floats.specs.Step.{within}
-use Rattle.bm25.specs.Score.{scoreAt}
-use Rattle.bm25.specs.Bound.{maxTf}
-use Rattle.notefile.specs.Skips.{maxNormCode}
+use Rattle.bm25.specs.Inner.Bound.{blockBoundIn}
+use Rattle.bm25.specs.declared.Bm25Weight.{Bm25Weight}
 use Rattle.notefile.specs.Lists.{fullBlocks, blockSize, blockAt, blockScore, blockBound, listBound}
 use Rattle.notefile.specs.Conditions.{blockDocsRight, blockFreqsRight, covers, boundsRight}
 use Rattle.notefile.specs.Inner.Order.{firstOf, blocksRefusal}
 use Rattle.notefile.specs.Inner.Structs.{skipEntryOf}
-use Rattle.notefile.specs.Inner.Given.{Limits, WeighedIn}
+use Rattle.notefile.specs.Inner.Given.{Limits, WeightIn}
 use Rattle.notefile.specs.Inner.Reads.{DocsRead, FreqsRead, allCovered, scoreAmong, blockRefusal, lower}
 use Rattle.notefile.specs.declared.part.Part.{Part}
 use Rattle.notefile.specs.declared.skip.SkipEntry.{SkipEntry}
 use Rattle.notefile.proofs.Decoded.{every-same}
-use Rattle.notefile.proofs.Scores.{score-by-is, list-bound-in, block-bound-in}
+use Rattle.notefile.proofs.Scores.{block-bound-by, list-bound-in, block-bound-in}
 use Rattle.listcheck.proofs.Covers.{low-both}
 
 -- one block
@@ -68,10 +67,10 @@ module _ (file : List ℕ) (x : Part) (b : ℕ) {docs : List ℕ} {d : Bool} (D 
         all-right f = rw (sym (D .same) ∙ d-right, sym (F .same) ∙ f-right, sym e ∙ f)
 
 -- a full block's bound, out of its entry
-pub bound-is : (file : List ℕ) (x : Part) (b : ℕ) → ((k : ℕ) → getD file k 0 < 256) → (weight : Float) (cache : List Float) → WeighedIn x weight cache → (e : SkipEntry) → e ≡ skipEntryOf file x b
-    → {most : ℕ} → most ≡ maxTf (e .«freq_code») → {bound : Float} → bound ≡ scoreAt weight (getD cache (e .«norm_code») nan) most → bound ≡ blockBound file x b
-unfolding blockBound skipEntryOf
-bound-is file x b bytes weight cache W e ee em be = be ∙ rw (em, ee) (score-by-is x weight cache W (maxNormCode file x b) _ (bytes _))
+pub bound-is : (file : List ℕ) (x : Part) (b : ℕ) → ((k : ℕ) → getD file k 0 < 256) → (w : Bm25Weight) → WeightIn x w → (e : SkipEntry) → e ≡ skipEntryOf file x b
+    → {bound : Float} → bound ≡ blockBoundIn w (e .«norm_code») (e .«freq_code») → bound ≡ blockBound file x b
+unfolding skipEntryOf
+bound-is file x b bytes w W e ee be = be ∙ rw ee (block-bound-by x w W file bytes b)
 
 -- the bounds are scores, so they are numbers
 pub max-score-in : (x : Part) → Limits x → {maxScore : Float} → maxScore ≡ listBound x → T (within 1000 maxScore)

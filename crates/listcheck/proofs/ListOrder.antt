@@ -4,18 +4,14 @@ use mathlib.Core.Bool.{Bool, true, false, _&&_}
 use mathlib.Core.List.{List}
 use Prim.Native.Nat.{ℕ, suc, _+_, _*_}
 use lib.Dec.{eqb, leb}
-use lib.Ieee.{Float, binary32, ofBits}
 use borrow.Author.Tests.{eqb-true, leb-true}
 use Rattle.arrays.specs.Every.{every}
 use Rattle.arrays.proofs.Every.{first-true, second-true}
-use Rattle.bm25.specs.Inner.Bound.{listBoundIn}
-use Rattle.bm25.specs.declared.Bm25Weight.{Bm25Weight}
-use Rattle.bm25.proofs.WeightLaws.{max-score-is}
-use Rattle.notefile.specs.Lists.{fullBlocks, tailAt, scoreFor, listBound}
+use Rattle.notefile.specs.Lists.{fullBlocks, tailAt}
 use Rattle.notefile.specs.Conditions.{skipRight, skipsRight, postingsRight, blockDocsRight, blockFreqsRight, boundsRight}
 use Rattle.notefile.specs.Refusal.{unless}
 use Rattle.notefile.specs.Inner.Order.{firstOf, blocksRefusal, listRefusal}
-use Rattle.notefile.specs.Inner.Given.{Parted, Skipped, BlocksIn, WeightIn}
+use Rattle.notefile.specs.Inner.Given.{Parted, Skipped, BlocksIn}
 use Rattle.notefile.specs.Inner.Reads.{TailRead, blockRefusal, lower}
 use Rattle.notefile.specs.declared.part.Part.{Part}
 use Rattle.listcheck.specs.Inner.Answers.{tailOr}
@@ -87,8 +83,3 @@ module _ (file : List ℕ) (x : Part) {place : TailPlace} (ep : place ≡ tailOr
 
           pub with-tail : {r q : ℕ} → r ≡ blockRefusal file x (fullBlocks x) → q ≡ lower full r → q ≡ listRefusal file x
           with-tail er eq = eq ∙ one-block-more file x (fullBlocks x) ef er ∙ sym rest-is
-
--- the list's bound
-pub list-bound-is : (x : Part) (w : Bm25Weight) → WeightIn x w → {maxScore : Float} → maxScore ≡ listBoundIn w → maxScore ≡ listBound x
-unfolding listBound scoreFor
-list-bound-is x w W e = e ∙ max-score-is (ofBits binary32 (x .weight)) (ofBits binary32 (x .average)) w W

@@ -1,4 +1,5 @@
 // Bounds: whether a bound lies below no score that it covers.
+use bm25::Bm25Weight;
 use bm25::Scoring;
 use fieldnorm::FieldNormReader;
 use notefile::part::Part;
@@ -8,7 +9,7 @@ ghost use lib.ListN.{getD};
 ghost use lib.Ieee.{nan};
 ghost use Rattle.arrays.specs.Lent.{before};
 ghost use Rattle.notefile.specs.Header.{normReader};
-ghost use Rattle.notefile.specs.Inner.Given.{WeighedIn};
+ghost use Rattle.notefile.specs.Inner.Given.{WeightIn};
 ghost use Rattle.notefile.specs.Inner.Reads.{allCovered, scoreAmong};
 
 // Whether the bound lies below none of the first n scores.
@@ -32,22 +33,20 @@ pub fn scores_covered(
     file: &[u8],
     reader: FieldNormReader,
     x: Part,
-    cache: &[f32; 256],
-    weight: f32,
+    w: Bm25Weight,
     n: usize,
     bound: f32,
     docs: &[u32; 128],
     freqs: &[u32; 128],
 ) -> bool
-    requires { ⌜ (reader ≡ normReader (now file)) × WeighedIn x weight (now cache) × (n ≤ 128) ⌝ }
+    requires { ⌜ (reader ≡ normReader (now file)) × WeightIn x w × (n ≤ 128) ⌝ }
     ensures { λ r. ⌜ r ≡ allCovered bound n (scoreAmong (before file) x (before docs) (before freqs)) ⌝ }
 {
     let mut scores = [0.0f32; 128];
     bm25_block::score_block(
         file,
         reader,
-        cache,
-        weight,
+        w,
         Scoring::Unstepped,
         docs,
         freqs,

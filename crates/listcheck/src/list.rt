@@ -29,13 +29,12 @@ fn check_block(
     limit: u32,
     reader: FieldNormReader,
     x: Part,
-    cache: &[f32; 256],
-    weight: f32,
+    w: Bm25Weight,
     max_score: f32,
     b: usize,
     at: usize,
 ) -> u32
-    requires { ⌜ Against (now file) x limit reader weight (now cache) «max_score» × PackedIn (now file) x b at
+    requires { ⌜ Against (now file) x limit reader w «max_score» × PackedIn (now file) x b at
         × (lastBefore (now file) x b ≡ previousDoc (now file) x b) ⌝ }
     ensures { λ r. ⌜ r ≡ blockRefusal (before file) x b ⌝ }
 {
@@ -49,10 +48,9 @@ fn check_block(
     if !packed_freqs(file, x, b, at, e, &mut freqs) {
         return 8;
     }
-    let most = bm25::decode_block_wand_max_tf(e.freq_code);
-    let own = bm25::score_by(cache, weight, Scoring::Unstepped, e.norm_code, most);
+    let own = w.block_max_score(Scoring::Unstepped, e.norm_code, e.freq_code);
     let low = if own < max_score { own } else { max_score };
-    if !scores_covered(file, reader, x, cache, weight, 128, low, &docs, &freqs) {
+    if !scores_covered(file, reader, x, w, 128, low, &docs, &freqs) {
         return 9;
     }
     0
@@ -64,13 +62,12 @@ fn check_tail(
     limit: u32,
     reader: FieldNormReader,
     x: Part,
-    cache: &[f32; 256],
-    weight: f32,
+    w: Bm25Weight,
     max_score: f32,
     docs: &mut [u32; 128],
     freqs: &mut [u32; 128],
 ) -> u32
-    requires { ⌜ Against (now file) x limit reader weight (now cache) «max_score» × Skipped (now file) x
+    requires { ⌜ Against (now file) x limit reader w «max_score» × Skipped (now file) x
         × TailValues (now file) x (now docs) (now freqs)
         × (lastBefore (now file) x (fullBlocks x) ≡ previousDoc (now file) x (fullBlocks x)) ⌝ }
     ensures { λ r. ⌜ r ≡ blockRefusal (before file) x (fullBlocks x) ⌝ }
@@ -84,7 +81,7 @@ fn check_tail(
     if !frequencies(freqs, n, false) {
         return 8;
     }
-    if !scores_covered(file, reader, x, cache, weight, n, max_score, docs, freqs) {
+    if !scores_covered(file, reader, x, w, n, max_score, docs, freqs) {
         return 9;
     }
     0
@@ -112,11 +109,10 @@ fn check_blocks(
     limit: u32,
     reader: FieldNormReader,
     x: Part,
-    cache: &[f32; 256],
-    weight: f32,
+    w: Bm25Weight,
     max_score: f32,
 ) -> u32
-    requires { ⌜ Against (now file) x limit reader weight (now cache) «max_score» × BlocksIn (now file) x ⌝ }
+    requires { ⌜ Against (now file) x limit reader w «max_score» × BlocksIn (now file) x ⌝ }
     ensures { λ r. ⌜ r ≡ blocksRefusal (before file) x (fullBlocks x) ⌝ }
 {
     let blocks = x.count / 128;
@@ -124,7 +120,7 @@ fn check_blocks(
     let mut at = x.postings;
     let mut b: usize = 0;
     while b < blocks {
-        let r = check_block(file, limit, reader, x, cache, weight, max_score, b, at);
+        let r = check_block(file, limit, reader, x, w, max_score, b, at);
         if r == 7 {
             return 7;
         }
@@ -153,22 +149,12 @@ pub fn check_list(file: &[u8], limit: u32, reader: FieldNormReader, x: Part) -> 
     }
     let w = Bm25Weight::new(f32::from_bits(x.weight), f32::from_bits(x.average));
     let max_score = w.max_score(Scoring::Unstepped);
-    let full = check_blocks(file, limit, reader, x, &w.cache, w.weight, max_score);
+    let full = check_blocks(file, limit, reader, x, w, max_score);
     if full == 7 {
         return 7;
     }
     lower_of(
         full,
-        check_tail(
-            file,
-            limit,
-            reader,
-            x,
-            &w.cache,
-            w.weight,
-            max_score,
-            &mut docs,
-            &mut freqs,
-        ),
+        check_tail(file, limit, reader, x, w, max_score, &mut docs, &mut freqs),
     )
 }

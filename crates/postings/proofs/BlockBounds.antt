@@ -9,7 +9,7 @@ use native.Mathlib.Numerals.{add-one}
 use native.Mathlib.Omega.{arith}
 use lib.Dec.{eqb}
 use lib.ListN.{getD}
-use lib.Ieee.{Float, nan, binary32, ofBits}
+use lib.Ieee.{Float, nan}
 use borrow.Author.Tests.{lt-ltb, le-ltb, eq-eqb, ne-eqb}
 use Rattle.arrays.proofs.Order.{lt-or-ge}
 use Rattle.floats.specs.Inner.Maximum.{larger}
@@ -21,15 +21,13 @@ use Rattle.bm25.specs.Scoring.{scored}
 use Rattle.bm25.specs.Inner.Bound.{listBoundIn, blockBoundIn}
 use Rattle.bm25.specs.declared.Bm25Weight.{Bm25Weight}
 use Rattle.bm25.specs.declared.Scoring.{Scoring}
-use Rattle.bm25.proofs.WeightLaws.{max-score-is, block-max-score-is}
 use Rattle.bm25_block.specs.Inner.Block.{Scored}
 use Rattle.notefile.specs.Header.{normReader}
-use Rattle.notefile.specs.Skips.{maxNormCode, maxFreqCode}
-use Rattle.notefile.specs.Lists.{fullBlocks, scoreFor, blockScore, blockBound, listBound, listScore}
+use Rattle.notefile.specs.Lists.{fullBlocks, blockScore, listScore}
 use Rattle.notefile.specs.Inner.Given.{WeightIn}
 use Rattle.notefile.specs.Inner.Reads.{scoreAmong}
 use Rattle.notefile.specs.declared.part.Part.{Part}
-use Rattle.notefile.proofs.Scores.{apart, score-of-doc}
+use Rattle.notefile.proofs.Scores.{score-of-doc, list-bound-by, block-bound-by}
 use Rattle.decoded.specs.Lists.{listOf}
 use Rattle.postings.specs.Inner.Bounds.{mostFrom, mostOf}
 use Rattle.skip_reader.specs.Inner.Decoded.{Decoded}
@@ -110,21 +108,12 @@ module _ (scoring : Scoring) {file : List ℕ} {x : Part} {b : ℕ} {docs freqs 
 
 -- what the code's scores and bounds are
 module _ (file : List ℕ) (x : Part) (w : Bm25Weight) (W : WeightIn x w) (bytes : (k : ℕ) → getD file k 0 < 256) (scoring : Scoring) where
-  module _ {norms : FieldNormReader} (en : norms ≡ normReader file) (docs freqs : List ℕ) {scores : List Float} (S : Scored norms file (w .cache) (w .weight) scoring docs freqs scores) where
+  module _ {norms : FieldNormReader} (en : norms ≡ normReader file) (docs freqs : List ℕ) {scores : List Float} (S : Scored norms file w scoring docs freqs scores) where
     pub score-is : (i : ℕ) → i < 128 → getD scores i nan ≡ scored scoring (scoreAmong file x docs freqs i)
-    score-is i h = S .at i h ∙ ap (scored scoring) (score-of-doc x (w .weight) (w .cache) (apart x W) file bytes en (getD docs i 0) (getD freqs i 0))
+    score-is i h = S .at i h ∙ ap (scored scoring) (score-of-doc x w W file bytes en (getD docs i 0) (getD freqs i 0))
 
     pub scores-most : (n : ℕ) → n ≤ 128 → mostOf (λ i. getD scores i nan) n ≡ mostOf (λ i. scored scoring (scoreAmong file x docs freqs i)) n
     scores-most n h = all-same _ _ n (λ k l. score-is k (omega arith))
-
-  -- the bounds of the list and of a full block
-  list-bound-is : listBoundIn w ≡ listBound x
-  unfolding listBound scoreFor
-  list-bound-is = max-score-is (ofBits binary32 (x .weight)) (ofBits binary32 (x .average)) w W
-
-  bound-is : (b : ℕ) → blockBoundIn w (maxNormCode file x b) (maxFreqCode file x b) ≡ blockBound file x b
-  unfolding blockBound scoreFor
-  bound-is b = block-max-score-is (ofBits binary32 (x .weight)) (ofBits binary32 (x .average)) w W (maxNormCode file x b) (maxFreqCode file x b) (bytes _)
 
   module _ (p : SegmentPostings) where
     abbrev b : ℕ
@@ -132,12 +121,12 @@ module _ (file : List ℕ) (x : Part) (w : Bm25Weight) (W : WeightIn x w) (bytes
 
     pub full-bound : {wd f n m : ℕ} {s : Bool} → Packed file x b wd s f n m → {r : Float} → r ≡ scored scoring (blockBoundIn w n m) → r ≡ blockMax 128 f32 (listOf scoring file x) (cursorOf p)
     unfolding listOf cursorOf
-    full-bound P e = e ∙ rw (P .norm-is, P .freq-is, bound-is b, lt-ltb b (fullBlocks x) (P .full))
+    full-bound P e = e ∙ rw (P .norm-is, P .freq-is, block-bound-by x w W file bytes b, lt-ltb b (fullBlocks x) (P .full))
 
     module _ (h : fullBlocks x ≤ b) where
       pub unloaded-bound : p .«block_loaded» ≡ false → {r : Float} → r ≡ scored scoring (listBoundIn w) → r ≡ blockMax 128 f32 (listOf scoring file x) (cursorOf p)
       unfolding listOf cursorOf
-      unloaded-bound l e = e ∙ rw (list-bound-is, le-ltb b (fullBlocks x) h, l)
+      unloaded-bound l e = e ∙ rw (list-bound-by x w W, le-ltb b (fullBlocks x) h, l)
 
       pub loaded-bound : p .«block_loaded» ≡ true → {docs freqs : List ℕ} → Decoded file x b docs freqs → {n : ℕ} → n ≡ remaining x b → {r : Float} → r ≡ mostOf (λ i. scored scoring (scoreAmong file x docs freqs i)) n → r ≡ blockMax 128 f32 (listOf scoring file x) (cursorOf p)
       unfolding listOf cursorOf

@@ -53,16 +53,7 @@ fn tail_max_score(
     ensures { λ r. ⌜ r ≡ mostOf (λ i. scored scoring (scoreAmong (before file) x (before docs) (before freqs) i)) n ⌝ }
 {
     let mut scores = [0.0f32; 128];
-    bm25_block::score_block(
-        file,
-        norms,
-        &w.cache,
-        w.weight,
-        scoring,
-        docs,
-        freqs,
-        &mut scores,
-    );
+    bm25_block::score_block(file, norms, w, scoring, docs, freqs, &mut scores);
     max_score(&scores, n)
 }
 

@@ -7,7 +7,7 @@ use native.Mathlib.Nat.{add-zero, zero-add}
 use native.Mathlib.Omega.{arith}
 use lib.ListN.{length, getD, set, take, drop, length-set, getD-replicate, replicate}
 use lib.Seq.{drop-cons, getD-set-same, getD-set-other}
-use lib.Ieee.{Float, binary32, ofBits}
+use lib.Ieee.{Float}
 use Rattle.arrays.proofs.Order.{lt-or-ge}
 use Rattle.route.specs.Cursor.{Cursor, fresh}
 use Rattle.route.specs.Scorer.{Scorer, scorersFrom}
@@ -17,17 +17,15 @@ use Rattle.bm25.specs.Inner.Bound.{listBoundIn}
 use Rattle.bm25.specs.declared.Bm25Weight.{Bm25Weight}
 use Rattle.bm25.specs.declared.Scoring.{Scoring}
 use Rattle.bm25.specs.declared.Scoring.the-variants.{Unstepped}
-use Rattle.bm25.proofs.WeightLaws.{max-score-is}
 use Rattle.ordering.specs.Inner.Scorers.{noScorer}
 use Rattle.term_scorer.specs.declared.TermScorer.{TermScorer}
 use Rattle.notefile.specs.Header.{listCount}
 use Rattle.notefile.specs.Parts.{partOf}
-use Rattle.notefile.specs.Lists.{listBound, scoreFor}
 use Rattle.notefile.specs.Inner.Structs.{headerOf}
-use Rattle.notefile.specs.Inner.Given.{WeightIn, WeighedIn}
+use Rattle.notefile.specs.Inner.Given.{WeightIn}
 use Rattle.notefile.specs.declared.header.Header.{Header}
 use Rattle.notefile.specs.declared.part.Part.{Part}
-use Rattle.notefile.proofs.Scores.{apart}
+use Rattle.notefile.proofs.Scores.{list-bound-by}
 use Rattle.decoded.specs.Lists.{listOf, postingsOf, queried}
 use Rattle.skip_reader.specs.Inner.Decoded.{docIn, ListIn}
 use Rattle.slot_rows.specs.Inner.Rows.{partIn, partRow, PartRow}
@@ -65,11 +63,11 @@ module _ (scoring : Scoring) (file : List ℕ) (l q : ℕ) (h : q < 16) {x : Par
   norms-there : Weighed lists′ (b .caches) q
   norms-there =
       rw (there (a .caches) q (w .cache) [] h (R .caches))
-      (subst (λ (z : Part). NormsIn z (w .cache)) (sym part-there) (subst (λ (z : Float). WeighedIn x z (w .cache)) (W .weight-is) (apart x W)))
+      (subst (λ (z : Part). NormsIn z (w .cache)) (sym part-there) (W .norms))
 
   max-there : max-score ≡ listOf scoring file x .top
-  unfolding listOf listBound scoreFor
-  max-there = max-known ∙ ap (scored scoring) (max-score-is (ofBits binary32 (x .weight)) (ofBits binary32 (x .average)) w W)
+  unfolding listOf
+  max-there = max-known ∙ ap (scored scoring) (list-bound-by x w W)
 
   doc-there : doc ≡ docIn file (partOf file l) 0
   doc-there =

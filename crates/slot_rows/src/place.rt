@@ -1,13 +1,11 @@
 // A slot's two rows of numbers: those of its list's part, and those of its place. Structs are made of them at a block change only.
+use bm25::Bm25Weight;
 use notefile::part::Part;
 use postings::cursor::SegmentPostings;
 use skip_reader::skip::SkipReader;
 ghost use mathlib.Core.Path.{_≡_};
-ghost use mathlib.Core.Bool.{true};
-ghost use lib.Ieee.{binary32, ofBits};
 ghost use Rattle.arrays.specs.Lent.{before, after};
-ghost use Rattle.bm25.specs.Limits.{weightOk};
-ghost use Rattle.notefile.specs.Inner.Given.{BlocksIn};
+ghost use Rattle.notefile.specs.Inner.Given.{BlocksIn, Limits, weightOf};
 ghost use Rattle.slot_rows.specs.Inner.Rows.{partIn, partRow, PartRow, postingsIn, placeRow, Narrow, Standing};
 
 // Where a place's numbers stand in its row. The last says whether the block's bound is known.
@@ -21,7 +19,7 @@ pub const LAST: usize = 3;
 
 pub const LOADED: usize = 4;
 
-const DECODED: usize = 5;
+pub const DECODED: usize = 5;
 
 pub const CUR: usize = 6;
 
@@ -67,12 +65,17 @@ pub fn part_of(list: &[usize; 8]) -> Part
     }
 }
 
-// The weight of a row's list.
-pub fn weight_of(list: &[usize; 8]) -> f32
-    requires { ⌜ PartRow (now list) × (weightOk (ofBits binary32 (partIn (now list) .weight)) ≡ true) ⌝ }
-    ensures { λ r. ⌜ r ≡ ofBits binary32 (partIn (before list) .weight) ⌝ }
+// The struct of a row's list, with its norms.
+pub fn weight_of(list: &[usize; 8], norms: &[f32; 256]) -> Bm25Weight
+    requires { ⌜ PartRow (now list) × Limits (partIn (now list)) ⌝ }
+    ensures { λ r. ⌜ r ≡ weightOf (partIn (before list)) (before norms) ⌝ }
 {
-    f32::from_bits(list[0] as u32)
+    let cache = *norms;
+    Bm25Weight {
+        weight: f32::from_bits(list[0] as u32),
+        average: f32::from_bits(list[1] as u32),
+        cache,
+    }
 }
 
 // A place's numbers, put into a row, with a bound that is not known.

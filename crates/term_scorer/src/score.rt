@@ -1,11 +1,9 @@
-// Scores and block bounds by slot. Norms stand in a lent table, so that one posting is scored without a copy of its list's norms.
+// Scores and block bounds by slot. The struct of a slot's list is made of its rows and goes by value.
 use bm25::Bm25Weight;
-use bm25::MAX_FIELDNORM_ID;
-use bm25::MAX_TERM_FREQ;
 use bm25::Scoring;
 use fieldnorm::FieldNormReader;
 use postings::bound::block_max_score;
-use skip_reader::skip::BlockInfo;
+use slot_rows::place::BLOCK;
 use slot_rows::place::BOUND;
 use slot_rows::place::CUR;
 use slot_rows::place::KNOWN;
@@ -14,15 +12,15 @@ use slot_rows::place::postings_of;
 use slot_rows::place::weight_of;
 ghost use mathlib.Core.Path.{_≡_};
 ghost use mathlib.Core.List.{[]};
-ghost use Prim.Native.Nat.{_+_, _<_};
+ghost use Prim.Native.Nat.{_<_};
 ghost use lib.ListN.{getD};
 ghost use Rattle.arrays.specs.Lent.{before, after};
-ghost use Rattle.route.specs.Postings.{start};
 ghost use Rattle.notefile.specs.Header.{normReader};
+ghost use Rattle.notefile.specs.Inner.Given.{Limits, WeightIn};
 ghost use Rattle.skip_reader.specs.Inner.Decoded.{docIn, ListIn};
 ghost use Rattle.slot_rows.specs.Inner.Rows.{partIn, PartRow, PlaceIn};
 ghost use Rattle.term_scorer.specs.Inner.Slots.{cursorAt, held, listAt, partAt, SlotIn};
-ghost use Rattle.term_scorer.specs.Inner.Weights.{blockMaxAt, BoundFound, Bounded, BoundKept, FloatRow, NormsIn, Weighed};
+ghost use Rattle.term_scorer.specs.Inner.Weights.{blockMaxAt, BlockScores, BoundFound, Bounded, BoundKept, FloatRow, NormsIn, Weighed};
 
 // What every score of a run is made with: the file's norm codes, and stepped scores or unstepped ones.
 pub struct Similarity {
@@ -51,6 +49,14 @@ pub fn term_freq(q: usize, places: &[[usize; 8]; 16], freqs: &[[u32; 128]; 16]) 
     freqs[q][cur]
 }
 
+// The struct of slot q's list.
+fn weight_in(lists: &[[usize; 8]; 16], caches: &[[f32; 256]; 16], q: usize) -> Bm25Weight
+    requires { ⌜ (q < 16) × PartRow (getD (now lists) q []) × Limits (partAt (now lists) q) × Weighed (now lists) (now caches) q ⌝ }
+    ensures { λ r. ⌜ WeightIn (partAt (before lists) q) r ⌝ }
+{
+    weight_of(&lists[q], &caches[q])
+}
+
 // The score of the posting on which slot q's scorer stands, which is document doc.
 pub fn score(
     file: &[u8],
@@ -74,8 +80,8 @@ pub fn score(
     let scoring = similarity.scoring;
     let id = norms.fieldnorm_id(file, doc);
     let freq = term_freq(q, places, freqs);
-    let weight = weight_of(&lists[q]);
-    bm25::score_by(&caches[q], weight, scoring, id, freq)
+    let w = weight_in(lists, caches, q);
+    w.score(scoring, id, freq)
 }
 
 // The list bound of slot q: no posting of its list scores more.
@@ -91,39 +97,36 @@ pub fn max_score(
     ensures { λ r. ⌜ r ≡ listAt (similarity .scoring) (before file) (before lists) q .top ⌝ }
 {
     let scoring = similarity.scoring;
-    let weight = weight_of(&lists[q]);
-    bm25::score_by(&caches[q], weight, scoring, MAX_FIELDNORM_ID, MAX_TERM_FREQ)
+    let w = weight_in(lists, caches, q);
+    w.max_score(scoring)
 }
 
-// The score of posting i of the block that slot q decoded last, which is document doc.
-pub fn score_in_block(
+// The scores of the block that slot q decoded last, made at once.
+pub fn score_block(
     file: &[u8],
     similarity: Similarity,
     lists: &[[usize; 8]; 16],
     caches: &[[f32; 256]; 16],
     q: usize,
-    i: usize,
-    doc: u32,
     places: &[[usize; 8]; 16],
     docs: &[[u32; 128]; 16],
     freqs: &[[u32; 128]; 16],
-) -> f32
+    scores: &mut [f32; 128],
+)
     requires { let slots = held (now places) (now docs) (now freqs) in
         ⌜ (q < 16) × (similarity .norms ≡ normReader (now file)) × SlotIn (now file) (now lists) slots q
-        × Weighed (now lists) (now caches) q × (i < 128)
-        × (doc ≡ docIn (now file) (partAt (now lists) q) (start 128 (cursorAt (now places) q .dec) + i)) × (doc < 2147483647) ⌝ }
-    ensures { λ r.
-        let at = start 128 (cursorAt (before places) q .dec) + i in
-        ⌜ r ≡ listAt (similarity .scoring) (before file) (before lists) q .score at ⌝ }
+        × Weighed (now lists) (now caches) q ⌝ }
+    ensures { λ _.
+        let list = listAt (similarity .scoring) (before file) (before lists) q in
+        ⌜ BlockScores list (cursorAt (before places) q .dec) (after scores) × FloatRow (after scores) ⌝ }
 {
     let norms = similarity.norms;
     let scoring = similarity.scoring;
-    let id = norms.fieldnorm_id(file, doc);
-    let weight = weight_of(&lists[q]);
-    bm25::score_by(&caches[q], weight, scoring, id, freqs[q][i])
+    let w = weight_in(lists, caches, q);
+    bm25_block::score_block(file, norms, w, scoring, &docs[q], &freqs[q], scores);
 }
 
-// The bound of the skip reader's block. Of a loaded tail it is the largest score, which its list's norms by value give at once.
+// The bound of the skip reader's block. It lasts unless the block is a tail that is not loaded.
 fn bound_of(
     file: &[u8],
     similarity: Similarity,
@@ -139,40 +142,16 @@ fn bound_of(
 {
     let norms = similarity.norms;
     let scoring = similarity.scoring;
-    let weight = weight_of(list);
+    let w = weight_of(list, cache);
     let x = part_of(list);
     let p = postings_of(file, x, place);
-    let reader = p.skip_reader;
-    let info = reader.block_info;
-    match info {
-        BlockInfo::BitPacked {
-            doc_bits: _,
-            strict: _,
-            freq_bits: _,
-            norm_code,
-            freq_code,
-        } => {
-            let freq = bm25::decode_block_wand_max_tf(freq_code);
-            let score = bm25::score_by(cache, weight, scoring, norm_code, freq);
-            Bound { score, lasts: true }
-        }
-        BlockInfo::VInt { num_docs: _ } => {
-            if p.block_loaded {
-                let norms_of_list = *cache;
-                let w = Bm25Weight {
-                    weight,
-                    average: f32::from_bits(x.average),
-                    cache: norms_of_list,
-                };
-                let score = block_max_score(file, norms, x, w, scoring, p, docs, freqs);
-                return Bound { score, lasts: true };
-            }
-            let score = bm25::score_by(cache, weight, scoring, MAX_FIELDNORM_ID, MAX_TERM_FREQ);
-            Bound {
-                score,
-                lasts: false,
-            }
-        }
+    let score = block_max_score(file, norms, x, w, scoring, p, docs, freqs);
+    if place[BLOCK] < x.count / 128 {
+        return Bound { score, lasts: true };
+    }
+    Bound {
+        score,
+        lasts: p.block_loaded,
     }
 }
 

@@ -10,10 +10,10 @@ use Rattle.route.specs.Score.{sum}
 use Rattle.route.specs.Report.{Report}
 use Rattle.route.specs.Intersection.{InterPlace, Stage as RouteStage, called, early, over, window, within}
 use Rattle.term_scorer.specs.Inner.Slots.{Held, cursorAt}
-use Rattle.term_scorer.specs.Inner.Weights.{FloatRows}
+use Rattle.term_scorer.specs.Inner.Weights.{BlockScores, FloatRows}
 use Rattle.intersection_window.specs.Inner.Scorers.{InOrder, Query, Ready, listIn, placeAt, slotAt}
 use Rattle.intersection_window.specs.Inner.Candidates.{Rests, leftIn}
-use Rattle.intersection_window.specs.Inner.Windows.{boundsOf, boundsRow, restsRow}
+use Rattle.intersection_window.specs.Inner.Windows.{boundsOf, boundsRow, restsRow, scoresRow}
 use Rattle.intersection_window.specs.declared.leader.Candidates.{Candidates}
 use Rattle.block_wand_intersection.specs.declared.Intersection.{Intersection}
 use Rattle.block_wand_intersection.specs.declared.Stage.{Stage}
@@ -54,18 +54,22 @@ module _ (x : Query) where
   abbrev pub placeOf : Intersection → List (List ℕ) → List (List Float) → InterPlace Float
   placeOf v places floats = placeAt x places (stageOf places floats (v .stage)) (v .doc)
 
-  -- in an open window the sums of the bounds that follow stand in their row
+  -- the scores of the block that the leader decoded last stand in their row
+  abbrev pub Scored : List (List ℕ) → List (List Float) → Type 0
+  Scored places floats = BlockScores (listIn x (slotAt x 0)) (cursorAt places (slotAt x 0) .dec) (scoresRow floats)
+
+  -- in an open window the sums of the bounds that follow stand in theirs
   pub record Open (floats : List (List Float)) (c : Candidates) : Type 0 where
     pub inside : c .next ≤ 128
     pub small : c .«window_end» ≤ 2147483647
     pub rests : Rests (x .len) (boundsOf x (boundsRow floats)) (restsRow floats)
 
-  abbrev pub StageKept : List (List Float) → Stage → Type 0
-  StageKept floats Early = Unit {0}
-  StageKept floats Window = Unit {0}
-  StageKept floats (Within c) = Open floats c
-  StageKept floats (Called c) = Open floats c
-  StageKept floats Over = Unit {0}
+  abbrev pub StageKept : List (List ℕ) → List (List Float) → Stage → Type 0
+  StageKept places floats Early = Unit {0}
+  StageKept places floats Window = Scored places floats
+  StageKept places floats (Within c) = Scored places floats × Open floats c
+  StageKept places floats (Called c) = Scored places floats × Open floats c
+  StageKept places floats Over = Unit {0}
 
   -- a run stands in its tables, and can go on
   pub record Stands (v : Intersection) (h : Held) (floats : List (List Float)) : Type 0 where
@@ -74,4 +78,4 @@ module _ (x : Query) where
     pub rows : FloatRows floats
     pub len-is : v .len ≡ x .len
     pub max-is : v .«max_sum» ≡ maxSum x
-    pub stage : StageKept floats (v .stage)
+    pub stage : StageKept (h .places) floats (v .stage)

@@ -4,36 +4,23 @@ use mathlib.Core.Bool.{true}
 use mathlib.Core.List.{List, []}
 use Prim.Native.Nat.{ℕ, _+_, _≤_, _<_}
 use lib.ListN.{getD}
-use lib.Ieee.{Float, nan}
-use Rattle.arrays.specs.Inner.Holds.{Holds}
+use lib.Ieee.{Float}
 use Rattle.route.specs.F32.{f32}
 use Rattle.route.specs.Postings.{Postings, start}
 use Rattle.route.specs.Cursor.{seekIn}
 use Rattle.route.specs.Route.{Route}
 use Rattle.route.specs.Single.{huntTurn, landed}
 use Rattle.route.specs.Inner.Singles.{SingleKept}
-use Rattle.bm25.specs.Scoring.{scored}
-use Rattle.bm25.specs.declared.Scoring.{Scoring}
 use Rattle.notefile.specs.Header.{normReader}
-use Rattle.notefile.specs.Inner.Reads.{scoreAmong}
-use Rattle.notefile.specs.declared.part.Part.{Part}
 use Rattle.reports.specs.Inner.Turns.{afterTurns, Silent, Went}
 use Rattle.reports.specs.declared.Event.{Event}
 use Rattle.reports.specs.declared.Event.the-variants.{Over, Paused, Report}
 use Rattle.term_scorer.specs.Inner.Slots.{Held, cursorAt, listAt, SlotIn}
-use Rattle.term_scorer.specs.Inner.Weights.{BoundKept, FloatRows, Weighed}
+use Rattle.term_scorer.specs.Inner.Weights.{BlockScores, BoundKept, FloatRows, Weighed}
 use Rattle.term_scorer.specs.declared.score.Similarity.{Similarity}
 use Rattle.block_wand_single.specs.Inner.Places.{onWalk, phaseOf, placeOf, singleRoute}
 use Rattle.block_wand_single.specs.declared.Gone.{Gone}
 use Rattle.block_wand_single.specs.declared.Single.{Single}
-
--- each posting's score, by decoded documents and frequencies
-abbrev pub Scores : List ℕ → Part → Scoring → List ℕ → List ℕ → List Float → Type 0
-Scores file x scoring docs freqs values = Holds nan 128 (λ i. scored scoring (scoreAmong file x docs freqs i)) values
-
--- the scores of block b of a list, which a walk over it reads
-pub record BlockScores (l : Postings Float) (b : ℕ) (values : List Float) : Type 0 where
-  pub at : (i : ℕ) → i < 128 → start 128 b + i < l .len → getD values i nan ≡ l .score (start 128 b + i)
 
 module _ (file : List ℕ) (similarity : Similarity) (lists : List (List ℕ)) (caches : List (List Float)) where
   -- slot q holds a scorer of the file, with its norms, and a block bound where one is known

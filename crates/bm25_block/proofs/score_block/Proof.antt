@@ -1,4 +1,4 @@
--- `bm25_block::score_block` meets its contract: its four loops in turn leave each posting's score.
+-- `bm25_block::score_block` meets its contract: its loops in turn leave each posting's norm, its score, and the score cut down.
 use borrow.Author.Needs.{needs}
 use Rattle.bm25_block.proofs.BlockScores.{block-stepped, block-unstepped}
 use Rattle.bm25_block.proofs.score_block.Statement.{statement}
@@ -6,9 +6,6 @@ use Rattle.bm25_block.proofs.score_block.Tie as tie
 
 read-norms-requires : tie.Need-read-norms-requires
 read-norms-requires c κs = search needs
-
-to-tfs-requires : tie.Need-to-tfs-requires
-to-tfs-requires c κs = search needs
 
 weigh-requires : tie.Need-weigh-requires
 weigh-requires c κs = search needs
@@ -22,28 +19,32 @@ step-all-requires c κs = search needs
 enum-told-2 : tie.Need-enum-told-2
 enum-told-2 c = search needs
 
+-- the places of the norms and of the call
+abbrev normed : tie.After-weigh → tie.After-read-norms
+normed c = c .before .before
+
+abbrev start : tie.After-weigh → tie.Start
+start c = normed c .before .before .before .before .before
+
 returns : tie.Need-returns
 returns c =
     let m = c .before .before .before .before in
-    let r = m .before .before .before .before .before in
-    let a = r .before .before .before .args in
+    let a = start m .args in
     rw (c .before .before .enum-told .given .1)
-    (block-stepped (a .reader) (a .file .now) (a .cache .now) (a .weight) (a .docs .now) (a .term-freqs .now) _ _ _ (r .read-norms .ensures) (m .before .before .before .to-tfs .ensures) (m .weigh .ensures) _ (c .step-all .ensures))
+    (block-stepped (a .reader) (a .file .now) (a .t3) (a .docs .now) (a .term-freqs .now) _ _ (normed m .read-norms .ensures) (m .weigh .ensures) _ (c .step-all .ensures))
 
 returns-2 : tie.Need-returns-2
 returns-2 c =
     let m = c .before .before in
-    let r = m .before .before .before .before .before in
-    let a = r .before .before .before .args in
+    let a = start m .args in
     rw (c .enum-told2 .given .1)
-    (block-unstepped (a .reader) (a .file .now) (a .cache .now) (a .weight) (a .docs .now) (a .term-freqs .now) _ _ _ (r .read-norms .ensures) (m .before .before .before .to-tfs .ensures) (m .weigh .ensures))
+    (block-unstepped (a .reader) (a .file .now) (a .t3) (a .docs .now) (a .term-freqs .now) _ _ (normed m .read-norms .ensures) (m .weigh .ensures))
 
 pub score-block-spec : {M : Type 1} → statement M
 score-block-spec =
     tie.close
     (tie.spec
     read-norms-requires
-    to-tfs-requires
     weigh-requires
     enum-told
     step-all-requires

@@ -4,15 +4,16 @@ use mathlib.Core.List.{List}
 use Prim.Native.Nat.{ℕ}
 use lib.Dec.{leb}
 use lib.ListN.{getD}
-use lib.Ieee.{Float, nan, binary32, add, mul, div}
+use lib.Ieee.{Float, nan}
 use Rattle.arrays.specs.Every.{every}
 use Rattle.arrays.specs.Inner.Holds.{Holds}
-use Rattle.floats.specs.Whole.{wholeF32}
 use Rattle.floats.specs.Step.{stepDown}
 use Rattle.fieldnorm.specs.Reader.{fieldnormId}
 use Rattle.fieldnorm.specs.declared.FieldNormReader.{FieldNormReader}
 use Rattle.bm25.specs.Score.{scoreAt}
 use Rattle.bm25.specs.Scoring.{scored}
+use Rattle.bm25.specs.Inner.Weight.{scoreIn}
+use Rattle.bm25.specs.declared.Bm25Weight.{Bm25Weight}
 use Rattle.bm25.specs.declared.Scoring.{Scoring}
 
 -- each posting's norm: the cache's at its document's norm code
@@ -26,20 +27,15 @@ exactAt freqs i = leb (getD freqs i 0) 16777216
 unfoldable pub allExact : List ℕ → Bool
 allExact freqs = every 128 (exactAt freqs)
 
--- each frequency as an f32
-abbrev pub Whole : List ℕ → List Float → Type 0
-Whole freqs out = Holds nan 128 (λ i. wholeF32 (getD freqs i 0)) out
-
--- each frequency f at its norm: weight × (f / (f + norm))
-abbrev pub Weighed : Float → List Float → List Float → List Float → Type 0
-Weighed weight norms tfs out =
-    Holds nan 128 (λ i. mul binary32 weight (div binary32 (getD tfs i nan) (add binary32 (getD tfs i nan) (getD norms i nan)))) out
+-- each posting's score, at its norm
+abbrev pub Weighed : Float → List ℕ → List Float → List Float → Type 0
+Weighed weight freqs norms out = Holds nan 128 (λ i. scoreAt weight (getD norms i nan) (getD freqs i 0)) out
 
 -- each score cut down to the grid
 abbrev pub CutDown : List Float → List Float → Type 0
 CutDown xs out = Holds nan 128 (λ i. stepDown (getD xs i nan)) out
 
--- each posting's score, from its list's norms and weight: `scoreIn` of the struct that has both
-abbrev pub Scored : FieldNormReader → List ℕ → List Float → Float → Scoring → List ℕ → List ℕ → List Float → Type 0
-Scored reader file cache weight scoring docs freqs out =
-    Holds nan 128 (λ i. scored scoring (scoreAt weight (getD cache (fieldnormId reader file (getD docs i 0)) nan) (getD freqs i 0))) out
+-- each posting's score, by its list's struct
+abbrev pub Scored : FieldNormReader → List ℕ → Bm25Weight → Scoring → List ℕ → List ℕ → List Float → Type 0
+Scored reader file w scoring docs freqs out =
+    Holds nan 128 (λ i. scored scoring (scoreIn w (fieldnormId reader file (getD docs i 0)) (getD freqs i 0))) out

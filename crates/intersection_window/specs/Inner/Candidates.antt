@@ -6,13 +6,17 @@ use mathlib.Core.Option.{Option, none, some}
 use Prim.Native.Nat.{ℕ, suc, min, _+_, _-_, _≤_, _<_}
 use lib.ListN.{getD, drop}
 use lib.Ieee.{Float, nan}
+use Rattle.block_search.specs.Search.{countBelow}
+use Rattle.block_search.specs.Inner.Segments.{Sorted}
 use Rattle.route.specs.F32.{f32}
 use Rattle.route.specs.Score.{sumBack}
 use Rattle.route.specs.Report.{Report}
-use Rattle.route.specs.Postings.{Postings, start}
+use Rattle.route.specs.Postings.{Postings, docAt, start}
 use Rattle.route.specs.Cursor.{findIn}
 use Rattle.route.specs.Intersection.{candidatesFrom, tryCandidate}
+use Rattle.route.specs.Inner.Lists.{ListOk}
 use Rattle.term_scorer.specs.Inner.Slots.{Held}
+use Rattle.term_scorer.specs.Inner.Weights.{BlockScores}
 use Rattle.intersection_window.specs.Inner.Scorers.{Query, secondariesIn, slotAt, SlotsIn, StillKept, Unmoved}
 use Rattle.intersection_window.specs.declared.candidate.Candidate.{Candidate}
 use Rattle.intersection_window.specs.declared.candidate.Candidate.the-variants.{Due, Passed}
@@ -41,6 +45,15 @@ pub record Tries (x : Query) (c : ℕ) (score t : Float) (rests : List Float) (h
       → r ≡ candidateOf t (tryCandidate 128 f32 c t score (secondariesIn x (h .places)) bs .found)
 
 -- ---- the candidates of a window
+
+-- two rows are of block b of a list: its documents, rising, and its postings' scores
+pub record BlockRows (l : Postings Float) (b : ℕ) (docs : List ℕ) (scores : List Float) : Type 0 where
+  pub limit : ℕ
+  pub ok : ListOk 128 limit l
+  pub sorted : Sorted docs
+  pub docs-are : (i : ℕ) → i < 128 → getD docs i 0 ≡ docAt l (start 128 b + i)
+  pub below-is : (d : ℕ) → findIn l d 128 (start 128 b) ≡ start 128 b + countBelow 128 docs d
+  pub scores-are : BlockScores l b scores
 
 -- those above ts, up to document e, from place i of the leader's block b on
 abbrev pub candidatesLeft : Postings Float → ℕ → Float → ℕ → ℕ → List (Report Float)

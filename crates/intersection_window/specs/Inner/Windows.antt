@@ -22,17 +22,21 @@ use Rattle.intersection_window.specs.declared.window.Window.the-variants
 abbrev pub boundsAlong : ℕ → List ℕ → List Float → List Float
 boundsAlong len order bounds = map (λ q. getD bounds q nan) (drop 1 (take len order))
 
--- the rows of the run's floats that the intersection uses: the bounds by slot, and the sums of those that follow
+-- the rows of the run's floats: the bounds by slot, the sums of those that follow, and the scores of the leader's block
 abbrev pub boundsRow : List (List Float) → List Float
 boundsRow floats = getD floats 0 []
 
 abbrev pub restsRow : List (List Float) → List Float
 restsRow floats = getD floats 1 []
 
--- behind each secondary the sum of the bounds that follow is written
+abbrev pub scoresRow : List (List Float) → List Float
+scoresRow floats = getD floats 2 []
+
+-- behind each secondary the sum of the bounds that follow is written, and nothing else
 pub record Sums (n : ℕ) (order : List ℕ) (floats floats′ : List (List Float)) : Type 0 where
   pub rests : Rests n (boundsAlong n order (boundsRow floats)) (restsRow floats′)
   pub bounds : boundsRow floats′ ≡ boundsRow floats
+  pub scores : scoresRow floats′ ≡ scoresRow floats
   pub rows : FloatRows floats′
 
 abbrev pub boundsOf : Query → List Float → List Float

@@ -70,22 +70,19 @@ pub record BlocksIn (file : List ℕ) (x : Part) : Type 0 where
 abbrev pub WeightIn : Part → Bm25Weight → Type 0
 WeightIn x w = WeightOf (ofBits binary32 (x .weight)) (ofBits binary32 (x .average)) w
 
--- a list's weight and norms, where they stand apart
-abbrev pub weightOf : Part → Float → List Float → Bm25Weight
-weightOf x weight cache = record { weight = weight; average = ofBits binary32 (x .average); cache = cache }
+-- that struct, made of norms that stand ready
+abbrev pub weightOf : Part → List Float → Bm25Weight
+weightOf x norms = record { weight = ofBits binary32 (x .weight); average = ofBits binary32 (x .average); cache = norms }
 
-abbrev pub WeighedIn : Part → Float → List Float → Type 0
-WeighedIn x weight cache = WeightIn x (weightOf x weight cache)
-
--- what a list's blocks are tested against: the header's number of documents, the norm codes, the weight and norms, within their limits, and
--- the list's bound
+-- what a list's blocks are tested against: the header's number of documents, the norm codes, the list's struct, within its limits, and its
+-- bound
 pub record Against (file : List ℕ) (x : Part) (limit : ℕ) (reader : FieldNormReader)
-    (weight : Float) (cache : List Float) (maxScore : Float) : Type 0 where
+    (w : Bm25Weight) (maxScore : Float) : Type 0 where
   pub limit-is : limit ≡ documents file
   pub few : limit ≤ 1048576
   pub reader-is : reader ≡ normReader file
   pub limits : Limits x
-  pub weighed : WeighedIn x weight cache
+  pub weighed : WeightIn x w
   pub max-score-is : maxScore ≡ listBound x
 
 -- a block whose documents and frequencies are right, with the document before it

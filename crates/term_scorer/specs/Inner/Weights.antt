@@ -1,16 +1,17 @@
--- The norms of the slots' lists, and block bounds that are kept.
+-- The norms of the slots' lists, a block's scores, and block bounds that are kept.
 use mathlib.Core.Path.{_≡_}
 use mathlib.Core.Bool.{cond, _||_}
 use mathlib.Core.List.{List, []}
-use Prim.Native.Nat.{ℕ, _<_}
+use Prim.Native.Nat.{ℕ, _+_, _<_}
 use lib.Dec.{eqb, ltb}
 use lib.ListN.{getD, length, set}
 use lib.Ieee.{Float, nan, binary32, ofBits}
 use Rattle.route.specs.Cursor.{blockMax}
 use Rattle.route.specs.F32.{f32}
+use Rattle.route.specs.Postings.{Postings, start}
+use Rattle.bm25.specs.Inner.Weight.{NormsOf}
 use Rattle.bm25.specs.declared.Scoring.{Scoring}
 use Rattle.notefile.specs.Lists.{fullBlocks}
-use Rattle.notefile.specs.Inner.Given.{WeighedIn}
 use Rattle.notefile.specs.declared.part.Part.{Part}
 use Rattle.decoded.specs.Lists.{listOf}
 use Rattle.slot_rows.specs.Inner.Rows.{cursorIn}
@@ -30,11 +31,15 @@ pub record FloatRows (floats : List (List Float)) : Type 0 where
 
 -- a list's norms
 abbrev pub NormsIn : Part → List Float → Type 0
-NormsIn x cache = WeighedIn x (ofBits binary32 (x .weight)) cache
+NormsIn x cache = NormsOf (ofBits binary32 (x .average)) cache
 
 -- slot q has its list's norms
 abbrev pub Weighed : List (List ℕ) → List (List Float) → ℕ → Type 0
 Weighed lists caches q = NormsIn (partAt lists q) (getD caches q [])
+
+-- a row has the scores of block b of a list
+pub record BlockScores (l : Postings Float) (b : ℕ) (scores : List Float) : Type 0 where
+  pub at : (i : ℕ) → i < 128 → start 128 b + i < l .len → getD scores i nan ≡ l .score (start 128 b + i)
 
 -- where slot q's bound is known, the row has it
 abbrev pub BoundKept : Scoring → List ℕ → List (List ℕ) → List (List ℕ) → List Float → ℕ → Type 0

@@ -1,14 +1,14 @@
 -- `turn` meets its contract, by the stage.
 use borrow.Author.Needs.{needs}
-use Rattle.block_wand_intersection.proofs.Turning.{exits-called, exits-early, stays-over}
+use Rattle.block_wand_intersection.proofs.Turning.{exits-called, stays-over}
 use Rattle.block_wand_intersection.proofs.turn.turn.Statement.{statement}
 use Rattle.block_wand_intersection.proofs.turn.turn.Tie as tie
 
 enum-told : tie.Need-enum-told
 enum-told c = search needs
 
-exit-requires : tie.Need-exit-requires
-exit-requires c κs = search needs
+early-turn-requires : tie.Need-early-turn-requires
+early-turn-requires c κs = search needs
 
 enum-told-2 : tie.Need-enum-told-2
 enum-told-2 c = search needs
@@ -25,8 +25,8 @@ within-turn-requires c κs = search needs
 enum-known-stage-2 : tie.Need-enum-known-stage-2
 enum-known-stage-2 c = search needs
 
-exit-requires-2 : tie.Need-exit-requires-2
-exit-requires-2 c κs = search needs
+exit-requires : tie.Need-exit-requires
+exit-requires c κs = search needs
 
 enum-told-3 : tie.Need-enum-told-3
 enum-told-3 c = search needs
@@ -35,10 +35,7 @@ quiet-requires : tie.Need-quiet-requires
 quiet-requires c κs = search needs
 
 returns : tie.Need-returns
-returns c =
-    let m = c .before in
-    let a = m .before .before .before in
-    exits-early _ (a .args .threshold) (a .pre) (m .enum-told .given .1) (c .exit .ensures)
+returns c = search needs
 
 returns-2 : tie.Need-returns-2
 returns-2 c = search needs
@@ -50,7 +47,7 @@ returns-4 : tie.Need-returns-4
 returns-4 c =
     let m = c .before .before in
     let a = m .before .before .before in
-    exits-called _ (a .args .threshold) (a .pre) _ (m .stage2 .given .1) (c .exit2 .ensures)
+    exits-called _ (a .args .threshold) (a .pre) _ (m .stage2 .given .1) (c .exit .ensures)
 
 returns-5 : tie.Need-returns-5
 returns-5 c =
@@ -63,13 +60,13 @@ turn-spec =
     tie.close
     (tie.spec
     enum-told
-    exit-requires
+    early-turn-requires
     enum-told-2
     window-turn-requires
     enum-known-stage
     within-turn-requires
     enum-known-stage-2
-    exit-requires-2
+    exit-requires
     enum-told-3
     quiet-requires
     returns

@@ -1,15 +1,22 @@
 -- `window_turn` meets its contract: a window is the route's, and an open one has its candidates and sums.
 use native.Mathlib.Omega.{arith}
 use borrow.Author.Needs.{needs}
+use Rattle.slot_rows.specs.Inner.Rows.{cursorIn}
 use Rattle.intersection_window.proofs.Seats.{slot-small}
 use Rattle.intersection_window.proofs.Finding.{block-sorted}
-use Rattle.block_wand_intersection.proofs.Turning.{ends-windows, low-end, rows-there, window-low, window-open, window-over}
+use Rattle.block_wand_intersection.proofs.Turning.{ends-windows, low-end, rows-there, scores-before, window-low, window-open, window-over}
 use Rattle.block_wand_intersection.proofs.turn.window_turn.Statement.{statement}
 use Rattle.block_wand_intersection.proofs.turn.window_turn.Tie as tie
 
 -- the places that the answers look back to
+abbrev led : tie.After-next-window → tie.After-leader
+led n = n .before .before .before .before .before .before
+
 abbrev start : tie.After-next-window → tie.Start
-start n = n .before .before .before .before .before .before .before
+start n = led n .before .before .before
+
+abbrev windowed : tie.After-keep-scores → tie.After-next-window
+windowed k = k .before .before .before .before .before
 
 abbrev opened : tie.After-sum-rests → tie.After-window2
 opened u = u .before .before .before
@@ -22,11 +29,36 @@ returns c =
     let a = c .before .before .before in
     ends-windows _ (a .args .threshold) (a .pre .0) (a .pre .1) (c .before .if1 .taken) (c .quiet .ensures)
 
+element-copy-out-leader : tie.Need-element-copy-out-leader
+element-copy-out-leader c = search needs
+
+mul-scored : tie.Need-mul-scored
+mul-scored c = let O = c .before .before .before .pre .0 .order in omega (arith, slot-small O (O .leader))
+
+index-1-scored : tie.Need-index-1-scored
+index-1-scored c = let O = c .before .before .before .pre .0 .order in omega (arith, slot-small O (O .leader))
+
+index-2-scored : tie.Need-index-2-scored
+index-2-scored c = search needs
+
 index-1-next-window : tie.Need-index-1-next-window
 index-1-next-window c = search needs
 
 next-window-requires : tie.Need-next-window-requires
 next-window-requires c κs = search needs
+
+index-1-keep-scores : tie.Need-index-1-keep-scores
+index-1-keep-scores c = search needs
+
+keep-scores-requires : tie.Need-keep-scores-requires
+unfolding cursorIn
+keep-scores-requires c κs =
+    let n = c .before .before .before .before in
+    let a = start n in
+    let O = a .pre .0 .order in
+    let h = O .below 0 (O .leader) in
+    let B = scores-before _ (a .args .threshold) (a .pre .0) (a .pre .1) _ in
+    (slot-small O (O .leader), O .norms-are, n .next-window .ensures .ready .seated .slot _ h, O .weighed _ h, B .0, B .1)
 
 enum-told : tie.Need-enum-told
 enum-told c = search needs
@@ -40,9 +72,10 @@ enum-known-window c = search needs
 add-quiet : tie.Need-add-quiet
 add-quiet c =
     let w = c .before in
-    let n = w .before .before in
+    let k = w .before .before in
+    let n = windowed k in
     let a = start n in
-    record { fits = omega (arith, low-end _ (a .args .threshold) (a .pre .0) (a .pre .1) (n .next-window .ensures) (w .window .given .1)) }
+    record { fits = omega (arith, low-end _ (a .args .threshold) (a .pre .0) (a .pre .1) (n .next-window .ensures) (k .keep-scores .ensures) (w .window .given .1)) }
 
 quiet-requires-3 : tie.Need-quiet-requires-3
 quiet-requires-3 c κs = search needs
@@ -52,27 +85,25 @@ enum-known-window-2 c = search needs
 
 sum-rests-requires : tie.Need-sum-rests-requires
 sum-rests-requires c κs =
-    let n = c .before .before .before .before in
+    let k = c .before .before .before .before in
+    let n = windowed k in
     let a = start n in
     let O = a .pre .0 .order in
-    (O .leader, O .few, O .long, (λ i h. slot-small O h), rows-there _ (a .args .threshold) (a .pre .0) (a .pre .1) (n .next-window .ensures))
-
-element-copy-out-leader : tie.Need-element-copy-out-leader
-element-copy-out-leader c = search needs
+    (O .leader, O .few, O .long, (λ i h. slot-small O h), rows-there _ (a .args .threshold) (a .pre .0) (a .pre .1) (n .next-window .ensures) (k .keep-scores .ensures))
 
 mul-search-block : tie.Need-mul-search-block
 mul-search-block c =
-    let O = start (opened (c .before) .before .before) .pre .0 .order in
+    let O = start (windowed (opened c .before .before)) .pre .0 .order in
     omega (arith, slot-small O (O .leader))
 
 index-1-search-block : tie.Need-index-1-search-block
 index-1-search-block c =
-    let O = start (opened (c .before) .before .before) .pre .0 .order in
+    let O = start (windowed (opened c .before .before)) .pre .0 .order in
     omega (arith, slot-small O (O .leader))
 
 search-block-requires : tie.Need-search-block-requires
 search-block-requires c κs =
-    let n = opened (c .before .before) .before .before in
+    let n = windowed (opened (c .before) .before .before) in
     let a = start n in
     let O = a .pre .0 .order in
     block-sorted (a .args .similarity .scoring) (n .next-window .ensures .ready .seated .slot _ (O .below 0 (O .leader)))
@@ -83,25 +114,28 @@ quiet-requires-4 c κs = search needs
 returns-2 : tie.Need-returns-2
 returns-2 c =
     let m = c .before in
-    let n = m .before .before in
+    let k = m .before .before in
+    let n = windowed k in
     let a = start n in
-    window-over _ (a .args .threshold) (a .pre .0) (a .pre .1) (n .next-window .ensures) (m .enum-told .given .1) (c .quiet2 .ensures)
+    window-over _ (a .args .threshold) (a .pre .0) (a .pre .1) (n .next-window .ensures) (k .keep-scores .ensures) (m .enum-told .given .1) (c .quiet2 .ensures)
 
 returns-3 : tie.Need-returns-3
 returns-3 c =
     let w = c .before .before in
-    let n = w .before .before in
+    let k = w .before .before in
+    let n = windowed k in
     let a = start n in
-    window-low _ (a .args .threshold) (a .pre .0) (a .pre .1) (n .next-window .ensures) (w .window .given .1) (c .quiet3 .ensures)
+    window-low _ (a .args .threshold) (a .pre .0) (a .pre .1) (n .next-window .ensures) (k .keep-scores .ensures) (w .window .given .1) (c .quiet3 .ensures)
 
 returns-4 : tie.Need-returns-4
 returns-4 c =
     let b = c .before in
-    let u = b .before .before .before in
+    let u = b .before .before in
     let w = opened u in
-    let n = w .before .before in
+    let k = w .before .before in
+    let n = windowed k in
     let a = start n in
-    window-open _ (a .args .threshold) (a .pre .0) (a .pre .1) (n .next-window .ensures) (w .window2 .given .1) (u .sum-rests .ensures) (b .search-block .ensures) (c .quiet4 .ensures)
+    window-open _ (a .args .threshold) (a .pre .0) (a .pre .1) (n .next-window .ensures) (k .keep-scores .ensures) (w .window2 .given .1) (u .sum-rests .ensures) (b .search-block .ensures) (c .quiet4 .ensures)
 
 pub window-turn-spec : {M : Type 1} → statement M
 window-turn-spec =
@@ -109,8 +143,14 @@ window-turn-spec =
     (tie.spec
     quiet-requires
     returns
+    element-copy-out-leader
+    mul-scored
+    index-1-scored
+    index-2-scored
     index-1-next-window
     next-window-requires
+    index-1-keep-scores
+    keep-scores-requires
     enum-told
     quiet-requires-2
     enum-known-window
@@ -118,7 +158,6 @@ window-turn-spec =
     quiet-requires-3
     enum-known-window-2
     sum-rests-requires
-    element-copy-out-leader
     mul-search-block
     index-1-search-block
     search-block-requires

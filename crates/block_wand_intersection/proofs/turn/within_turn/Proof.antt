@@ -1,8 +1,11 @@
 -- `within_turn` meets its contract: the next candidate is tried as the route tries it, or the window ends.
 use native.Mathlib.Omega.{arith}
 use borrow.Author.Needs.{needs}
+use Rattle.term_scorer.specs.Inner.Slots.{cursorAt}
+use Rattle.intersection_window.specs.Inner.Scorers.{Query, listIn, query, slotAt}
+use Rattle.intersection_window.specs.Inner.Candidates.{Finds}
 use Rattle.intersection_window.proofs.Seats.{slot-small}
-use Rattle.block_wand_intersection.proofs.Turning.{found, opened, tried, window-ends}
+use Rattle.block_wand_intersection.proofs.Turning.{found, leader-rows, opened, tried, window-ends}
 use Rattle.block_wand_intersection.proofs.turn.within_turn.Statement.{statement}
 use Rattle.block_wand_intersection.proofs.turn.within_turn.Tie as tie
 
@@ -11,7 +14,10 @@ abbrev start : tie.After-leader → tie.Start
 start l = l .before .before
 
 abbrev sought : tie.After-next-candidate → tie.Start
-sought n = start (n .before .before .before .before)
+sought n = start (n .before .before .before)
+
+abbrev asked : tie.After-next-candidate → Query
+asked n = let a = sought n .args in query (a .similarity) (a .file .now) (a .lists .now) (a .caches .now) (a .v .len) (a .order .now)
 
 abbrev found-in : tie.After-found → tie.After-next-candidate
 found-in f = f .before .before
@@ -19,13 +25,21 @@ found-in f = f .before .before
 element-copy-out-leader : tie.Need-element-copy-out-leader
 element-copy-out-leader c = search needs
 
+mul-next-candidate : tie.Need-mul-next-candidate
+mul-next-candidate c = let O = start c .pre .0 .order in omega (arith, slot-small O (O .leader))
+
+index-1-next-candidate : tie.Need-index-1-next-candidate
+index-1-next-candidate c = let O = start c .pre .0 .order in omega (arith, slot-small O (O .leader))
+
+index-1-next-candidate-2 : tie.Need-index-1-next-candidate-2
+index-1-next-candidate-2 c = search needs
+
 next-candidate-requires : tie.Need-next-candidate-requires
-next-candidate-requires c κs =
-    let a = start (c .before .before .before) in
-    let S = a .pre .0 in
-    let O = S .order in
-    let hq = O .below 0 (O .leader) in
-    (slot-small O (O .leader), O .norms-are, S .ready .seated .slot _ hq, O .weighed _ hq, opened _ (a .args .threshold) S _ (a .pre .1) .inside)
+next-candidate-requires c κs = let a = start (c .before .before) in opened _ (a .args .threshold) (a .pre .0) _ (a .pre .1) .inside
+
+-- what was found of the leader's block
+finds : (n : tie.After-next-candidate) → let x = asked n in Finds (listIn x (slotAt x 0)) (cursorAt (sought n .args .places .now) (slotAt x 0) .dec) (sought n .args .left) (n .next-candidate .result)
+finds n = let a = sought n in n .next-candidate .ensures _ _ (leader-rows _ (a .args .threshold) (a .pre .0) _ (a .pre .1))
 
 enum-told : tie.Need-enum-told
 enum-told c = search needs
@@ -50,7 +64,7 @@ try-candidate-requires c κs =
     let n = found-in f in
     let a = sought n in
     let S = a .pre .0 in
-    (S .order, S .ready .seated, found _ (a .args .threshold) S _ (a .pre .1) (n .next-candidate .ensures) (f .found .given .1) .2)
+    (S .order, S .ready .seated, found _ (a .args .threshold) S _ (a .pre .1) (finds n) (f .found .given .1) .2)
 
 after-candidate-requires : tie.Need-after-candidate-requires
 after-candidate-requires c κs = search needs
@@ -60,7 +74,7 @@ returns c =
     let m = c .before .before in
     let n = m .before .before in
     let a = sought n in
-    window-ends _ (a .args .threshold) (a .pre .0) _ (a .pre .1) (n .next-candidate .ensures) (m .enum-told .given .1) (c .quiet .ensures)
+    window-ends _ (a .args .threshold) (a .pre .0) _ (a .pre .1) (finds n) (m .enum-told .given .1) (c .quiet .ensures)
 
 returns-2 : tie.Need-returns-2
 returns-2 c =
@@ -68,13 +82,16 @@ returns-2 c =
     let f = k .before .before .before .before .before .before in
     let n = found-in f in
     let a = sought n in
-    tried _ (a .args .threshold) (a .pre .0) _ (a .pre .1) (n .next-candidate .ensures) (f .found .given .1) _ (k .try-candidate .ensures) (c .after-candidate .ensures)
+    tried _ (a .args .threshold) (a .pre .0) _ (a .pre .1) (finds n) (f .found .given .1) _ (k .try-candidate .ensures) (c .after-candidate .ensures)
 
 pub within-turn-spec : {M : Type 1} → statement M
 within-turn-spec =
     tie.close
     (tie.spec
     element-copy-out-leader
+    mul-next-candidate
+    index-1-next-candidate
+    index-1-next-candidate-2
     next-candidate-requires
     enum-told
     add-quiet

@@ -1,6 +1,6 @@
 -- `hunt::enter` meets its contract: the slot seeks, and the scores of the block that it came to are made.
 use borrow.Author.Needs.{needs}
-use Rattle.block_wand_single.proofs.Hunting.{cur-small, doc-there, entered, entered-over}
+use Rattle.block_wand_single.proofs.Hunting.{cur-small, doc-there, entered, entered-over, slot-then}
 use Rattle.block_wand_single.proofs.hunt.enter.Statement.{statement}
 use Rattle.block_wand_single.proofs.hunt.enter.Tie as tie
 
@@ -21,42 +21,21 @@ returns c =
     let a = s .before .before .before .before .before .before .before .before in
     entered-over (a .args .single) (a .pre .0) (s .seek .ensures) (c .if1 .taken)
 
-mul-score-postings : tie.Need-mul-score-postings
-mul-score-postings c = search needs
+index-1-score-block : tie.Need-index-1-score-block
+index-1-score-block c = search needs
 
-index-1-score-postings : tie.Need-index-1-score-postings
-index-1-score-postings c = search needs
-
-mul-score-postings-2 : tie.Need-mul-score-postings-2
-mul-score-postings-2 c = search needs
-
-index-1-score-postings-2 : tie.Need-index-1-score-postings-2
-index-1-score-postings-2 c = search needs
-
-mul-score-postings-3 : tie.Need-mul-score-postings-3
-mul-score-postings-3 c = search needs
-
-index-1-score-postings-3 : tie.Need-index-1-score-postings-3
-index-1-score-postings-3 c = search needs
-
-mul-score-postings-4 : tie.Need-mul-score-postings-4
-mul-score-postings-4 c = search needs
-
-index-1-score-postings-4 : tie.Need-index-1-score-postings-4
-index-1-score-postings-4 c = search needs
-
-index-1-score-postings-5 : tie.Need-index-1-score-postings-5
-index-1-score-postings-5 c = search needs
-
-score-postings-requires : tie.Need-score-postings-requires
-score-postings-requires c κs = search needs
+score-block-requires : tie.Need-score-block-requires
+score-block-requires c κs =
+    let s = c .before .before .before .before .before in
+    let a = s .before .before .before .before .before .before .before .before in
+    (a .pre .0 .small, a .pre .0 .norms-are, slot-then (a .args .single) (a .pre .0) (s .seek .ensures), a .pre .0 .weighed)
 
 returns-2 : tie.Need-returns-2
 returns-2 c =
-    let e = c .before .before .before .before .before .before in
+    let e = c .before .before .before .before .before in
     let s = e .before in
     let a = s .before .before .before .before .before .before .before .before in
-    entered (a .args .single) (a .pre .0) (s .seek .ensures) (e .if1 .left) _ (c .score-postings .ensures)
+    entered (a .args .single) (a .pre .0) (s .seek .ensures) (e .if1 .left) _ (c .score-block .ensures)
 
 pub enter-spec : {M : Type 1} → statement M
 enter-spec =
@@ -65,14 +44,6 @@ enter-spec =
     doc-requires
     seek-requires
     returns
-    mul-score-postings
-    index-1-score-postings
-    mul-score-postings-2
-    index-1-score-postings-2
-    mul-score-postings-3
-    index-1-score-postings-3
-    mul-score-postings-4
-    index-1-score-postings-4
-    index-1-score-postings-5
-    score-postings-requires
+    index-1-score-block
+    score-block-requires
     returns-2)

@@ -16,7 +16,7 @@ returns c =
     let k = c .before .before in
     let b = k .before .before in
     let a = b .before in
-    c .covered .ensures ∙ covered-is (a .args .file .now) (a .args .x) (a .args .weight) (a .args .cache .now) (a .pre .1) (λ k. b .shared-slice-known .given k .fits) (a .args .reader) (a .pre .0)
+    c .covered .ensures ∙ covered-is (a .args .file .now) (a .args .x) (a .args .w) (a .pre .1) (λ k. b .shared-slice-known .given k .fits) (a .args .reader) (a .pre .0)
     (a .args .docs .now) (a .args .freqs .now) _ (k .score-block .ensures) (a .args .n) (a .pre .2) (a .args .bound)
 
 pub scores-covered-spec : {M : Type 1} → statement M

@@ -37,15 +37,12 @@ returns-2 c =
     let a = d .before .before .before .before .before in
     freqs-wrong (a .args .file .now) (a .args .x) (a .args .b) (d .packed-docs .ensures) (not-false _ (e .if1 .left)) (c .before .packed-freqs .ensures) (not-true _ (c .if2 .taken))
 
-decode-block-wand-max-tf-requires : tie.Need-decode-block-wand-max-tf-requires
-decode-block-wand-max-tf-requires c κs = search needs
-
-score-by-requires : tie.Need-score-by-requires
-score-by-requires c κs = search needs
+block-max-score-requires : tie.Need-block-max-score-requires
+block-max-score-requires c κs = search needs
 
 -- the places behind the tests, and the one where the file's bytes are known
-abbrev freqs-read : tie.After-score-by → tie.Else2
-freqs-read c = c .before .before
+abbrev freqs-read : tie.After-block-max-score → tie.Else2
+freqs-read c = c .before
 
 abbrev docs-read : tie.Else2 → tie.Else1
 docs-read c = c .before .before .before
@@ -53,16 +50,15 @@ docs-read c = c .before .before .before
 abbrev begun : tie.Else1 → tie.After-shared-slice-known
 begun c = c .before .before .before .before .before
 
-abbrev start : tie.After-score-by → tie.Start
+abbrev start : tie.After-block-max-score → tie.Start
 start c = begun (docs-read (freqs-read c)) .before
 
-own-is : (c : tie.After-score-by) → c .score-by .result ≡ blockBound (start c .args .file .now) (start c .args .x) (start c .args .b)
+own-is : (c : tie.After-block-max-score) → c .block-max-score .result ≡ blockBound (start c .args .file .now) (start c .args .x) (start c .args .b)
 own-is c =
     let a = start c in
     let e = docs-read (freqs-read c) in
     let r = e .before .before .before .before .read-skip-entry in
-    bound-is (a .args .file .now) (a .args .x) (a .args .b) (λ i. begun e .shared-slice-known .given i .fits) (a .args .weight) (a .args .cache .now) (a .pre .0 .weighed) (r .result) (r .ensures)
-    (c .before .decode-block-wand-max-tf .ensures) (c .score-by .ensures)
+    bound-is (a .args .file .now) (a .args .x) (a .args .b) (λ i. begun e .shared-slice-known .given i .fits) (a .args .w) (a .pre .0 .weighed) (r .result) (r .ensures) (c .block-max-score .ensures)
 
 scores-covered-requires : tie.Need-scores-covered-requires
 scores-covered-requires c κs = let a = start (c .before .before .before) in (a .pre .0 .reader-is, a .pre .0 .weighed, search needs)
@@ -109,8 +105,7 @@ check-block-spec =
     returns
     packed-freqs-requires
     returns-2
-    decode-block-wand-max-tf-requires
-    score-by-requires
+    block-max-score-requires
     scores-covered-requires
     returns-3
     returns-4)

@@ -8,10 +8,10 @@ use Rattle.listcheck.proofs.list.check_blocks.Statement.{statement}
 use Rattle.listcheck.proofs.list.check_blocks.Tie as tie
 
 abbrev Inv-loop : tie.InvT-loop
-Inv-loop file limit reader x cache weight maxScore blocks lowest₀ at₀ b₀ lowest at b = Judging file x lowest at b
+Inv-loop file limit reader x w maxScore blocks lowest₀ at₀ b₀ lowest at b = Judging file x lowest at b
 
 abbrev μ-loop : tie.MeasureT-loop
-μ-loop file limit reader x cache weight maxScore blocks lowest₀ at₀ b₀ lowest at b = blocks - b
+μ-loop file limit reader x w maxScore blocks lowest₀ at₀ b₀ lowest at b = blocks - b
 
 loop-holds : tie.Need-loop-holds Inv-loop μ-loop
 loop-holds c = let a = c .before .before in judging-begun (a .args .file .now) (a .args .x)

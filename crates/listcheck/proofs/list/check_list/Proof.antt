@@ -1,4 +1,5 @@
 -- `list::check_list` meets its contract: the conditions are tested in the table's order, and the tail's refusal joins the full blocks'.
+use mathlib.Core.Path.{_∙_}
 use native.Mathlib.Omega.{arith}
 use borrow.Author.Needs.{needs}
 use borrow.Author.Tests.{not-true, not-false}
@@ -6,8 +7,8 @@ use Rattle.bm25.proofs.Numbers.{weight-number, average-number}
 use Rattle.notefile.specs.Lists.{fullBlocks}
 use Rattle.notefile.specs.Inner.Given.{Against, Skipped}
 use Rattle.notefile.proofs.FullBlocks.{previous-same}
-use Rattle.notefile.proofs.Scores.{apart}
-use Rattle.listcheck.proofs.ListOrder.{skips-wrong, tail-is, skipped, postings-wrong, blocks-in, full-seven, docs-before, with-tail, list-bound-is}
+use Rattle.notefile.proofs.Scores.{list-bound-by}
+use Rattle.listcheck.proofs.ListOrder.{skips-wrong, tail-is, skipped, postings-wrong, blocks-in, full-seven, docs-before, with-tail}
 use Rattle.listcheck.proofs.list.check_list.Statement.{statement}
 use Rattle.listcheck.proofs.list.check_list.Tie as tie
 
@@ -69,7 +70,7 @@ read c = c .before .before .before .before
 abbrev begun : tie.After-max-score → tie.Start
 begun c = start (read c .before .before)
 
-against : (c : tie.After-max-score) → Against (begun c .args .file .now) (begun c .args .x) (begun c .args .limit) (begun c .args .reader) (c .before .new .result .weight) (c .before .new .result .cache) (c .max-score .result)
+against : (c : tie.After-max-score) → Against (begun c .args .file .now) (begun c .args .x) (begun c .args .limit) (begun c .args .reader) (c .before .new .result) (c .max-score .result)
 against c =
     let a = begun c in
     let w = c .before .new in
@@ -78,22 +79,21 @@ against c =
       few = a .pre .3;
       reader-is = a .pre .4;
       limits = a .pre .1;
-      weighed = apart (a .args .x) (w .ensures);
-      max-score-is = list-bound-is (a .args .x) (w .result) (w .ensures) (c .max-score .ensures);
+      weighed = w .ensures;
+      max-score-is = c .max-score .ensures ∙ list-bound-by (a .args .x) (w .result) (w .ensures);
     }
 
 check-blocks-requires : tie.Need-check-blocks-requires
 check-blocks-requires c κs =
-    let m = c .before .before in
-    let a = begun m in
-    let t = read m .before in
+    let a = begun c in
+    let t = read c .before in
     let k = known (t .before) in
-    (against m, blocks-in (a .args .file .now) (a .args .x) (placed k .tail-place .ensures) (k .before .place .given .1) (t .read-tail .ensures) (not-false _ (read m .if1 .left)) (a .pre .0))
+    (against c, blocks-in (a .args .file .now) (a .args .x) (placed k .tail-place .ensures) (k .before .place .given .1) (t .read-tail .ensures) (not-false _ (read c .if1 .left)) (a .pre .0))
 
 returns-3 : tie.Need-returns-3
 returns-3 c =
     let b = c .before in
-    let m = b .before .before .before in
+    let m = b .before in
     let a = begun m in
     let t = read m .before in
     let k = known (t .before) in
@@ -101,8 +101,8 @@ returns-3 c =
 
 check-tail-requires : tie.Need-check-tail-requires
 check-tail-requires c κs =
-    let e2 = c .before .before .before .before in
-    let m = e2 .before .before .before .before in
+    let e2 = c .before .before in
+    let m = e2 .before .before in
     let a = begun m in
     let x = a .args .x in
     let t = read m .before in
@@ -120,8 +120,8 @@ lower-of-requires c κs = search needs
 
 returns-4 : tie.Need-returns-4
 returns-4 c =
-    let b = c .before .before .before .before .before .before .before in
-    let m = b .before .before .before in
+    let b = c .before .before .before .before .before in
+    let m = b .before in
     let a = begun m in
     let t = read m .before in
     let k = known (t .before) in

@@ -14,10 +14,10 @@ max-score-requires c κs = search needs
 returns : tie.Need-returns
 returns c =
     let k = c .before .before in
-    let b = k .before .before .before .before in
+    let b = k .before .before in
     let a = b .before in
     c .max-score .ensures
-    ∙ scores-most (a .args .file .now) (a .args .x) (a .args .t4) (a .pre .1) (λ k. b .shared-slice-known .given k .fits) (a .args .scoring) (a .pre .0) (a .args .docs .now) (a .args .freqs .now) (k .score-block .ensures) (a .args .n) (a .pre .2)
+    ∙ scores-most (a .args .file .now) (a .args .x) (a .args .w) (a .pre .1) (λ k. b .shared-slice-known .given k .fits) (a .args .scoring) (a .pre .0) (a .args .docs .now) (a .args .freqs .now) (k .score-block .ensures) (a .args .n) (a .pre .2)
 
 pub tail-max-score-spec : {M : Type 1} → statement M
 tail-max-score-spec =

@@ -1,4 +1,4 @@
--- `bm25_block::exact_tfs` meets its contract: a whole number up to 2 ^ 24 is cast without loss.
+-- `bm25_block::weigh_exact` meets its contract: a whole number up to 2 ^ 24 is cast without loss, and each turn puts one score in place of its norm.
 use mathlib.Core.Path.{_≡_}
 use Prim.Native.Nat.{_-_, _≤_}
 use native.Mathlib.Omega.{arith}
@@ -8,16 +8,18 @@ use borrow.Author.Needs.{needs}
 use borrow.Author.Tests.{leb-true}
 use Rattle.arrays.proofs.Every.{each}
 use Rattle.arrays.proofs.Filling.{Filling, begun, goes-on, ended}
-use Rattle.floats.specs.Whole.{wholeF32}
+use Rattle.bm25.specs.Score.{scoreAt}
 use Rattle.bm25_block.specs.Inner.Block.{exactAt, allExact}
-use Rattle.bm25_block.proofs.exact_tfs.Statement.{statement}
-use Rattle.bm25_block.proofs.exact_tfs.Tie as tie
+use Rattle.bm25_block.proofs.BlockScores.{weighed-one}
+use Rattle.bm25_block.proofs.weigh_exact.Statement.{statement}
+use Rattle.bm25_block.proofs.weigh_exact.Tie as tie
 
 abbrev Inv-loop : tie.InvT-loop
-Inv-loop term-freqs tfs₀ n i₀ tfs i = (n ≡ 128) × ((i ≤ 128) × Filling nan 128 (λ k. wholeF32 (getD term-freqs k 0)) tfs₀ i tfs)
+Inv-loop weight term-freqs scores₀ n i₀ scores i =
+    (n ≡ 128) × ((i ≤ 128) × Filling nan 128 (λ k. scoreAt weight (getD scores₀ k nan) (getD term-freqs k 0)) scores₀ i scores)
 
 abbrev μ-loop : tie.MeasureT-loop
-μ-loop term-freqs tfs₀ n i₀ tfs i = 128 - i
+μ-loop weight term-freqs scores₀ n i₀ scores i = 128 - i
 
 loop-holds : tie.Need-loop-holds Inv-loop μ-loop
 loop-holds c = (search needs, (search needs, begun nan 128 _ _ (search needs)))
@@ -35,11 +37,20 @@ exact-requires c κs =
     let s = a .before .before .before in
     leb-true (getD (s .args .term-freqs .now) (a .loop .i) 0) 16777216 (each (exactAt (s .args .term-freqs .now)) 128 (a .loop .i) (s .pre) (omega arith))
 
-mul-tfs : tie.Need-mul-tfs Inv-loop μ-loop
-mul-tfs c = search needs
+mul-score-at : tie.Need-mul-score-at Inv-loop μ-loop
+mul-score-at c = search needs
 
-element-write-tfs : tie.Need-element-write-tfs Inv-loop μ-loop
-element-write-tfs c = search needs
+element-copy-out-score-at : tie.Need-element-copy-out-score-at Inv-loop μ-loop
+element-copy-out-score-at c = search needs
+
+score-at-requires : tie.Need-score-at-requires Inv-loop μ-loop
+score-at-requires c κs = search needs
+
+mul-scores : tie.Need-mul-scores Inv-loop μ-loop
+mul-scores c = search needs
+
+element-write-scores : tie.Need-element-write-scores Inv-loop μ-loop
+element-write-scores c = search needs
 
 add-i : tie.Need-add-i Inv-loop μ-loop
 add-i c = search needs
@@ -49,14 +60,16 @@ loop-less c = search needs
 
 loop-again : tie.Need-loop-again Inv-loop μ-loop
 loop-again c =
-    let a = c .before .before .before in
-    (a .loop .inv .0, (omega arith, goes-on nan 128 _ _ (a .loop .i) (a .loop .tfs) _ (omega arith) (c .exact .ensures) (a .loop .inv .1 .1)))
+    let f = c .before .before in
+    let l = f .before .before .before .loop in
+    let e = weighed-one _ _ (f .exact .ensures) (l .inv .1 .1 .rest (l .i) (omega arith)) (c .score-at .ensures) in
+    (l .inv .0, (omega arith, goes-on nan 128 _ _ (l .i) (l .scores) _ (omega arith) e (l .inv .1 .1)))
 
 returns : tie.Need-returns Inv-loop μ-loop
 returns c = let l = c .before .loop in ended nan 128 _ _ (l .i) _ (omega arith) (l .inv .1 .1)
 
-pub exact-tfs-spec : {M : Type 1} → statement M
-exact-tfs-spec =
+pub weigh-exact-spec : {M : Type 1} → statement M
+weigh-exact-spec =
     tie.close
     (tie.spec
     Inv-loop
@@ -65,8 +78,11 @@ exact-tfs-spec =
     mul-exact
     element-copy-out-exact
     exact-requires
-    mul-tfs
-    element-write-tfs
+    mul-score-at
+    element-copy-out-score-at
+    score-at-requires
+    mul-scores
+    element-write-scores
     add-i
     loop-less
     loop-again
