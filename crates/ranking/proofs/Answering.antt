@@ -55,6 +55,9 @@ module _ (q : Request) where
   }
 
   -- one that was let through
+  pub let-in : {number : ℕ} → number ≡ refusalOf q → number ≡ 0 → refusalOf q ≡ 0
+  let-in e z = sym e ∙ z
+
   pub let-plain : refusalOf q ≡ 0 → {old : Rows} {r : Outcome} {new : Rows} → Listed Plain q old r new → PlainIs q old r new
   let-plain e {old} {r} {new} L =
       let-answered (refusalOf q) (rowsOf (old .documents) (old .scores)) (plainList q) e

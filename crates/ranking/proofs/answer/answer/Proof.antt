@@ -3,8 +3,13 @@ use mathlib.Core.Path.{refl}
 use native.Mathlib.Omega.{arith}
 use borrow.Author.Needs.{needs}
 use lib.Ieee.{ofBits}
+use lib.ListN.{replicate}
 use Rattle.route.specs.F32.{f32}
 use Rattle.rule.proofs.RightRules.{keeps}
+use Rattle.reports.specs.Rows.{rows}
+use Rattle.machine.specs.Inner.Places.{Place}
+use Rattle.machine.specs.Inner.Stands.{placeIn, tables, Tables}
+use Rattle.machine.specs.declared.Machine.{Machine}
 use Rattle.request.specs.Request.{Request, asked}
 use Rattle.request.proofs.Requests.{Let, let-through}
 use Rattle.ranking.proofs.Beginning.{made-rows}
@@ -28,6 +33,24 @@ begun-of c = c .before .before .before .before .before .before .before .before .
 
 abbrev reader-of : tie.After-begin → tie.After-norm-reader
 reader-of g = g .before .before .before .before .before .before .before
+
+-- where the run begins, and where it stopped
+abbrev place-of : tie.After-begin → Tables → Machine → Place
+place-of g h m =
+    let n = reader-of g in
+    let a = start-of (n .before) in
+    let l = g .begin .last .1 .1 .1 .1 .1 .1 in
+    placeIn (a .args .file .now) (record { norms = n .norm-reader .result; scoring = a .args .scoring }) (l .0) (l .1 .0) h m
+
+abbrev first-of : tie.After-begin → Place
+first-of g =
+    let l = g .begin .last .1 .1 .1 .1 .1 .1 .1 .1 in
+    place-of g (tables (l .0) (l .1 .0) (l .1 .1 .0) (l .1 .1 .1 .0) (replicate 3 (replicate 128 (f32 .nil)))) (g .begin .result)
+
+abbrev last-of : tie.After-drive → Place
+last-of d =
+    let l = d .drive .last .1 .1 .1 .1 .1 in
+    place-of (begun-of (d .before)) (tables (l .0) (l .1 .0) (l .1 .1 .0) (l .1 .1 .1 .0) (l .1 .1 .1 .1 .0)) (d .drive .result .machine)
 
 read-header-requires : tie.Need-read-header-requires
 read-header-requires c κs = let a = c .before .before .before .before .before in omega (arith, header-of (a .args .file .now) (through a .accepted) refl .entries)
@@ -70,7 +93,9 @@ unfolding ofBits
 returns c =
     let d = c .before .before .before .before .before in
     let a = start-of (reader-of (begun-of (d .before)) .before) in
-    driven-listed (a .args .way) (request a) (through a) (begun-of (d .before) .begin .ensures _ (made-rows (f32 .nil)) .list-is (a .args .rule) (a .args .script .now)) (d .drive .ensures .ran) (c .finish .ensures)
+    let l = d .drive .last .1 .1 .1 .1 .1 .1 .1 .1 .1 .1 in
+    driven-listed (a .args .way) (request a) (through a) {p = first-of (begun-of (d .before))} {place = last-of d}
+    {old = rows (a .args .documents .now) (a .args .scores .now)} {new = rows (l .0) (l .1 .0)} (begun-of (d .before) .begin .ensures _ (made-rows (f32 .nil)) .list-is (a .args .rule) (a .args .script .now)) (d .drive .ensures .ran) (c .finish .ensures)
 
 pub answer-spec : {M : Type 1} → statement M
 answer-spec =

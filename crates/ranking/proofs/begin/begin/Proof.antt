@@ -4,6 +4,7 @@ use borrow.Author.Needs.{needs}
 use Rattle.notefile.proofs.Accepted.{header-right}
 use Rattle.notefile.proofs.Headers.{few-documents}
 use native.Mathlib.Omega.{arith}
+use Rattle.query.specs.Inner.Openings as opening
 use Rattle.ranking.proofs.Beginning.{plain-begun}
 use Rattle.ranking.proofs.begin.begin.Statement.{statement}
 use Rattle.ranking.proofs.begin.begin.Tie as tie
@@ -40,8 +41,9 @@ returns-2 c floats rows =
     let o = m .before .before in
     let a = o .before .before .before .before .before .before .before .before in
     let R = a .pre .2 in
+    let l = o .open-lists .last .1 .1 .1 .1 in
     rw (m .enum-told2 .given .1)
-    (plain-begun (a .args .similarity) (a .args .file .now) (a .args .query .now) (a .pre .0) (R .few) _ (o .open-lists .result) (o .open-lists .ensures .0) _ floats rows
+    (plain-begun (a .args .similarity) (a .args .file .now) (a .args .query .now) (a .pre .0) (R .few) (opening.tables (l .0) (l .1 .0) (l .1 .1 .0) (l .1 .1 .1 .0) (l .1 .1 .1 .1 .0)) (o .open-lists .result) (o .open-lists .ensures .0) _ floats rows
     (omega (arith, few-documents (a .args .file .now) (header-right (a .args .file .now) (R .accepted)))) (a .args .mode) (c .needs-all .ensures))
 
 pub begin-spec : {M : Type 1} → statement M

@@ -1,5 +1,6 @@
 -- `both::both` meets its contract: each run has its own, and demand 3 follows from the two.
 use borrow.Author.Needs.{needs}
+use Rattle.reports.specs.Rows.{rows}
 use Rattle.request.specs.Request.{asked}
 use Rattle.ranking.proofs.Demand.{both-hold}
 use Rattle.ranking.proofs.both.both.Statement.{statement}
@@ -33,8 +34,11 @@ returns c =
     let r = s .before .before .before .before .before in
     let b = r .before .before .before .before .before .before .before .before .before in
     let a = b .before in
+    let l = r .run .last .1 .1 .1 .1 .1 .1 in
+    let l′ = p .plain .last .1 .1 .1 .1 .1 .1 in
     both-hold (asked (a .args .file .now) (a .args .query .now) (a .args .mode) (a .args .scoring) (a .args .rule) (a .args .script .now)) (λ k. b .shared-slice-known .given k .fits)
-    (a .args .«plain-start») (s .restart .ensures) (r .run .ensures) (p .plain .ensures)
+    (a .args .«plain-start») (s .restart .ensures) {old = rows (a .args .documents .now) (a .args .scores .now)}
+    {old′ = rows (a .args .«plain-documents» .now) (a .args .«plain-scores» .now)} {new = rows (l .0) (l .1 .0)} {new′ = rows (l′ .0) (l′ .1 .0)} (r .run .ensures) (p .plain .ensures)
 
 pub both-spec : {M : Type 1} → statement M
 both-spec =

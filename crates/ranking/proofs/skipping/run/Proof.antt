@@ -1,9 +1,8 @@
 -- `skipping::run` meets its contract: refused with the first refusal's number, or the route's run of a request that is not.
-use mathlib.Core.Path.{sym, _∙_}
 use borrow.Author.Needs.{needs}
 use Rattle.reports.specs.Rows.{rows}
 use Rattle.request.specs.Request.{Request, asked}
-use Rattle.ranking.proofs.Answering.{refused-run, let-run}
+use Rattle.ranking.proofs.Answering.{refused-run, let-in, let-run}
 use Rattle.ranking.proofs.skipping.run.Statement.{statement}
 use Rattle.ranking.proofs.skipping.run.Tie as tie
 
@@ -21,7 +20,10 @@ returns c =
     refused-run (request a) (rows (a .args .documents .now) (a .args .scores .now)) (r .refusal .ensures) (c .if1 .taken)
 
 answer-requires : tie.Need-answer-requires
-answer-requires c κs = let e = c .before .before in sym (e .before .refusal .ensures) ∙ e .if1 .left
+answer-requires c κs =
+    let e = c .before .before in
+    let a = e .before .before .before .before .before .before .before in
+    let-in (request a) (e .before .refusal .ensures) (e .if1 .left)
 
 same-length : tie.Need-same-length
 same-length c = search needs
@@ -35,7 +37,8 @@ returns-2 c =
     let e = p .before .before .before in
     let r = e .before in
     let a = r .before .before .before .before .before .before in
-    let-run (request a) (sym (r .refusal .ensures) ∙ e .if1 .left) (p .answer .ensures)
+    let l = p .answer .last .1 .1 .1 .1 .1 .1 .1 in
+    let-run (request a) (let-in (request a) (r .refusal .ensures) (e .if1 .left)) {old = rows (a .args .documents .now) (a .args .scores .now)} {new = rows (l .0) (l .1 .0)} (p .answer .ensures)
 
 pub run-spec : {M : Type 1} → statement M
 run-spec = tie.close (tie.spec refusal-requires returns answer-requires same-length same-length-2 returns-2)
