@@ -49,25 +49,35 @@ fn time_runs(options: &Options) -> Result<Vec<RunRow>, String> {
             measure::runs(&files[&(lists, small)], &row.shape, &mut row.times);
         }
     }
+    share_checks(&mut rows);
     Ok(rows)
 }
 
-/// The check of each large file that was run on: the least time over all of its rows.
-fn checks_of(rows: &[RunRow]) -> Vec<CheckRow> {
-    let mut checks = Vec::new();
-    for lists in LISTS {
-        let of_file: Vec<&RunRow> = rows
-            .iter()
-            .filter(|row| row.shape.lists == lists && row.shape.small.is_none())
-            .collect();
-        let mut times = Times::NONE;
-        for row in &of_file {
-            times.our_check = times.our_check.min(row.times.our_check);
-            times.rust_check = times.rust_check.min(row.times.rust_check);
-        }
-        checks.extend(of_file.first().map(|row| CheckRow { lists, postings: row.postings, times }));
+/// A ranking is a run less the check of its file. All rows of a file have its least check time, since
+/// a slow check, taken from a run that was not slow, would make the ranking look too fast.
+fn share_checks(rows: &mut [RunRow]) {
+    let mut least: HashMap<(usize, Option<usize>), (f64, f64)> = HashMap::new();
+    for RunRow { shape, times, .. } in rows.iter() {
+        let (ours, rusts) = least.entry((shape.lists, shape.small)).or_insert((f64::MAX, f64::MAX));
+        *ours = ours.min(times.our_check);
+        *rusts = rusts.min(times.rust_check);
     }
-    checks
+    for RunRow { shape, times, .. } in rows {
+        (times.our_check, times.rust_check) = least[&(shape.lists, shape.small)];
+    }
+}
+
+/// The check of each large file that was run on.
+fn checks_of(rows: &[RunRow]) -> Vec<CheckRow> {
+    let of_file = |lists| {
+        rows.iter().find(|row| row.shape.lists == lists && row.shape.small.is_none())
+    };
+    let of_row = |row: &RunRow| CheckRow {
+        lists: row.shape.lists,
+        postings: row.postings,
+        times: row.times,
+    };
+    LISTS.into_iter().filter_map(of_file).map(of_row).collect()
 }
 
 fn time_growth(options: &Options) -> Result<Vec<CheckRow>, String> {
