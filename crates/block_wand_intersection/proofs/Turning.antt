@@ -139,10 +139,10 @@ module _ (x : Query) (t : Float) {v : Intersection} {h : Held} {floats : List (L
       floats₁ = set (set floats 0 bounds) 2 scores
 
       bounds-there : boundsRow floats₁ ≡ bounds
-      bounds-there = getD-set-other (set floats 0 bounds) 2 0 scores [] (λ z. omega arith) ∙ getD-set-same floats 0 bounds [] (omega (arith, S .rows .three))
+      bounds-there = getD-set-other (set floats 0 bounds) 2 0 scores [] (λ z. omega arith) ∙ getD-set-same floats 0 bounds [] (omega (arith, S .rows .eighteen))
 
       scores-there : scoresRow floats₁ ≡ scores
-      scores-there = getD-set-same (set floats 0 bounds) 2 scores [] (omega (arith, length-set floats 0 bounds, S .rows .three))
+      scores-there = getD-set-same (set floats 0 bounds) 2 scores [] (omega (arith, length-set floats 0 bounds, S .rows .eighteen))
 
       scored-there : Scored x (h′ .places) floats₁
       scored-there = rw scores-there (K .0)
@@ -332,5 +332,5 @@ module _ (x : Query) (t : Float) {v : Intersection} {h : Held} {floats : List (L
 
   pub exits-early : {r : Turned} → r ≡ quietly v (v .doc) (cond (f32 .above (v .«max_sum») t) Window Over) → TakesTurn x t v h floats r h scored
   exits-early er =
-      let T = exits-scored x t still-stands (rw (getD-set-same floats 2 scores [] (omega (arith, S .rows .three))) (K .0)) e er in
+      let T = exits-scored x t still-stands (rw (getD-set-same floats 2 scores [] (omega (arith, S .rows .eighteen))) (K .0)) e er in
       record { stands = T .stands; next-is = ap (λ (u : Turn (InterPlace Float) Float). u .next) same-turn ∙ T .next-is; due-is = ap (λ (u : Turn (InterPlace Float) Float). u .due) same-turn ∙ T .due-is }

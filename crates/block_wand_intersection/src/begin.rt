@@ -2,6 +2,7 @@
 use crate::Intersection;
 use crate::Stage;
 use intersection_window::order::by_size;
+use slot_rows::place::Places;
 use term_scorer::score;
 use term_scorer::score::Similarity;
 use term_scorer::slot;
@@ -46,7 +47,7 @@ pub fn begin(
     caches: &[[f32; 256]; 16],
     n: usize,
     order: &mut [usize; 16],
-    places: &[[usize; 8]; 16],
+    places: &Places,
     docs: &[[u32; 128]; 16],
     freqs: &[[u32; 128]; 16],
 ) -> Intersection

@@ -5,6 +5,7 @@ mod turn;
 
 use intersection_window::leader::Candidates;
 use reports::Event;
+use slot_rows::place::Places;
 use term_scorer::Floats;
 use term_scorer::score::Similarity;
 use turn::Due;
@@ -61,7 +62,7 @@ pub fn go(
     threshold: f32,
     turns: usize,
     order: &[usize; 16],
-    places: &mut [[usize; 8]; 16],
+    places: &mut Places,
     docs: &mut [[u32; 128]; 16],
     freqs: &mut [[u32; 128]; 16],
     floats: &mut Floats,

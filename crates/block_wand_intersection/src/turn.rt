@@ -13,6 +13,7 @@ use intersection_window::window::next_window;
 use intersection_window::window::sum_rests;
 use notefile::block::TERMINATED;
 use slot_rows::place::DECODED;
+use slot_rows::place::Places;
 use term_scorer::BOUNDS;
 use term_scorer::Floats;
 use term_scorer::RESTS;
@@ -125,7 +126,7 @@ fn early_turn(
     caches: &[[f32; 256]; 16],
     threshold: f32,
     order: &[usize; 16],
-    places: &[[usize; 8]; 16],
+    places: &Places,
     docs: &[[u32; 128]; 16],
     freqs: &[[u32; 128]; 16],
     floats: &mut Floats,
@@ -160,7 +161,7 @@ fn keep_scores(
     caches: &[[f32; 256]; 16],
     leader: usize,
     scored: usize,
-    places: &[[usize; 8]; 16],
+    places: &Places,
     docs: &[[u32; 128]; 16],
     freqs: &[[u32; 128]; 16],
     scores: &mut [f32; 128],
@@ -197,7 +198,7 @@ fn window_turn(
     caches: &[[f32; 256]; 16],
     threshold: f32,
     order: &[usize; 16],
-    places: &mut [[usize; 8]; 16],
+    places: &mut Places,
     docs: &mut [[u32; 128]; 16],
     freqs: &mut [[u32; 128]; 16],
     floats: &mut Floats,
@@ -269,7 +270,7 @@ fn within_turn(
     caches: &[[f32; 256]; 16],
     threshold: f32,
     order: &[usize; 16],
-    places: &mut [[usize; 8]; 16],
+    places: &mut Places,
     docs: &mut [[u32; 128]; 16],
     freqs: &mut [[u32; 128]; 16],
     floats: &Floats,
@@ -315,7 +316,7 @@ pub fn turn(
     caches: &[[f32; 256]; 16],
     threshold: f32,
     order: &[usize; 16],
-    places: &mut [[usize; 8]; 16],
+    places: &mut Places,
     docs: &mut [[u32; 128]; 16],
     freqs: &mut [[u32; 128]; 16],
     floats: &mut Floats,

@@ -84,7 +84,7 @@ module _ {file : List ℕ} {similarity : Similarity} {lists : List (List ℕ)} {
           → Entered file similarity lists caches x h (record { slot = q; doc = doc; phase = Walk }) h′ (set floats 2 values)
       entered e values S =
           let L = lands Walk (sym (rw (ne-eqb doc TERMINATED e))) in
-          let t = R .rows .three in
+          let t = R .rows .eighteen in
           record {
             slot-is = refl;
             place-is = L .place-is (similarity .scoring);

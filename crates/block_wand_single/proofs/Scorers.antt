@@ -85,7 +85,7 @@ module _ {file : List ℕ} {lists : List (List ℕ)} {q : ℕ} {h : Held} (S : S
   -- nothing moves
   stay : MovedRow file (partAt lists q) (λ _. cursorAt (h .places) q) (getD (h .places) q []) (getD (h .places) q []) (getD (h .docs) q []) (getD (h .freqs) q [])
       (docIn file (partAt lists q) (cursorAt (h .places) q .at))
-  stay = record { place = S .place; cursor-is = λ _. refl; doc-is = refl; bound-is = λ k. (k, refl, refl) }
+  stay = record { place = S .place; cursor-is = λ _. refl; doc-is = refl; bound-is = λ k. (k, refl, refl); scores-is = λ k. (k, refl) }
 
   -- its skip reader alone
   module _ {to : Scoring → Cursor} {places′ : List (List ℕ)} (M : Shallowed file lists q to (h .places) places′) where
@@ -221,7 +221,7 @@ module _ {file : List ℕ} {similarity : Similarity} {lists : List (List ℕ)} {
     pub ready-bounded : Ready file similarity lists caches q (held places′ (h .docs) (h .freqs)) (set floats 0 bounds)
     ready-bounded =
         let l = R .rows .row 0 (omega arith) in
-        let t = R .rows .three in
+        let t = R .rows .eighteen in
         let m = R .small in
         let row : getD (set floats 0 bounds) 0 [] ≡ bounds = getD-set-same floats 0 bounds [] (omega arith) in
         record {

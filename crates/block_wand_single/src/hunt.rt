@@ -2,6 +2,7 @@
 use crate::Phase;
 use crate::Single;
 use notefile::block::TERMINATED;
+use slot_rows::place::Places;
 use term_scorer::BOUNDS;
 use term_scorer::Floats;
 use term_scorer::SCORES;
@@ -24,7 +25,7 @@ fn enter(
     single: Single,
     lists: &[[usize; 8]; 16],
     caches: &[[f32; 256]; 16],
-    places: &mut [[usize; 8]; 16],
+    places: &mut Places,
     docs: &mut [[u32; 128]; 16],
     freqs: &mut [[u32; 128]; 16],
     floats: &mut Floats,
@@ -70,7 +71,7 @@ pub fn skip(
     lists: &[[usize; 8]; 16],
     q: usize,
     end: u32,
-    places: &mut [[usize; 8]; 16],
+    places: &mut Places,
 ) -> Single
     requires { ⌜ (q < 16) × StandingIn (now file) (now lists) (now places) q ⌝ }
     ensures { λ r. ⌜ Skips (before file) (before lists) q end (before places) (after places) r ⌝ }
@@ -100,7 +101,7 @@ pub fn hunt(
     lists: &[[usize; 8]; 16],
     caches: &[[f32; 256]; 16],
     threshold: f32,
-    places: &mut [[usize; 8]; 16],
+    places: &mut Places,
     docs: &mut [[u32; 128]; 16],
     freqs: &mut [[u32; 128]; 16],
     floats: &mut Floats,

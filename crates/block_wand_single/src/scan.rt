@@ -5,6 +5,7 @@ use crate::Single;
 use crate::hunt::hunt;
 use crate::walk::walk;
 use reports::Event;
+use slot_rows::place::Places;
 use term_scorer::Floats;
 use term_scorer::SCORES;
 use term_scorer::score::Similarity;
@@ -71,7 +72,7 @@ fn stride(
     caches: &[[f32; 256]; 16],
     threshold: f32,
     turns: usize,
-    places: &mut [[usize; 8]; 16],
+    places: &mut Places,
     docs: &mut [[u32; 128]; 16],
     freqs: &mut [[u32; 128]; 16],
     floats: &mut Floats,
@@ -125,7 +126,7 @@ pub fn go(
     caches: &[[f32; 256]; 16],
     threshold: f32,
     turns: usize,
-    places: &mut [[usize; 8]; 16],
+    places: &mut Places,
     docs: &mut [[u32; 128]; 16],
     freqs: &mut [[u32; 128]; 16],
     floats: &mut Floats,

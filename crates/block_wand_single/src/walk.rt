@@ -8,6 +8,7 @@ use reports::Event;
 use slot_rows::place::BLOCK;
 use slot_rows::place::COUNT;
 use slot_rows::place::CUR;
+use slot_rows::place::Places;
 ghost use mathlib.Core.Path.{_≡_};
 ghost use mathlib.Core.List.{List};
 ghost use Prim.Native.Nat.{ℕ, min, _+_, _*_, _-_, _≤_, _<_};
@@ -84,7 +85,7 @@ fn to_place(
     q: usize,
     i: usize,
     n: usize,
-    places: &mut [[usize; 8]; 16],
+    places: &mut Places,
     docs: &[[u32; 128]; 16],
 ) -> Single
     requires { ⌜ (q < 16) × (n ≤ 128)
@@ -110,7 +111,7 @@ pub fn walk(
     lists: &[[usize; 8]; 16],
     threshold: f32,
     turns: usize,
-    places: &mut [[usize; 8]; 16],
+    places: &mut Places,
     docs: &[[u32; 128]; 16],
     values: &[f32; 128],
 ) -> Gone

@@ -22,7 +22,7 @@ use Rattle.ordering.proofs.OnRoute.{SameDoc, sorted-on-route}
 use Rattle.notefile.specs.Header.{documents}
 use Rattle.decoded.proofs.AcceptedLists.{list-ok}
 use Rattle.term_scorer.specs.Inner.Slots.{Held, SlotIn, cursorAt, listAt, partAt}
-use Rattle.term_scorer.specs.Inner.Weights.{FloatRow, Weighed}
+use Rattle.term_scorer.specs.Inner.Weights.{FloatRows, Weighed}
 use Rattle.block_wand_union.specs.Inner.Seats.{Seat, Seated, Terms, onRoute, placeIn, scorerAt, termAt}
 use Rattle.block_wand_union.specs.Inner.Runs.{Begins, Stands, placeOf}
 use Rattle.block_wand_union.specs.declared.Stage.the-variants.{Looking}
@@ -31,13 +31,14 @@ use Rattle.block_wand_union.proofs.Seats.{same-doc}
 use Rattle.block_wand_union.proofs.Runs.{place-kept, stands-kept}
 
 module _ (file : List ℕ) (lists : List (List ℕ)) (T : Terms) (h : Held) where
-  -- a scorer as its slot was opened: on its list's first posting, with the list's norms, and no block bound is known
+  -- a scorer as its slot was opened: on its list's first posting, with the list's norms; no block bound is known, and no scores are made
   pub record Fresh (s : TermScorer) : Type 0 where
     pub slot-in : s .slot < 16
     pub slot : SlotIn file lists h (s .slot)
     pub first : cursorAt (h .places) (s .slot) ≡ fresh
     pub weighed : Weighed lists (T .caches) (s .slot)
     pub unknown : getD (getD (h .places) (s .slot) []) 7 0 ≡ 0
+    pub unscored : getD (getD (h .places) (s .slot) []) 8 0 ≡ 0
     pub scorer-is : s ≡ termAt file lists (T .scoring) (h .places) (s .slot)
 
   abbrev f : TermScorer → Scorer Float
@@ -48,6 +49,7 @@ module _ (file : List ℕ) (lists : List (List ℕ)) (T : Terms) (h : Held) wher
     stand = record { slot-in = F .slot-in; slot = F .slot; doc-is = ap (λ (z : TermScorer). z .doc) (F .scorer-is) };
     weighed = F .weighed;
     bound = λ k. absurd (omega (arith, k, F .unknown));
+    scores = λ k. absurd (omega (arith, k, F .unscored));
     max-is = sym (ap (λ (z : TermScorer). z .«max_score») (F .scorer-is));
   }
 
@@ -59,12 +61,12 @@ module _ (file : List ℕ) (lists : List (List ℕ)) (T : Terms) (h : Held) wher
       let safe : Safe 128 (documents file) l fresh = record { lo = w .lo; hi = w .hi; order = w .order; in-list = omega (arith, w .in-list); edge = λ z. absurd (omega arith) } in
       record { ok = ok; safe = subst (Safe 128 (documents file) l) (sym (F .first)) safe }
 
-  module _ (l : List TermScorer) (a : All Fresh l) (apart : Apart l) (row : FloatRow (T .bounds)) where
+  module _ (l : List TermScorer) (a : All Fresh l) (apart : Apart l) (rows : FloatRows (T .floats)) where
     seats : All (Seat file lists T h) l
     seats = all-imp Fresh (Seat file lists T h) l fresh-seat a
 
     in-order : Seated file lists T h (sortBy byDoc l)
-    in-order = record { seats = kept-all (Seat file lists T h) (sort-kept byDoc l) seats; apart = kept-apart (sort-kept byDoc l) apart; row = row }
+    in-order = record { seats = kept-all (Seat file lists T h) (sort-kept byDoc l) seats; apart = kept-apart (sort-kept byDoc l) apart; rows = rows }
 
     -- the order is the route's
     first-is : placeIn file lists (T .scoring) (h .places) Looking (sortBy byDoc l) ≡ pivotRoute 128 f32 (onRoute file lists (T .scoring) h l) .first

@@ -4,7 +4,7 @@ use mathlib.Core.Path.{ap, refl, subst, sym, _∙_, _≡_}
 use Prim.Native.Nat.{ℕ, _+_, _<_, _≤_}
 use native.Mathlib.Numerals.{add-one}
 use native.Mathlib.Omega.{arith}
-use lib.ListN.{getD, length, length-set, length-take, take}
+use lib.ListN.{getD, length, length-take, set, take}
 use lib.Seq.{drop-cons, getD-take, set-getD, take-suc}
 use lib.Ieee.{Float}
 use Rattle.arrays.specs.Every.{All}
@@ -19,10 +19,10 @@ use Rattle.ordering.proofs.Places.{all-at, map-append}
 use Rattle.ordering.proofs.Turns.{replaced-all}
 use Rattle.ordering.proofs.Moving.{moves-on-doc, moving}
 use Rattle.term_scorer.specs.Inner.Slots.{cursorAt, held, listAt, Shallowed}
-use Rattle.term_scorer.specs.Inner.Weights.{Bounded, FloatRow}
+use Rattle.term_scorer.specs.Inner.Weights.{Bounded, FloatRows}
 use Rattle.block_wand_union.specs.Inner.Seats.{Seat, Terms, scorerAt, terms}
 use Rattle.block_wand_union.specs.Inner.Moves.{BlocksSought}
-use Rattle.block_wand_union.proofs.Seats.{bound-here, bounded-seat, other-scorers, other-seat, shallow-scorer}
+use Rattle.block_wand_union.proofs.Seats.{bound-here, bounded-rows, bounded-seat, other-scorers, other-seat, shallow-scorer}
 
 -- one value more
 pub sum-snoc : (xs : List Float) (acc x : Float) → sumFrom f32 acc (xs ++ (x ∷ [])) ≡ f32 .add (sumFrom f32 acc xs) x
@@ -33,46 +33,46 @@ module _ (file : List ℕ) (lists : List (List ℕ)) (T : Terms) (places docs fr
   abbrev f : TermScorer → Scorer Float
   f = scorerAt file lists (T .scoring) places
 
-  abbrev with : List Float → Terms
-  with bounds = terms (T .scoring) (T .caches) bounds
+  abbrev with : List (List Float) → Terms
+  with floats = terms (T .scoring) (T .caches) floats
 
   -- the first i have sought, and the bounds of their blocks are added up
-  pub record Bounding (i : ℕ) (places′ : List (List ℕ)) (bounds′ : List Float) (sum : Float) : Type 0 where
-    pub seats : All (Seat file lists (with bounds′) (held places′ docs freqs)) l
+  pub record Bounding (i : ℕ) (places′ : List (List ℕ)) (floats′ : List (List Float)) (sum : Float) : Type 0 where
+    pub seats : All (Seat file lists (with floats′) (held places′ docs freqs)) l
     pub moved : Moving (seekBlock 128 doc) f l i (scorerAt file lists (T .scoring) places′) l
     pub sum-is : sum ≡ sumFrom f32 (f32 .nil) (map (blockMaxScore 128 f32) (map (seekBlock 128 doc) (map f (take i l))))
-    pub row : FloatRow bounds′
+    pub rows : FloatRows floats′
 
-  pub bounding : All (Seat file lists T (held places docs freqs)) l → FloatRow (T .bounds) → Bounding 0 places (T .bounds) (f32 .nil)
-  bounding a n = record { seats = a; moved = moving (seekBlock 128 doc) f l; sum-is = refl; row = n }
+  pub bounding : All (Seat file lists T (held places docs freqs)) l → FloatRows (T .floats) → Bounding 0 places (T .floats) (f32 .nil)
+  bounding a n = record { seats = a; moved = moving (seekBlock 128 doc) f l; sum-is = refl; rows = n }
 
-  module _ {i : ℕ} {places′ : List (List ℕ)} {bounds′ : List Float} {sum : Float} (S : Bounding i places′ bounds′ sum) where
-    pub seat-at : (inside : i < length l) → Seat file lists (with bounds′) (held places′ docs freqs) (getD l i noScorer)
-    seat-at inside = all-at (Seat file lists (with bounds′) (held places′ docs freqs)) l i noScorer inside (S .seats)
+  module _ {i : ℕ} {places′ : List (List ℕ)} {floats′ : List (List Float)} {sum : Float} (S : Bounding i places′ floats′ sum) where
+    pub seat-at : (inside : i < length l) → Seat file lists (with floats′) (held places′ docs freqs) (getD l i noScorer)
+    seat-at inside = all-at (Seat file lists (with floats′) (held places′ docs freqs)) l i noScorer inside (S .seats)
 
     pub bounds-next : i < length l → Apart l → (q₀ : ℕ) → getD l i noScorer .slot ≡ q₀ → {places₁ places₂ : List (List ℕ)} {bounds₂ : List Float} {r : Float}
         → Shallowed file lists q₀ (λ k. seekBlockIn (listAt k file lists q₀) 128 doc (cursorAt places′ q₀)) places′ places₁
-        → Bounded (T .scoring) file lists q₀ places₁ bounds′ places₂ bounds₂ r → Bounding (i + 1) places₂ bounds₂ (f32 .add sum r)
+        → Bounded (T .scoring) file lists q₀ places₁ (getD floats′ 0 []) places₂ bounds₂ r → Bounding (i + 1) places₂ (set floats′ 0 bounds₂) (f32 .add sum r)
     bounds-next inside apart q₀ e {places₁} {places₂} {bounds₂} {r} M₀ B₀ =
         let x = getD l i noScorer in
         let q = x .slot in
         let to : Scoring → Cursor = λ k. seekBlockIn (listAt k file lists q) 128 doc (cursorAt places′ q) in
         let M : Shallowed file lists q to places′ places₁ =
         subst (λ (z : ℕ). Shallowed file lists z (λ k. seekBlockIn (listAt k file lists z) 128 doc (cursorAt places′ z)) places′ places₁) (sym e) M₀ in
-        let B : Bounded (T .scoring) file lists q places₁ bounds′ places₂ bounds₂ r = subst (λ (z : ℕ). Bounded (T .scoring) file lists z places₁ bounds′ places₂ bounds₂ r) (sym e) B₀ in
+        let B : Bounded (T .scoring) file lists q places₁ (getD floats′ 0 []) places₂ bounds₂ r = subst (λ (z : ℕ). Bounded (T .scoring) file lists z places₁ (getD floats′ 0 []) places₂ bounds₂ r) (sym e) B₀ in
         let X = seat-at inside in
         let g = scorerAt file lists (T .scoring) places′ in
         let here : g x ≡ f x = rw (drop-cons l i noScorer inside) at (S .moved .same) .0 in
         let sought : Scorer Float = seekBlock 128 doc (f x) in
         record {
           seats = rw (set-getD l i noScorer) at
-              (replaced-all l i x inside apart (Seat file lists (with bounds′) (held places′ docs freqs)) (Seat file lists (with bounds₂) (held places₂ docs freqs))
-              (other-seat file lists x docs freqs M (with bounds′) B X (S .row)) (bounded-seat file lists x docs freqs M (with bounds′) B X (S .row)) (S .seats));
+              (replaced-all l i x inside apart (Seat file lists (with floats′) (held places′ docs freqs)) (Seat file lists (with (set floats′ 0 bounds₂)) (held places₂ docs freqs))
+              (other-seat file lists x docs freqs M (with floats′) B X (S .rows)) (bounded-seat file lists x docs freqs M (with floats′) B X (S .rows)) (S .seats));
           moved = moves-on-doc (seekBlock 128 doc) f l (S .moved) (scorerAt file lists (T .scoring) places₂) inside apart
-              (other-scorers file lists x docs freqs M (with bounds′) B X (S .row)) (shallow-scorer file lists x docs freqs M (with bounds′) B X (S .row));
+              (other-scorers file lists x docs freqs M (with floats′) B X (S .rows)) (shallow-scorer file lists x docs freqs M (with floats′) B X (S .rows));
           sum-is =
               ap (λ (z : Float). f32 .add z r) (S .sum-is) ∙ ap (f32 .add (sumFrom f32 (f32 .nil) (map (blockMaxScore 128 f32) (map (seekBlock 128 doc) (map f (take i l))))))
-              (bound-here file lists x docs freqs M (with bounds′) B X (S .row) ∙ ap (λ (z : Scorer Float). blockMaxScore 128 f32 (seekBlock 128 doc z)) here)
+              (bound-here file lists x docs freqs M (with floats′) B X (S .rows) ∙ ap (λ (z : Scorer Float). blockMaxScore 128 f32 (seekBlock 128 doc z)) here)
               ∙ sym (sum-snoc (map (blockMaxScore 128 f32) (map (seekBlock 128 doc) (map f (take i l)))) (f32 .nil) (blockMaxScore 128 f32 sought))
               ∙ sym (rw (
                 add-one,
@@ -81,13 +81,13 @@ module _ (file : List ℕ) (lists : List (List ℕ)) (T : Terms) (places docs fr
                 map-append (seekBlock 128 doc) (map f (take i l)) (f x ∷ []),
                 map-append (blockMaxScore 128 f32) (map (seekBlock 128 doc) (map f (take i l))) (sought ∷ []),
               ));
-          row = ap length (B .bounds-are) ∙ length-set bounds′ q r ∙ S .row;
+          rows = bounded-rows file lists x docs freqs M (with floats′) B X (S .rows);
         }
 
-    pub bounded : (len : ℕ) → i ≡ len → BlocksSought file lists T (held places docs freqs) doc len (held places′ docs freqs) bounds′ sum l
+    pub bounded : (len : ℕ) → i ≡ len → BlocksSought file lists T (held places docs freqs) doc len (held places′ docs freqs) floats′ sum l
     bounded len e = record {
       seats = S .seats;
       moving = rw e at (S .moved);
       sum-is = S .sum-is ∙ ap (λ z. sumFrom f32 (f32 .nil) (map (blockMaxScore 128 f32) z)) (sym (S .moved .front)) ∙ rw e;
-      row = S .row;
+      rows = S .rows;
     }

@@ -7,5 +7,6 @@ pub mod Alignments
 pub mod Advances
 pub mod OnPivots
 pub mod Steps
+pub mod Unmoved
 pub mod Runs
 pub mod Begins

@@ -11,13 +11,14 @@ use lib.Ieee.{Float}
 use Rattle.arrays.specs.Every.{All}
 use Rattle.route.specs.Score.{sum}
 use Rattle.route.specs.F32.{f32}
+use Rattle.route.specs.Cursor.{Cursor}
 use Rattle.route.specs.Postings.{TERMINATED}
 use Rattle.route.specs.Scorer.{Scorer, docOf, scoreHere, seek}
 use Rattle.route.specs.Union.{UnionPlace, goOn}
 use Rattle.route.specs.Route.{Turn, loadsBack}
 use Rattle.route.specs.Inner.Unions.{SafeS}
 use Rattle.route.proofs.Cases.{lt-of-ne}
-use Rattle.route.proofs.Lists.{all-append, all-map, all-zip}
+use Rattle.route.proofs.Lists.{all-append, all-imp, all-map, all-zip}
 use Rattle.route.proofs.Places.{docAt-cap}
 use Rattle.route.proofs.Union.Pivot.{AlignIs, align-is}
 use Rattle.route.proofs.Union.Safe.{inside, safe-seek}
@@ -33,15 +34,17 @@ use Rattle.notefile.specs.Lists.{fullBlocks}
 use Rattle.decoded.specs.Lists.{listOf}
 use Rattle.decoded.proofs.AcceptedLists.{list-ok}
 use Rattle.term_scorer.specs.Inner.Slots.{cursorAt, Held, listAt, partAt, Sixteen}
-use Rattle.block_wand_union.specs.Inner.Seats.{Inside, Lined, OnDocument, Seat, Stand, Terms, scorerAt, slotScorer, termAt, termsOf}
+use Rattle.block_wand_union.specs.Inner.Seats.{Inside, OnDocument, Seat, Seated, Stand, Terms, Unmoved, placeIn, scorerAt, slotScorer, stageOf, termAt, terms, termsOf}
 use Rattle.block_wand_union.specs.Inner.Moves.{AdvancedAll, AlignedBy, Aligns, OnPivot, PastPivot}
 use Rattle.block_wand_union.specs.Inner.Turns.{AtPivot, Does, Hit, Pivoted, quietStep}
+use Rattle.block_wand_union.specs.declared.Stage.{Stage}
 use Rattle.block_wand_union.specs.declared.Stage.the-variants.{Called, Looking}
 use Rattle.block_wand_union.specs.declared.align.Alignment.{Alignment}
 use Rattle.block_wand_union.specs.declared.turn.Span.{Span}
 use Rattle.block_wand_union.specs.declared.turn.Step.{Step}
-use Rattle.block_wand_union.proofs.Seats.{carried-refl, carried-trans, same-doc, seats-stand}
-use Rattle.block_wand_union.proofs.Slots.{all-unmap, map-map}
+use Rattle.block_wand_union.proofs.Seats.{same-doc, seats-stand, still-seated}
+use Rattle.block_wand_union.proofs.Slots.{all-unmap, map-map, tops-kept}
+use Rattle.block_wand_union.proofs.Unmoved.{scorers-unmoved, seated-unmoved, terms-unmoved}
 
 full-is : (scoring : Scoring) (file : List ℕ) (lists : List (List ℕ)) (q : ℕ) → listAt scoring file lists q .full ≡ fullBlocks (partAt lists q)
 unfolding listOf
@@ -71,6 +74,16 @@ module _ (file : List ℕ) (lists : List (List ℕ)) where
       → docOf (scorerAt file lists scoring (h .places) s) < TERMINATED → Inside lists h (s .slot)
   inside-on scoring h s k d = rw (full-is scoring file lists (s .slot)) at (inside 128 (documents file) (scorerAt file lists scoring (h .places) s) k d .0)
 
+-- a scorer that is seated is so as the scorer of its slot
+own-seat : (file : List ℕ) (lists : List (List ℕ)) (T : Terms) (h : Held) (s : TermScorer) → Seat file lists T h s → Seat file lists T h (termAt file lists (T .scoring) (h .places) (s .slot))
+own-seat file lists T h s S = record {
+  stand = record { slot-in = S .stand .slot-in; slot = S .stand .slot; doc-is = refl };
+  weighed = S .weighed;
+  bound = S .bound;
+  scores = S .scores;
+  max-is = refl;
+}
+
 module _ {file : List ℕ} {lists : List (List ℕ)} {T : Terms} {h : Held} {at : Span} (order : List ℕ) (n : ℕ)
     (A : AtPivot file lists T h (termsOf file lists (T .scoring) (h .places) (take n order)) at) where
   abbrev l : List TermScorer
@@ -96,6 +109,9 @@ module _ {file : List ℕ} {lists : List (List ℕ)} {T : Terms} {h : Held} {at 
 
   pub pivot-low : p < TERMINATED
   pivot-low = found-low file lists h stands-at (A .found)
+
+  abbrev OnDocumentBy : Held → TermScorer → Type 0
+  OnDocumentBy k s = OnDocument file lists T k (s .slot)
 
   -- a scorer on the pivot, safe on the route
   abbrev OnIt : Scorer Float → Type 0
@@ -144,28 +160,30 @@ module _ {file : List ℕ} {lists : List (List ℕ)} {T : Terms} {h : Held} {at 
     on-it = all-unmap OnIt g (take len l′) (rw whole at (all-append OnIt (map g (take before l′)) (map g (drop before (take len l′))) came were))
 
     -- so they are on a document
-    pub on-document : len ≤ n → All (OnDocument file lists (T .caches) h′ p) (take len (take n order′))
+    pub on-document : len ≤ n → All (OnDocument file lists T h′) (take len (take n order′))
     on-document few =
         let low = pivot-low in
         let cut : take len l′ ≡ termsOf file lists (T .scoring) (h′ .places) (take len (take n order′)) = sym (map-take (termAt file lists (T .scoring) (h′ .places)) len (take n order′)) in
-        all-unmap (λ s. OnDocument file lists (T .caches) h′ p (s .slot)) (termAt file lists (T .scoring) (h′ .places)) (take len (take n order′))
+        all-unmap (OnDocumentBy h′) (termAt file lists (T .scoring) (h′ .places)) (take len (take n order′))
         (rw cut at
-        (all-zip (Seat file lists T h′) (λ s. OnIt (g s)) (λ s. OnDocument file lists (T .caches) h′ p (s .slot))
+        (all-zip (Seat file lists T h′) (λ s. OnIt (g s)) (OnDocumentBy h′)
         (λ s S o. record {
-          slot-in = S .stand .slot-in;
-          slot = S .stand .slot;
-          weighed = S .weighed;
-          on = sym (o .0) ∙ same-doc file lists (T .scoring) h′ s (S .stand) ∙ S .stand .doc-is;
+          seat = own-seat file lists T h′ s S;
+          live = omega (arith, o .0, same-doc file lists (T .scoring) h′ s (S .stand), S .stand .doc-is);
           inside = inside-on file lists (T .scoring) h′ s (o .1) (omega (arith, o .0));
         })
         (take len l′) (all-take (Seat file lists T h′) len l′ (O .carried .seats T (A .seated .seats))) on-it))
 
     -- what a hit leaves, at threshold t
-    pub on-hit : {t : Float} {h″ : Held} {order″ : List ℕ} {r : Step} → Hit file lists (T .scoring) t h′ order′ n len p h″ order″ r → Pivoted file lists (T .scoring) t h order n at h″ order″ r
-    on-hit {t} {h″} {order″} {r} D =
+    pub on-hit : {t : Float} {h″ : Held} {order″ : List ℕ} {floats″ : List (List Float)} {r : Step} → Hit file lists T t h′ order′ n len p h″ order″ floats″ r
+        → Pivoted file lists T t h order n at h″ order″ floats″ r
+    on-hit {t} {h″} {order″} {r = r} D =
         let k = first in
         record {
-          carried = carried-trans file lists (O .carried) (D .carried);
+          left = record {
+            seated = D .left .seated;
+            topped = λ tops a. D .left .topped tops (tops-kept file lists (T .scoring) h h′ (take n order) (take n order′) (O .carried) tops a);
+          };
           does = subst (λ (u : Turn (UnionPlace Float) Float). Does file lists (T .scoring) u h″ order″ r)
               (sym (after-hit 128 t l before len p (omega arith) f g l′ (O .aligned-are (T .scoring)) (O .rest-are (T .scoring))))
               (D .does (loadsBack (map f (take before l)) (map g (take before l′))));
@@ -175,56 +193,80 @@ module _ {file : List ℕ} {lists : List (List ℕ)} {T : Terms} {h : Held} {at 
 
   -- what a miss leaves
   pub miss : (t : Float) {h′ : Held} {order′ : List ℕ} (k : ℕ) → PastPivot file lists p h l before h′ (termsOf file lists (T .scoring) (h′ .places) (take k order′)) → k ≤ n → Sixteen order′
-      → Pivoted file lists (T .scoring) t h order n at h′ order′ (quietStep k Looking)
-  miss t k P few long =
+      → Pivoted file lists T t h order n at h′ order′ (T .floats) (quietStep k Looking)
+  miss t {h′} {order′} k P few long =
       let z = first in
       let m = P .missed-is (T .scoring) in
       let e = after-miss 128 t l before len p (omega arith) f (m .0) (m .1) in
       record {
-        carried = P .carried;
+        left = record {
+          seated = still-seated file lists (A .seated) (P .carried);
+          topped = tops-kept file lists (T .scoring) h h′ (take n order) (take k order′) (P .carried);
+        };
         does = record { next-is = ap (λ u. u .next) e ∙ ap (λ ss. goOn ss) (sym (m .2)); due-is = ap (λ u. u .due) e };
         few = few;
         long = long;
       }
 
--- the scorers on the pivot are scored
-module _ (file : List ℕ) (lists : List (List ℕ)) (scoring : Scoring) (t : Float) (h : Held) (order : List ℕ) (n len p : ℕ) (few : len ≤ n) {score : Float}
-    (e : score ≡ sum f32 (map scoreHere (map (slotScorer file lists scoring (h .places)) (take len order)))) where
+-- scorers on documents can still advance
+pub inside-unmoved : {file : List ℕ} {lists : List (List ℕ)} {scoring : Scoring} {caches : List (List Float)} {floats floats′ : List (List Float)} {h h′ : Held}
+    → Unmoved file lists scoring caches floats h floats′ h′ → (qs : List ℕ) → All (OnDocument file lists (terms scoring caches floats) h) qs → All (Inside lists h′) qs
+inside-unmoved {file} {lists} {scoring} {caches} {floats} {h = h} {h′ = h′} U qs a =
+    all-imp (OnDocument file lists (terms scoring caches floats) h) (Inside lists h′) qs
+    (λ q o. rw (ap (λ (c : Cursor). c .blk) (U .cursor-is q)) (o .inside)) a
+
+-- the scorers on the pivot are scored, and stay
+module _ (file : List ℕ) (lists : List (List ℕ)) (T : Terms) (t : Float) (h : Held) (order : List ℕ) (n len p : ℕ) (few : len ≤ n) {score : Float}
+    (e : score ≡ sum f32 (map scoreHere (map (slotScorer file lists (T .scoring) (h .places)) (take len order))))
+    {h₁ : Held} {floats₁ : List (List Float)} (U : Unmoved file lists (T .scoring) (T .caches) (T .floats) h floats₁ h₁)
+    (S : Seated file lists T h (termsOf file lists (T .scoring) (h .places) (take n order))) where
   abbrev at-route : TermScorer → Scorer Float
-  at-route = scorerAt file lists scoring (h .places)
+  at-route = scorerAt file lists (T .scoring) (h .places)
 
   abbrev all : List TermScorer
-  all = termsOf file lists scoring (h .places) (take n order)
+  all = termsOf file lists (T .scoring) (h .places) (take n order)
 
   score-is : score ≡ sum f32 (map scoreHere (map at-route (take len all)))
   score-is =
-      let term = termAt file lists scoring (h .places) in
-      e ∙ ap (λ z. sum f32 (map scoreHere (map (slotScorer file lists scoring (h .places)) z))) (sym (take-take len n order few))
+      let term = termAt file lists (T .scoring) (h .places) in
+      e ∙ ap (λ z. sum f32 (map scoreHere (map (slotScorer file lists (T .scoring) (h .places)) z))) (sym (take-take len n order few))
       ∙ ap (λ z. sum f32 (map scoreHere z)) (sym (map-map at-route term (take len (take n order))) ∙ ap (map at-route) (map-take term len (take n order)))
 
-  -- a report is due, and they stay
-  pub hit-due : f32 .above score t ≡ true → n ≤ 16 → Sixteen order → Lined file lists h (take n order)
-      → Hit file lists scoring t h order n len p h order (record { union = record { len = n; stage = Called len }; due = true; doc = p; score = score })
-  hit-due q small long L = record {
-    carried = carried-refl file lists h all (L .apart scoring) (L .stands scoring);
+  pub seated₁ : Seated file lists (terms (T .scoring) (T .caches) floats₁) h₁ (termsOf file lists (T .scoring) (h₁ .places) (take n order))
+  seated₁ = seated-unmoved U (take n order) S
+
+  place-same : (stage : Stage) → placeIn file lists (T .scoring) (h .places) stage all ≡ placeIn file lists (T .scoring) (h₁ .places) stage (termsOf file lists (T .scoring) (h₁ .places) (take n order))
+  place-same stage = ap (λ z. record { stage = stageOf stage; scorers = z }) (sym (rw (terms-unmoved U (take n order)) (scorers-unmoved U all)))
+
+  -- a report is due
+  pub hit-due : f32 .above score t ≡ true → n ≤ 16 → Sixteen order
+      → Hit file lists T t h order n len p h₁ order floats₁ (record { union = record { len = n; stage = Called len }; due = true; doc = p; score = score })
+  hit-due q small long = record {
+    left = record { seated = seated₁; topped = λ _ a. a };
     does = λ ls.
-        let d = scored-due 128 t p ls at-route all len (omega (arith, length-map (take n order) (termAt file lists scoring (h .places)), length-take n order)) (rw score-is at q) in
-        record { next-is = ap (λ u. u .next) d; due-is = ap (λ u. u .due) d ∙ ap (λ (x : Float). some (record { doc = p; score = x })) (sym score-is) };
+        let d = scored-due 128 t p ls at-route all len (omega (arith, length-map (take n order) (termAt file lists (T .scoring) (h .places)), length-take n order)) (rw score-is at q) in
+        record { next-is = ap (λ u. u .next) d ∙ place-same (Called len); due-is = ap (λ u. u .due) d ∙ ap (λ (x : Float). some (record { doc = p; score = x })) (sym score-is) };
     few = omega arith;
     long = long;
   }
 
   -- none is due, and they have advanced
-  pub hit-quiet : f32 .above score t ≡ false → {h′ : Held} {order′ : List ℕ} {k : ℕ} → AdvancedAll file lists h order n len h′ order′ k
-      → Hit file lists scoring t h order n len p h′ order′ (quietStep k Looking)
-  hit-quiet q D = record {
-    carried = D .on scoring .carried;
-    does = λ ls.
-        let d = scored-quiet 128 t p ls at-route all len (rw score-is at q) in
-        record { next-is = ap (λ u. u .next) d ∙ ap (λ ss. goOn ss) (sym (D .on scoring .scorers-are)); due-is = ap (λ u. u .due) d };
-    few = D .few;
-    long = D .long;
-  }
+  pub hit-quiet : f32 .above score t ≡ false → {h′ : Held} {order′ : List ℕ} {k : ℕ} → AdvancedAll file lists h₁ order n len h′ order′ k
+      → Hit file lists T t h order n len p h′ order′ floats₁ (quietStep k Looking)
+  hit-quiet q {h′} {order′} {k} D =
+      let A = D .on (T .scoring) in
+      let e = rw (terms-unmoved U (take n order), scorers-unmoved U (take len all), scorers-unmoved U (drop len all)) at (A .scorers-are) in
+      record {
+        left = record {
+          seated = still-seated file lists seated₁ (A .carried);
+          topped = tops-kept file lists (T .scoring) h₁ h′ (take n order) (take k order′) (A .carried);
+        };
+        does = λ ls.
+            let d = scored-quiet 128 t p ls at-route all len (rw score-is at q) in
+            record { next-is = ap (λ u. u .next) d ∙ ap (λ ss. goOn ss) (sym e); due-is = ap (λ u. u .due) d };
+        few = D .few;
+        long = D .long;
+      }
 
 -- `align_scorers`' answer
 module _ {file : List ℕ} {lists : List (List ℕ)} {p : ℕ} {h h′ : Held} {order order′ : List ℕ} {n before : ℕ} {r : Alignment} (E : Aligns file lists p h order n before h′ order′ r) (s : Scoring) where

@@ -99,20 +99,20 @@ module _ {file : List ℕ} {lists : List (List ℕ)} {T : Terms} {h : Held} {l :
 
 -- from where a run stood, so many turns were taken, none with a report
 pub record OnWay (file : List ℕ) (lists : List (List ℕ)) (scoring : Scoring) (caches : List (List Float)) (t : Float) (tops : List Float) (from : UnionPlace Float) (turns : ℕ)
-    (h : Held) (bounds : List Float) (u : Union) (order : List ℕ) (taken : ℕ) : Type 0 where
+    (h : Held) (floats : List (List Float)) (u : Union) (order : List ℕ) (taken : ℕ) : Type 0 where
   pub quietly : Quietly (unionTurn 128 f32) unionEnded t from taken (placeOf file lists scoring u order (h .places))
-  pub stands : Stands file lists (terms scoring caches bounds) u order h
+  pub stands : Stands file lists (terms scoring caches floats) u order h
   pub topped : All (TopIs file lists scoring tops) (take (u .len) order)
   pub within : taken ≤ turns
 
 -- no turn yet
-pub begun : {file : List ℕ} {lists : List (List ℕ)} {scoring : Scoring} {caches : List (List Float)} {bounds : List Float} (t : Float) {tops : List Float} {h : Held} (u : Union) (order : List ℕ) (turns : ℕ)
-    → Stands file lists (terms scoring caches bounds) u order h → All (TopIs file lists scoring tops) (take (u .len) order)
-    → OnWay file lists scoring caches t tops (placeOf file lists scoring u order (h .places)) turns h bounds u order 0
+pub begun : {file : List ℕ} {lists : List (List ℕ)} {scoring : Scoring} {caches : List (List Float)} {floats : List (List Float)} (t : Float) {tops : List Float} {h : Held} (u : Union) (order : List ℕ) (turns : ℕ)
+    → Stands file lists (terms scoring caches floats) u order h → All (TopIs file lists scoring tops) (take (u .len) order)
+    → OnWay file lists scoring caches t tops (placeOf file lists scoring u order (h .places)) turns h floats u order 0
 begun t u order turns S a = record { quietly = none-yet (unionTurn 128 f32) unionEnded t _; stands = S; topped = a; within = omega arith }
 
 module _ {file : List ℕ} {lists : List (List ℕ)} {scoring : Scoring} {caches : List (List Float)} {t : Float} {tops : List Float} {from : UnionPlace Float} {turns : ℕ}
-    {h : Held} {bounds : List Float} {u : Union} {order : List ℕ} {taken : ℕ} (S : OnWay file lists scoring caches t tops from turns h bounds u order taken) where
+    {h : Held} {floats : List (List Float)} {u : Union} {order : List ℕ} {taken : ℕ} (S : OnWay file lists scoring caches t tops from turns h floats u order taken) where
   -- its three ends: at the route's, after all turns that were allowed, and at a report
   pub over : isOver (stageOf (u .stage)) ≡ true → Went (unionTurn 128 f32) unionEnded t from turns taken (placeOf file lists scoring u order (h .places)) event.Over
   over e = at-end (unionTurn 128 f32) unionEnded t (S .quietly) (S .within) e
@@ -121,8 +121,8 @@ module _ {file : List ℕ} {lists : List (List ℕ)} {scoring : Scoring} {caches
     pub paused : taken ≡ turns → Went (unionTurn 128 f32) unionEnded t from turns taken (placeOf file lists scoring u order (h .places)) event.Paused
     paused e = rw (sym e) (at-pause (unionTurn 128 f32) unionEnded t (S .quietly) on)
 
-    module _ (room : taken < turns) {h′ : Held} {order′ : List ℕ} {bounds′ : List Float} {r : Step}
-        (D : Turned file lists (terms scoring caches bounds) t (u .stage) h order (u .len) h′ order′ bounds′ r) where
+    module _ (room : taken < turns) {h′ : Held} {order′ : List ℕ} {floats′ : List (List Float)} {r : Step}
+        (D : Turned file lists (terms scoring caches floats) t (u .stage) h order (u .len) h′ order′ floats′ r) where
       next-is : unionTurn 128 f32 t (placeOf file lists scoring u order (h .places)) .next ≡ placeOf file lists scoring (r .union) order′ (h′ .places)
       next-is =
           sym (ap (λ z. unionTurn 128 f32 t z .next) (place-is file lists scoring (h .places) u order)) ∙ D .does .next-is ∙ place-is file lists scoring (h′ .places) (r .union) order′
@@ -131,23 +131,23 @@ module _ {file : List ℕ} {lists : List (List ℕ)} {scoring : Scoring} {caches
       due-is = sym (ap (λ z. unionTurn 128 f32 t z .due) (place-is file lists scoring (h .places) u order)) ∙ D .does .due-is
 
       -- a turn leaves a run that can go on
-      pub stands-on : Stands file lists (terms scoring caches bounds′) (r .union) order′ h′
+      pub stands-on : Stands file lists (terms scoring caches floats′) (r .union) order′ h′
       stands-on =
           let a = D .few in
           let b = S .stands .few in
           record {
             few = omega arith;
             room = D .long;
-            seated = D .seated;
+            seated = D .left .seated;
             kept = rw next-is at (union-nears 128 (documents file) f32 [] tt .nears t (placeOf file lists scoring u order (h .places)) on (S .stands .kept) .0);
           }
 
       -- a turn without a report
-      pub quiet-turn : r .due ≡ false → OnWay file lists scoring caches t tops from turns h′ bounds′ (r .union) order′ (taken + 1)
+      pub quiet-turn : r .due ≡ false → OnWay file lists scoring caches t tops from turns h′ floats′ (r .union) order′ (taken + 1)
       quiet-turn e = record {
         quietly = rw add-one (one-more (unionTurn 128 f32) unionEnded t (S .quietly) on (due-is ∙ rw e) next-is);
         stands = stands-on;
-        topped = D .topped tops (S .topped);
+        topped = D .left .topped tops (S .topped);
         within = omega arith;
       }
 

@@ -1,7 +1,7 @@
 -- A move of one slot's scorer, seen from all the scorers of a union: the others stand as before, and the route's scorers with them.
 use mathlib.Core.List.{List, [], _∷_}
 use mathlib.Core.Path.{ap, refl, sym, _∙_, _≡_}
-use Prim.Native.Nat.{ℕ, _<_}
+use Prim.Native.Nat.{ℕ, _+_, _<_}
 use native.Mathlib.Omega.{arith}
 use lib.ListN.{drop, getD, length, length-set, set, take, take-append-drop}
 use lib.Seq.{getD-set-other, getD-set-same, set-getD}
@@ -19,13 +19,13 @@ use Rattle.ordering.proofs.Kept.{Kept, Off, kept-all, kept-apart, slots-all, sl
 use Rattle.ordering.proofs.OnRoute.{Fair, SameDoc}
 use Rattle.ordering.proofs.Places.{all-at}
 use Rattle.ordering.proofs.Turns.{SameOff, replaced-all, replaced-slots}
-use Rattle.notefile.specs.declared.part.Part.{Part}
 use Rattle.skip_reader.specs.Inner.Decoded.{docIn, doc-is}
-use Rattle.skip_reader.specs.Inner.Reader.{readerAt}
-use Rattle.slot_rows.specs.Inner.Rows.{cursorIn, placeRow, PlaceIn, postingsIn}
+use Rattle.slot_rows.specs.Inner.Rows.{cursorIn, PlaceIn}
+use Rattle.slot_rows.proofs.Rows.{bound-in}
 use Rattle.term_scorer.specs.Inner.Slots.{cursorAt, held, Held, listAt, partAt, MovedSlot, Shallowed, Sixteen, StandingIn}
-use Rattle.term_scorer.specs.Inner.Weights.{Bounded, FloatRow}
-use Rattle.block_wand_union.specs.Inner.Seats.{Carried, MaxScoreAt, Seat, Stand, Terms, TopIs, scorerAt, terms}
+use Rattle.term_scorer.specs.Inner.Weights.{Bounded, FloatRows}
+use Rattle.term_scorer.proofs.Floats.{rows-set}
+use Rattle.block_wand_union.specs.Inner.Seats.{Carried, MaxScoreAt, Seat, Seated, Stand, Terms, TopIs, scorerAt, terms}
 
 -- ---- rows
 
@@ -48,26 +48,6 @@ AllSixteen h = Sixteen (h .places) × Sixteen (h .docs) × Sixteen (h .freqs)
 same-bound : (l : Postings Float) (c c′ : Cursor) → c′ .blk ≡ c .blk → c′ .loaded ≡ c .loaded → blockMax 128 f32 l c ≡ blockMax 128 f32 l c′
 same-bound l c c′ b k = rw (b, k)
 
--- whether the bound is known changes nothing of a place
-known-cursor : (file : List ℕ) (x : Part) (row docs freqs : List ℕ) (flag : ℕ) → PlaceIn file x row docs freqs → cursorIn (set row 7 flag) ≡ cursorIn row
-unfolding cursorIn
-known-cursor file x row docs freqs flag P =
-    let p = postingsIn file x row in
-    let e = P .standing .row-is in
-    ap (λ (z : List ℕ). cursorIn (set z 7 flag)) e ∙ sym (ap cursorIn e)
-
-known-row : (file : List ℕ) (x : Part) (row docs freqs : List ℕ) (flag : ℕ) → PlaceIn file x row docs freqs → PlaceIn file x (set row 7 flag) docs freqs
-unfolding postingsIn readerAt
-known-row file x row docs freqs flag P =
-    let p = postingsIn file x row in
-    let e = P .standing .row-is in
-    let s : set row 7 flag ≡ placeRow p flag = ap (λ (z : List ℕ). set z 7 flag) e in
-    let back : postingsIn file x (placeRow p flag) ≡ p = sym (ap (postingsIn file x) e) in
-    rw s (record {
-      standing = record { row-is = ap (λ q. placeRow q flag) (sym back); narrow = rw back (P .standing .narrow); low = P .standing .low };
-      placed = rw back (P .placed);
-    })
-
 -- the first of scorers in slots of their own
 pub first-apart : (len : ℕ) (l : List TermScorer) → Apart l → Apart (take len l)
 first-apart len l a =
@@ -83,15 +63,16 @@ module _ (file : List ℕ) (lists : List (List ℕ)) where
     doc-is = S .doc-is ∙ ap (λ (row : List ℕ). docIn file (partAt lists (s .slot)) (cursorIn row .at)) (sym (R .places));
   }
 
-  seat-same : (T : Terms) (bounds′ : List Float) (h h′ : Held) (s : TermScorer) → AllSixteen h′ → SameRows h h′ (s .slot)
-      → getD bounds′ (s .slot) nan ≡ getD (T .bounds) (s .slot) nan → Seat file lists T h s
-      → Seat file lists (terms (T .scoring) (T .caches) bounds′) h′ s
-  seat-same T bounds′ h h′ s n R e S = record {
+  seat-same : (T : Terms) (floats′ : List (List Float)) (h h′ : Held) (s : TermScorer) → AllSixteen h′ → SameRows h h′ (s .slot)
+      → getD (getD floats′ 0 []) (s .slot) nan ≡ getD (getD (T .floats) 0 []) (s .slot) nan → getD floats′ (2 + s .slot) [] ≡ getD (T .floats) (2 + s .slot) []
+      → Seat file lists T h s → Seat file lists (terms (T .scoring) (T .caches) floats′) h′ s
+  seat-same T floats′ h h′ s n R e m S = record {
     stand = stand-same h h′ s n R (S .stand);
     weighed = S .weighed;
     bound = λ k.
         e ∙ S .bound (sym (ap (λ (row : List ℕ). getD row 7 0) (R .places)) ∙ k)
         ∙ ap (λ (row : List ℕ). blockMax 128 f32 (listAt (T .scoring) file lists (s .slot)) (cursorIn row)) (sym (R .places));
+    scores = λ k. rw (m, R .places) (S .scores (sym (ap (λ (row : List ℕ). getD row 8 0) (R .places)) ∙ k));
     max-is = S .max-is;
   }
 
@@ -134,6 +115,7 @@ module _ (file : List ℕ) (lists : List (List ℕ)) where
       bound = λ k.
           let w = M .moved .bound-is k in
           S .bound (w .0) ∙ same-bound (listAt (T .scoring) file lists (s .slot)) (cursorAt (h .places) (s .slot)) (cursorAt (h′ .places) (s .slot)) (w .1) (w .2);
+      scores = λ k. let w = M .moved .scores-is k in rw (w .1) (S .scores (w .0));
       max-is = S .max-is;
     }
 
@@ -171,11 +153,22 @@ module _ (file : List ℕ) (lists : List (List ℕ)) where
           stand = record { slot-in = S .stand .slot-in; slot = Z .stand .slot; doc-is = S .stand .doc-is ∙ N .moved .doc-is };
           weighed = S .weighed;
           bound = Z .bound;
+          scores = Z .scores;
           max-is = S .max-is;
         }
 
-    module _ (T : Terms) {places₂ : List (List ℕ)} {bounds₂ : List Float} {r : Float} (B : Bounded (T .scoring) file lists (s .slot) places₁ (T .bounds) places₂ bounds₂ r)
-        (S : Seat file lists T (held places docs freqs) s) (n : FloatRow (T .bounds)) where
+    module _ (T : Terms) {places₂ : List (List ℕ)} {bounds₂ : List Float} {r : Float} (B : Bounded (T .scoring) file lists (s .slot) places₁ (getD (T .floats) 0 []) places₂ bounds₂ r)
+        (S : Seat file lists T (held places docs freqs) s) (n : FloatRows (T .floats)) where
+      abbrev floats₂ : List (List Float)
+      floats₂ = set (T .floats) 0 bounds₂
+
+      -- the row of bounds is written, and no other
+      bounds-there : getD floats₂ 0 [] ≡ bounds₂
+      bounds-there = getD-set-same (T .floats) 0 bounds₂ [] (omega (arith, n .eighteen))
+
+      scores-there : (q : ℕ) → getD floats₂ (2 + q) [] ≡ getD (T .floats) (2 + q) []
+      scores-there q = getD-set-other (T .floats) 0 (2 + q) bounds₂ [] (λ z. omega (arith, z))
+
       abbrev row₁ : List ℕ
       row₁ = getD places₁ (s .slot) []
 
@@ -189,14 +182,14 @@ module _ (file : List ℕ) (lists : List (List ℕ)) where
           ap (λ (z : List (List ℕ)). getD z (s .slot) []) (B .places-are) ∙ getD-set-same places₁ (s .slot) (set row₁ 7 (B .flag)) [] (omega arith)
 
       cursor₂ : cursorAt places₂ (s .slot) ≡ cursorAt places₁ (s .slot)
-      cursor₂ = ap cursorIn row₂ ∙ known-cursor file (partAt lists (s .slot)) row₁ (getD docs (s .slot) []) (getD freqs (s .slot) []) (B .flag) place₁
+      cursor₂ = ap cursorIn row₂ ∙ bound-in file (partAt lists (s .slot)) (B .flag) place₁ .1
 
       sixteen₂ : AllSixteen (held places₂ docs freqs)
       sixteen₂ =
           let l = shallow-seat T S .stand .slot .sixteen in
           (still-sixteen places₁ places₂ (s .slot) (set row₁ 7 (B .flag)) (B .places-are) (l .0), l .1, l .2)
 
-      pub bounded-seat : Seat file lists (terms (T .scoring) (T .caches) bounds₂) (held places₂ docs freqs) s
+      pub bounded-seat : Seat file lists (terms (T .scoring) (T .caches) floats₂) (held places₂ docs freqs) s
       bounded-seat =
           let Z = shallow-seat T S in
           let h = Z .stand .slot-in in
@@ -207,14 +200,18 @@ module _ (file : List ℕ) (lists : List (List ℕ)) where
                 sixteen = sixteen₂;
                 part-row = Z .stand .slot .part-row;
                 list = Z .stand .slot .list;
-                place = rw row₂ (known-row file (partAt lists (s .slot)) row₁ (getD docs (s .slot) []) (getD freqs (s .slot) []) (B .flag) place₁);
+                place = rw row₂ (bound-in file (partAt lists (s .slot)) (B .flag) place₁ .0);
               };
               doc-is = Z .stand .doc-is ∙ ap (λ (c : Cursor). docIn file (partAt lists (s .slot)) (c .at)) (sym cursor₂);
             };
             weighed = Z .weighed;
             bound = λ _.
-                ap (λ (z : List Float). getD z (s .slot) nan) (B .bounds-are) ∙ getD-set-same (T .bounds) (s .slot) r nan (omega arith) ∙ B .bound-is
+                ap (λ (z : List Float). getD z (s .slot) nan) (bounds-there ∙ B .bounds-are)
+                ∙ getD-set-same (getD (T .floats) 0 []) (s .slot) r nan (omega (arith, h, n .row 0 (omega arith))) ∙ B .bound-is
                 ∙ ap (blockMax 128 f32 (listAt (T .scoring) file lists (s .slot))) (sym cursor₂);
+            scores = λ k.
+                rw (scores-there (s .slot), ap (λ (c : Cursor). c .dec) cursor₂)
+                (Z .scores (sym (getD-set-other row₁ 7 8 (B .flag) 0 (λ z. omega (arith, z))) ∙ sym (ap (λ (z : List ℕ). getD z 8 0) row₂) ∙ k));
             max-is = Z .max-is;
           }
 
@@ -226,10 +223,13 @@ module _ (file : List ℕ) (lists : List (List ℕ)) where
         freqs = refl;
       }
 
-      pub other-seat : (z : TermScorer) → Off (s .slot) z → Seat file lists T (held places docs freqs) z → Seat file lists (terms (T .scoring) (T .caches) bounds₂) (held places₂ docs freqs) z
+      pub other-seat : (z : TermScorer) → Off (s .slot) z → Seat file lists T (held places docs freqs) z → Seat file lists (terms (T .scoring) (T .caches) floats₂) (held places₂ docs freqs) z
       other-seat z o R =
-          seat-same T bounds₂ (held places docs freqs) (held places₂ docs freqs) z sixteen₂ (other-rows (z .slot) o)
-          (ap (λ (y : List Float). getD y (z .slot) nan) (B .bounds-are) ∙ getD-set-other (T .bounds) (s .slot) (z .slot) r nan o) R
+          seat-same T floats₂ (held places docs freqs) (held places₂ docs freqs) z sixteen₂ (other-rows (z .slot) o)
+          (ap (λ (y : List Float). getD y (z .slot) nan) (bounds-there ∙ B .bounds-are) ∙ getD-set-other (getD (T .floats) 0 []) (s .slot) (z .slot) r nan o) (scores-there (z .slot)) R
+
+      pub bounded-rows : FloatRows floats₂
+      bounded-rows = rows-set 0 bounds₂ n (omega arith) (ap length (B .bounds-are) ∙ length-set (getD (T .floats) 0 []) (s .slot) r ∙ n .row 0 (omega arith))
 
       pub other-scorers : SameOff (s .slot) (scorerAt file lists (T .scoring) places) (scorerAt file lists (T .scoring) places₂)
       other-scorers z o =
@@ -266,6 +266,10 @@ module _ (file : List ℕ) (lists : List (List ℕ)) where
     seats = λ T s. D .seats T (C .seats T s);
   }
 
+  -- scorers that are seated still are
+  pub still-seated : {T : Terms} {h h′ : Held} {l l′ : List TermScorer} → Seated file lists T h l → Carried file lists h l h′ l′ → Seated file lists T h′ l′
+  still-seated {T} S C = record { seats = C .seats T (S .seats); apart = C .apart; rows = S .rows }
+
   -- some of them, in another order
   pub carried-kept : (h : Held) {l l′ : List TermScorer} → Kept l′ l → Apart l → All (Stand file lists h) l → Carried file lists h l h l′
   carried-kept h k apart a = record {
@@ -294,5 +298,5 @@ module _ (file : List ℕ) (lists : List (List ℕ)) where
           apart = slots-apart l (set l i x′) slots apart;
           topped = λ k t b. slots-all (TopIs file lists k t) l (set l i x′) slots b;
           seats = λ T s. replaced-all l i x′ inside apart (Seat file lists T h) (Seat file lists T h′)
-              (λ z o R. seat-same T (T .bounds) h h′ z n (others-rows M (z .slot) o) refl R) (moved-seat x M T (all-at (Seat file lists T h) l i noScorer inside s)) s;
+              (λ z o R. seat-same T (T .floats) h h′ z n (others-rows M (z .slot) o) refl refl R) (moved-seat x M T (all-at (Seat file lists T h) l i noScorer inside s)) s;
         }

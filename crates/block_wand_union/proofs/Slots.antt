@@ -8,7 +8,7 @@ use lib.Seq.{take-take}
 use lib.Ieee.{Float, nan}
 use Rattle.arrays.specs.Every.{All}
 use Rattle.route.specs.Cursor.{Cursor}
-use Rattle.route.proofs.Lists.{all-imp}
+use Rattle.route.proofs.Lists.{all-imp, all-map}
 use Rattle.bm25.specs.declared.Scoring.{Scoring}
 use Rattle.ordering.specs.Inner.Scorers.{Apart, byDoc, slotOf}
 use Rattle.term_scorer.specs.declared.TermScorer.{TermScorer}
@@ -20,7 +20,7 @@ use Rattle.slot_rows.specs.Inner.Rows.{cursorIn, postingsIn}
 use Rattle.slot_rows.proofs.Rows.{doc-in-array}
 use Rattle.term_scorer.specs.Inner.Slots.{cursorAt, Held, listAt, partAt, MovedSlot}
 use Rattle.slot_order.specs.Inner.Rows.{Readable, docAt, termIn}
-use Rattle.block_wand_union.specs.Inner.Seats.{Lined, MaxScoreAt, Seat, Stand, Terms, TopIs, termAt, termsOf}
+use Rattle.block_wand_union.specs.Inner.Seats.{Carried, Lined, MaxScoreAt, Seat, Stand, Terms, TopIs, termAt, termsOf}
 use Rattle.block_wand_union.proofs.Seats.{others-rows}
 
 pub all-unmap : {A B : Type 0} (P : B → Type 0) (g : A → B) (xs : List A) → All P (map g xs) → All (λ x. P (g x)) xs
@@ -147,3 +147,11 @@ module _ (file : List ℕ) (lists : List (List ℕ)) where
         let e = off-same M q (λ z. far (sym z)) in
         let t = terms-move qs i (omega arith) (a .1) M in
         rw (e, t)
+
+-- a row that has the list bounds of slots has those of the slots that are left
+pub tops-kept : (file : List ℕ) (lists : List (List ℕ)) (s : Scoring) (h h′ : Held) (qs rs : List ℕ)
+    → Carried file lists h (termsOf file lists s (h .places) qs) h′ (termsOf file lists s (h′ .places) rs)
+    → (tops : List Float) → All (TopIs file lists s tops) qs → All (TopIs file lists s tops) rs
+tops-kept file lists s h h′ qs rs C tops a =
+    all-unmap (λ t. TopIs file lists s tops (t .slot)) (termAt file lists s (h′ .places)) rs
+    (C .topped s tops (all-map (TopIs file lists s tops) (λ t. TopIs file lists s tops (t .slot)) (termAt file lists s (h .places)) qs (λ _ x. x) a))

@@ -33,8 +33,8 @@ use Rattle.block_wand_union.specs.Inner.Turns.{AtPivot, Does, Pivoted, T
 use Rattle.block_wand_union.specs.declared.Stage.the-variants.{Called, Looking, Over}
 use Rattle.block_wand_union.specs.declared.turn.Span.{Span}
 use Rattle.block_wand_union.specs.declared.turn.Step.{Step}
-use Rattle.block_wand_union.proofs.Seats.{fair, first-apart, seats-stand}
-use Rattle.block_wand_union.proofs.Slots.{all-unmap, lined, same-terms, slots-of}
+use Rattle.block_wand_union.proofs.Seats.{fair, first-apart, seats-stand, still-seated}
+use Rattle.block_wand_union.proofs.Slots.{all-unmap, lined, same-terms, slots-of, tops-kept}
 use Rattle.block_wand_union.proofs.OnPivots.{found-low, inside-on}
 
 module _ {file : List ℕ} {lists : List (List ℕ)} {T : Terms} {h : Held} {l : List TermScorer} (S : Seated file lists T h l) where
@@ -46,17 +46,6 @@ module _ {file : List ℕ} {lists : List (List ℕ)} {T : Terms} {h : Held} {l :
 
   fair-here : All (Fair (scorerAt file lists (T .scoring) (h .places))) l
   fair-here = fair file lists (T .scoring) h l stands max-scores
-
-  still-seated : {h′ : Held} {l′ : List TermScorer} → Carried file lists h l h′ l′ → Seated file lists T h′ l′
-  still-seated C = record { seats = C .seats T (S .seats); apart = C .apart; row = S .row }
-
--- a row that has the list bounds of slots has those of the slots that are left
-tops-kept : (file : List ℕ) (lists : List (List ℕ)) (s : Scoring) (h h′ : Held) (qs rs : List ℕ)
-    → Carried file lists h (termsOf file lists s (h .places) qs) h′ (termsOf file lists s (h′ .places) rs)
-    → (tops : List Float) → All (TopIs file lists s tops) qs → All (TopIs file lists s tops) rs
-tops-kept file lists s h h′ qs rs C tops a =
-    all-unmap (λ t. TopIs file lists s tops (t .slot)) (termAt file lists s (h′ .places)) rs
-    (C .topped s tops (all-map (TopIs file lists s tops) (λ t. TopIs file lists s tops (t .slot)) (termAt file lists s (h .places)) qs (λ _ x. x) a))
 
 -- ---- at a pivot that was found
 
@@ -93,15 +82,15 @@ module _ {file : List ℕ} {lists : List (List ℕ)} {T : Terms} {t : Float} {to
       rw (sym cut) (record {
         seats = all-take (Seat file lists T h) len l (Q .seated .seats);
         apart = first-apart len l (Q .seated .apart);
-        row = Q .seated .row;
+        rows = Q .seated .rows;
       })
 
-  module _ {h′ : Held} {bounds′ : List Float} {upper : Float} (B : BlocksSought file lists T h p len h′ bounds′ upper l) where
+  module _ {h′ : Held} {floats′ : List (List Float)} {upper : Float} (B : BlocksSought file lists T h p len h′ floats′ upper l) where
     abbrev g : TermScorer → Scorer Float
     g = scorerAt file lists (T .scoring) (h′ .places)
 
     abbrev T′ : Terms
-    T′ = terms (T .scoring) (T .caches) bounds′
+    T′ = terms (T .scoring) (T .caches) floats′
 
     -- their documents stay
     still : termsOf file lists (T .scoring) (h′ .places) (take n order) ≡ l
@@ -110,7 +99,7 @@ module _ {file : List ℕ} {lists : List (List ℕ)} {T : Terms} {t : Float} {to
         ∙ same-terms file lists T′ h′ l (B .seats)
 
     sought : Seated file lists T′ h′ l
-    sought = record { seats = B .seats; apart = Q .seated .apart; row = B .row }
+    sought = record { seats = B .seats; apart = Q .seated .apart; rows = B .rows }
 
     pub seated′ : Seated file lists T′ h′ (termsOf file lists (T .scoring) (h′ .places) (take n order))
     seated′ = rw still sought
@@ -136,27 +125,25 @@ module _ {file : List ℕ} {lists : List (List ℕ)} {T : Terms} {t : Float} {to
     sum-above q = rw (B .sum-is) at q
 
     -- the block bounds are high enough
-    pub high : f32 .above upper t ≡ true → {h″ : Held} {order″ : List ℕ} {r : Step} → Pivoted file lists (T .scoring) t h′ order n at h″ order″ r
-        → Turned file lists T t Looking h order n h″ order″ bounds′ r
-    high q {h″} {order″} {r} P = record {
+    pub high : f32 .above upper t ≡ true → {h″ : Held} {order″ : List ℕ} {floats″ : List (List Float)} {r : Step} → Pivoted file lists T′ t h′ order n at h″ order″ floats″ r
+        → Turned file lists T t Looking h order n h″ order″ floats″ r
+    high q {h″} {order″} {r = r} P = record {
       does = subst (λ (u : Turn (UnionPlace Float) Float). Does file lists (T .scoring) u h″ order″ r)
           (sym (high-turn 128 t l f (fair-here (Q .seated)) before len p (Q .found) g (B .moving) _ (sum-above q) refl)) (rw still at (P .does));
-      seated = still-seated seated′ (P .carried);
-      topped = tops-kept file lists (T .scoring) h′ h″ (take n order) (take (r .union .len) order″) (P .carried);
+      left = record { seated = P .left .seated; topped = P .left .topped };
       few = P .few;
       long = P .long;
     }
 
     -- they are too low
     pub low : f32 .above upper t ≡ false → {h″ : Held} {order″ : List ℕ} → TooLow file lists tops h′ order n len h″ order″
-        → Turned file lists T t Looking h order n h″ order″ bounds′ (quietStep n Looking)
+        → Turned file lists T t Looking h order n h″ order″ floats′ (quietStep n Looking)
     low q {h″} {order″} P =
         let O = P .one (T .scoring) (Q .topped) in
         let e = low-turn 128 t l f (fair-here (Q .seated)) before len p (Q .found) g (B .moving) _ (sum-above q) (rw still at (O .scorers-are)) in
         record {
           does = record { next-is = ap (λ u. u .next) e; due-is = ap (λ u. u .due) e };
-          seated = still-seated seated′ (O .carried);
-          topped = tops-kept file lists (T .scoring) h′ h″ (take n order) (take n order″) (O .carried);
+          left = record { seated = still-seated file lists seated′ (O .carried); topped = tops-kept file lists (T .scoring) h′ h″ (take n order) (take n order″) (O .carried) };
           few = omega arith;
           long = P .long;
         }
@@ -171,24 +158,23 @@ module _ {file : List ℕ} {lists : List (List ℕ)} {T : Terms} (t : Float) {h 
   abbrev all : List TermScorer
   all = termsOf file lists (T .scoring) (h .places) (take n order)
 
-  pub nowhere : Nowhere ≡ pivotOf t all → Turned file lists T t Looking h order n h order (T .bounds) (quietStep n Over)
+  pub nowhere : Nowhere ≡ pivotOf t all → Turned file lists T t Looking h order n h order (T .floats) (quietStep n Over)
   nowhere e =
       let q = nowhere-turn 128 t all at-route (fair-here S) e in
-      record { does = record { next-is = ap (λ u. u .next) q; due-is = ap (λ u. u .due) q }; seated = S; topped = λ _ a. a; few = omega arith; long = long }
+      record { does = record { next-is = ap (λ u. u .next) q; due-is = ap (λ u. u .due) q }; left = record { seated = S; topped = λ _ a. a }; few = omega arith; long = long }
 
-  pub stays : Turned file lists T t Over h order n h order (T .bounds) (quietStep n Over)
-  stays = record { does = record { next-is = refl; due-is = refl }; seated = S; topped = λ _ a. a; few = omega arith; long = long }
+  pub stays : Turned file lists T t Over h order n h order (T .floats) (quietStep n Over)
+  stays = record { does = record { next-is = refl; due-is = refl }; left = record { seated = S; topped = λ _ a. a }; few = omega arith; long = long }
 
   -- the scorers on the report's document go on
   pub goes-on : {k : ℕ} {h′ : Held} {order′ : List ℕ} {r : ℕ} → AdvancedAll file lists h order n k h′ order′ r
-      → Turned file lists T t (Called k) h order n h′ order′ (T .bounds) (quietStep r Looking)
+      → Turned file lists T t (Called k) h order n h′ order′ (T .floats) (quietStep r Looking)
   goes-on {k} {h′} {order′} {r} D =
       let q = called-turn 128 t 0 [] at-route all k in
       let A = D .on (T .scoring) in
       record {
         does = record { next-is = ap (λ u. u .next) q ∙ ap (λ ss. goOn ss) (sym (A .scorers-are)); due-is = ap (λ u. u .due) q };
-        seated = still-seated S (A .carried);
-        topped = tops-kept file lists (T .scoring) h h′ (take n order) (take r order′) (A .carried);
+        left = record { seated = still-seated file lists S (A .carried); topped = tops-kept file lists (T .scoring) h h′ (take n order) (take r order′) (A .carried) };
         few = D .few;
         long = D .long;
       }

@@ -1,5 +1,6 @@
 // The scorers before the pivot come onto it, or one goes past it.
 use slot_order::restore::put_back;
+use slot_rows::place::Places;
 use term_scorer::slot;
 ghost use Prim.Native.Nat.{_≤_, _<_};
 ghost use lib.ListN.{take};
@@ -22,7 +23,7 @@ pub fn align_scorers(
     before_pivot_len: usize,
     pivot_doc: u32,
     order: &mut [usize; 16],
-    places: &mut [[usize; 8]; 16],
+    places: &mut Places,
     docs: &mut [[u32; 128]; 16],
     freqs: &mut [[u32; 128]; 16],
 ) -> Alignment

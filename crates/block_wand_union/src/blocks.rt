@@ -1,4 +1,7 @@
 // The blocks that may hold the pivot, and the sum of their bounds.
+use slot_rows::place::Places;
+use term_scorer::BOUNDS;
+use term_scorer::Floats;
 use term_scorer::score;
 use term_scorer::score::Similarity;
 use term_scorer::slot;
@@ -20,24 +23,24 @@ pub fn seek_blocks(
     pivot_len: usize,
     pivot_doc: u32,
     order: &[usize; 16],
-    places: &mut [[usize; 8]; 16],
+    places: &mut Places,
     docs: &[[u32; 128]; 16],
     freqs: &[[u32; 128]; 16],
-    bounds: &mut [f32; 128],
+    floats: &mut Floats,
 ) -> f32
-    requires { let T = terms (similarity .scoring) (now caches) (now bounds) in
+    requires { let T = terms (similarity .scoring) (now caches) (now floats) in
         let slots = held (now places) (now docs) (now freqs) in
         let first = termsOf (now file) (now lists) (similarity .scoring) (now places) (take «pivot_len» (now order)) in
         ⌜ («pivot_len» ≤ 16) × (similarity .norms ≡ normReader (now file)) × Sixteen (now order)
         × Seated (now file) (now lists) T slots first ⌝ }
     ensures { λ r.
-        let T = terms (similarity .scoring) (before caches) (before bounds) in
+        let T = terms (similarity .scoring) (before caches) (before floats) in
         let old = held (before places) (before docs) (before freqs) in
         let new = held (after places) (before docs) (before freqs) in
         ⌜ ((n : ℕ) → «pivot_len» ≤ n
         → let l = termsOf (before file) (before lists) (similarity .scoring) (before places) (take n (before order)) in
         Seated (before file) (before lists) T old l
-        → BlocksSought (before file) (before lists) T old «pivot_doc» «pivot_len» new (after bounds) r l) ⌝ }
+        → BlocksSought (before file) (before lists) T old «pivot_doc» «pivot_len» new (after floats) r l) ⌝ }
 {
     let mut sum = 0.0f32;
     let mut i = 0usize;
@@ -53,7 +56,7 @@ pub fn seek_blocks(
             places,
             docs,
             freqs,
-            bounds,
+            &mut floats[BOUNDS],
         );
         sum = sum + bound;
         i += 1;

@@ -13,6 +13,8 @@ use ordering::Scorers;
 use ordering::sort_by_doc;
 use reports::Event;
 use slot_order::structs::keep_order;
+use slot_rows::place::Places;
+use term_scorer::Floats;
 use term_scorer::score::Similarity;
 ghost use mathlib.Core.Path.{_≡_};
 ghost use Prim.Native.Nat.{_≤_};
@@ -73,16 +75,16 @@ pub fn go(
     threshold: f32,
     turns: usize,
     order: &mut [usize; 16],
-    places: &mut [[usize; 8]; 16],
+    places: &mut Places,
     docs: &mut [[u32; 128]; 16],
     freqs: &mut [[u32; 128]; 16],
-    bounds: &mut [f32; 128],
+    floats: &mut Floats,
 ) -> Gone
-    requires { let T = terms (similarity .scoring) (now caches) (now bounds) in
+    requires { let T = terms (similarity .scoring) (now caches) (now floats) in
         let slots = held (now places) (now docs) (now freqs) in
         ⌜ (similarity .norms ≡ normReader (now file)) × Stands (now file) (now lists) T union (now order) slots ⌝ }
     ensures { λ r.
-        let T = terms (similarity .scoring) (before caches) (after bounds) in
+        let T = terms (similarity .scoring) (before caches) (after floats) in
         let slots = held (after places) (after docs) (after freqs) in
         let from = placeOf (before file) (before lists) (similarity .scoring) union (before order) (before places) in
         let to = placeOf (before file) (before lists) (similarity .scoring) (r .union) (after order) (after places) in
@@ -106,6 +108,6 @@ pub fn go(
         places,
         docs,
         freqs,
-        bounds,
+        floats,
     )
 }

@@ -5,6 +5,7 @@ use slot_order::pivot::least_doc;
 use slot_order::pivot::scorer_to_seek;
 use slot_order::structs::in_order;
 use slot_order::structs::keep_order;
+use slot_rows::place::Places;
 use term_scorer::slot;
 ghost use mathlib.Core.Path.{_≡_};
 ghost use Prim.Native.Nat.{_≤_, _<_};
@@ -17,7 +18,7 @@ ghost use Rattle.block_wand_union.specs.Inner.Seats.{Lined};
 ghost use Rattle.block_wand_union.specs.Inner.Moves.{leastLastOf, LastRead, TooLow};
 
 // The least last document of the first scorers' present blocks.
-fn least_last_doc(order: &[usize; 16], pivot_len: usize, places: &[[usize; 8]; 16]) -> u32
+fn least_last_doc(order: &[usize; 16], pivot_len: usize, places: &Places) -> u32
     requires { ⌜ («pivot_len» ≤ 16) × Sixteen (now order) × All (LastRead (now places)) (take «pivot_len» (now order)) ⌝ }
     ensures { λ r. ⌜ r ≡ leastLastOf (before places) 2147483647 (take «pivot_len» (before order)) ⌝ }
 {
@@ -53,7 +54,7 @@ pub fn block_max_was_too_low_advance_one_scorer(
     pivot_len: usize,
     tops: &[f32; 16],
     order: &mut [usize; 16],
-    places: &mut [[usize; 8]; 16],
+    places: &mut Places,
     docs: &mut [[u32; 128]; 16],
     freqs: &mut [[u32; 128]; 16],
 )

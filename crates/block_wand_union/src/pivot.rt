@@ -1,6 +1,8 @@
 // The scorers on the pivot: their scores' sum, and all of them to their next documents.
 use slot_order::restore::sort_by_doc;
 use slot_order::restore::sweep;
+use slot_rows::place::Places;
+use term_scorer::Floats;
 use term_scorer::score;
 use term_scorer::score::Similarity;
 use term_scorer::slot;
@@ -15,43 +17,48 @@ ghost use Rattle.route.specs.F32.{f32};
 ghost use Rattle.route.specs.Scorer.{scoreHere};
 ghost use Rattle.notefile.specs.Header.{normReader};
 ghost use Rattle.term_scorer.specs.Inner.Slots.{held, Sixteen};
-ghost use Rattle.block_wand_union.specs.Inner.Seats.{Inside, Lined, OnDocument, slotScorer};
+ghost use Rattle.term_scorer.specs.Inner.Weights.{FloatRows};
+ghost use Rattle.block_wand_union.specs.Inner.Seats.{Inside, Lined, OnDocument, Unmoved, slotScorer, terms};
 ghost use Rattle.block_wand_union.specs.Inner.Moves.{AdvancedAll};
 
-// The first scorers' scores on the document that they stand on, added in the order that the scorers have now.
+// The first scorers' scores on the document that they stand on, added in the order that the scorers have now. The scorers stay.
 pub fn score_on_pivot(
     file: &[u8],
     similarity: Similarity,
     lists: &[[usize; 8]; 16],
     caches: &[[f32; 256]; 16],
     pivot_len: usize,
-    pivot_doc: u32,
     order: &[usize; 16],
-    places: &[[usize; 8]; 16],
+    places: &mut Places,
     docs: &[[u32; 128]; 16],
     freqs: &[[u32; 128]; 16],
+    floats: &mut Floats,
 ) -> f32
-    requires { let slots = held (now places) (now docs) (now freqs) in
-        ⌜ («pivot_len» ≤ 16) × (similarity .norms ≡ normReader (now file)) × Sixteen (now order) × («pivot_doc» < 2147483647)
-        × All (OnDocument (now file) (now lists) (now caches) slots «pivot_doc») (take «pivot_len» (now order)) ⌝ }
+    requires { let T = terms (similarity .scoring) (now caches) (now floats) in
+        let slots = held (now places) (now docs) (now freqs) in
+        ⌜ («pivot_len» ≤ 16) × (similarity .norms ≡ normReader (now file)) × Sixteen (now order)
+        × FloatRows (now floats) × All (OnDocument (now file) (now lists) T slots) (take «pivot_len» (now order)) ⌝ }
     ensures { λ r.
+        let old = held (before places) (before docs) (before freqs) in
+        let new = held (after places) (before docs) (before freqs) in
         let first = map (slotScorer (before file) (before lists) (similarity .scoring) (before places)) (take «pivot_len» (before order)) in
-        ⌜ r ≡ sum f32 (map scoreHere first) ⌝ }
+        ⌜ (r ≡ sum f32 (map scoreHere first))
+        × Unmoved (before file) (before lists) (similarity .scoring) (before caches) (before floats) old (after floats) new ⌝ }
 {
     let mut sum = 0.0f32;
     let mut i = 0usize;
     while i < pivot_len {
         let q = order[i];
-        let score = score::score(
+        let score = score::kept_score(
             file,
             similarity,
             lists,
             caches,
             q,
-            pivot_doc,
             places,
             docs,
             freqs,
+            floats,
         );
         sum = sum + score;
         i += 1;
@@ -66,7 +73,7 @@ pub fn advance_all_scorers_on_pivot(
     n: usize,
     pivot_len: usize,
     order: &mut [usize; 16],
-    places: &mut [[usize; 8]; 16],
+    places: &mut Places,
     docs: &mut [[u32; 128]; 16],
     freqs: &mut [[u32; 128]; 16],
 ) -> usize

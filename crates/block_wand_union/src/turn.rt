@@ -8,17 +8,17 @@ use crate::pivot::advance_all_scorers_on_pivot;
 use crate::pivot::score_on_pivot;
 use ordering::Pivot;
 use slot_order::pivot::find_pivot_doc;
+use slot_rows::place::Places;
+use term_scorer::Floats;
 use term_scorer::score::Similarity;
-ghost use mathlib.Core.List.{List};
 ghost use mathlib.Core.Path.{_≡_};
-ghost use Prim.Native.Nat.{_≤_, _<_};
-ghost use lib.Ieee.{Float};
+ghost use Prim.Native.Nat.{_≤_};
 ghost use lib.ListN.{take};
 ghost use Rattle.arrays.specs.Lent.{before, after};
 ghost use Rattle.arrays.specs.Every.{All};
 ghost use Rattle.notefile.specs.Header.{normReader};
 ghost use Rattle.term_scorer.specs.Inner.Slots.{held, Sixteen};
-ghost use Rattle.block_wand_union.specs.Inner.Seats.{Lined, OnDocument, TopIs, terms, termsOf};
+ghost use Rattle.block_wand_union.specs.Inner.Seats.{OnDocument, Seated, TopIs, terms, termsOf};
 ghost use Rattle.block_wand_union.specs.Inner.Turns.{AtPivot, Hit, Pivoted, ToPivot, Turned, quietStep};
 ghost use Rattle.block_wand_union.specs.Inner.Runs.{Stands};
 ghost use Rattle.block_wand_union.specs.declared.Stage.the-variants.{Looking};
@@ -65,19 +65,23 @@ fn hit(
     lists: &[[usize; 8]; 16],
     caches: &[[f32; 256]; 16],
     order: &mut [usize; 16],
-    places: &mut [[usize; 8]; 16],
+    places: &mut Places,
     docs: &mut [[u32; 128]; 16],
     freqs: &mut [[u32; 128]; 16],
+    floats: &mut Floats,
 ) -> Step
-    requires { let slots = held (now places) (now docs) (now freqs) in
+    requires { let T = terms (bar .similarity .scoring) (now caches) (now floats) in
+        let slots = held (now places) (now docs) (now freqs) in
+        let l = termsOf (now file) (now lists) (bar .similarity .scoring) (now places) (take n (now order)) in
         ⌜ (span .«pivot_len» ≤ n) × (n ≤ 16) × (bar .similarity .norms ≡ normReader (now file)) × Sixteen (now order)
-        × Lined (now file) (now lists) slots (take n (now order)) × (span .«pivot_doc» < 2147483647)
-        × All (OnDocument (now file) (now lists) (now caches) slots (span .«pivot_doc»)) (take (span .«pivot_len») (now order)) ⌝ }
+        × Seated (now file) (now lists) T slots l
+        × All (OnDocument (now file) (now lists) T slots) (take (span .«pivot_len») (now order)) ⌝ }
     ensures { λ r.
+        let T = terms (bar .similarity .scoring) (before caches) (before floats) in
         let old = held (before places) (before docs) (before freqs) in
         let new = held (after places) (after docs) (after freqs) in
-        ⌜ Hit (before file) (before lists) (bar .similarity .scoring) (bar .threshold) old (before order) n
-        (span .«pivot_len») (span .«pivot_doc») new (after order) r ⌝ }
+        ⌜ Hit (before file) (before lists) T (bar .threshold) old (before order) n
+        (span .«pivot_len») (span .«pivot_doc») new (after order) (after floats) r ⌝ }
 {
     let pivot_len = span.pivot_len;
     let score = score_on_pivot(
@@ -86,11 +90,11 @@ fn hit(
         lists,
         caches,
         pivot_len,
-        span.pivot_doc,
         order,
         places,
         docs,
         freqs,
+        floats,
     );
     if score > bar.threshold {
         let stage = Stage::Called(pivot_len);
@@ -114,19 +118,21 @@ fn on_pivot(
     lists: &[[usize; 8]; 16],
     caches: &[[f32; 256]; 16],
     order: &mut [usize; 16],
-    places: &mut [[usize; 8]; 16],
+    places: &mut Places,
     docs: &mut [[u32; 128]; 16],
     freqs: &mut [[u32; 128]; 16],
+    floats: &mut Floats,
 ) -> Step
     requires { let scoring = bar .similarity .scoring in
         let slots = held (now places) (now docs) (now freqs) in
         let l = termsOf (now file) (now lists) scoring (now places) (take n (now order)) in
         ⌜ (n ≤ 16) × (bar .similarity .norms ≡ normReader (now file)) × Sixteen (now order)
-        × ((bounds : List Float) × AtPivot (now file) (now lists) (terms scoring (now caches) bounds) slots l span) ⌝ }
+        × AtPivot (now file) (now lists) (terms scoring (now caches) (now floats)) slots l span ⌝ }
     ensures { λ r.
+        let T = terms (bar .similarity .scoring) (before caches) (before floats) in
         let old = held (before places) (before docs) (before freqs) in
         let new = held (after places) (after docs) (after freqs) in
-        ⌜ Pivoted (before file) (before lists) (bar .similarity .scoring) (bar .threshold) old (before order) n span new (after order) r ⌝ }
+        ⌜ Pivoted (before file) (before lists) T (bar .threshold) old (before order) n span new (after order) (after floats) r ⌝ }
 {
     let alignment = align_scorers(
         file,
@@ -151,6 +157,7 @@ fn on_pivot(
             places,
             docs,
             freqs,
+            floats,
         );
     }
     quiet(alignment.len, Stage::Looking)
@@ -166,20 +173,20 @@ fn to_pivot(
     caches: &[[f32; 256]; 16],
     tops: &[f32; 16],
     order: &mut [usize; 16],
-    places: &mut [[usize; 8]; 16],
+    places: &mut Places,
     docs: &mut [[u32; 128]; 16],
     freqs: &mut [[u32; 128]; 16],
-    bounds: &mut [f32; 128],
+    floats: &mut Floats,
 ) -> Step
-    requires { let T = terms (bar .similarity .scoring) (now caches) (now bounds) in
+    requires { let T = terms (bar .similarity .scoring) (now caches) (now floats) in
         let slots = held (now places) (now docs) (now freqs) in
         ⌜ (bar .similarity .norms ≡ normReader (now file)) × Sixteen (now tops)
         × ToPivot (now file) (now lists) T (bar .threshold) (now tops) slots (now order) n span ⌝ }
     ensures { λ r.
-        let T = terms (bar .similarity .scoring) (before caches) (before bounds) in
+        let T = terms (bar .similarity .scoring) (before caches) (before floats) in
         let old = held (before places) (before docs) (before freqs) in
         let new = held (after places) (after docs) (after freqs) in
-        ⌜ Turned (before file) (before lists) T (bar .threshold) Looking old (before order) n new (after order) (after bounds) r ⌝ }
+        ⌜ Turned (before file) (before lists) T (bar .threshold) Looking old (before order) n new (after order) (after floats) r ⌝ }
 {
     let upper_bound = seek_blocks(
         file,
@@ -192,7 +199,7 @@ fn to_pivot(
         places,
         docs,
         freqs,
-        bounds,
+        floats,
     );
     if upper_bound > bar.threshold {
         return on_pivot(
@@ -206,6 +213,7 @@ fn to_pivot(
             places,
             docs,
             freqs,
+            floats,
         );
     }
     block_max_was_too_low_advance_one_scorer(
@@ -231,22 +239,22 @@ fn look(
     caches: &[[f32; 256]; 16],
     tops: &[f32; 16],
     order: &mut [usize; 16],
-    places: &mut [[usize; 8]; 16],
+    places: &mut Places,
     docs: &mut [[u32; 128]; 16],
     freqs: &mut [[u32; 128]; 16],
-    bounds: &mut [f32; 128],
+    floats: &mut Floats,
 ) -> Step
     requires { let scoring = bar .similarity .scoring in
         let slots = held (now places) (now docs) (now freqs) in
         let u = quietStep n Looking .union in
         ⌜ (bar .similarity .norms ≡ normReader (now file)) × Sixteen (now tops)
         × All (TopIs (now file) (now lists) scoring (now tops)) (take n (now order))
-        × Stands (now file) (now lists) (terms scoring (now caches) (now bounds)) u (now order) slots ⌝ }
+        × Stands (now file) (now lists) (terms scoring (now caches) (now floats)) u (now order) slots ⌝ }
     ensures { λ r.
-        let T = terms (bar .similarity .scoring) (before caches) (before bounds) in
+        let T = terms (bar .similarity .scoring) (before caches) (before floats) in
         let old = held (before places) (before docs) (before freqs) in
         let new = held (after places) (after docs) (after freqs) in
-        ⌜ Turned (before file) (before lists) T (bar .threshold) Looking old (before order) n new (after order) (after bounds) r ⌝ }
+        ⌜ Turned (before file) (before lists) T (bar .threshold) Looking old (before order) n new (after order) (after floats) r ⌝ }
 {
     let pivot = find_pivot_doc(order, n, tops, bar.threshold, places, docs);
     match pivot {
@@ -273,7 +281,7 @@ fn look(
                 places,
                 docs,
                 freqs,
-                bounds,
+                floats,
             )
         }
     }
@@ -288,22 +296,22 @@ pub fn turn(
     caches: &[[f32; 256]; 16],
     tops: &[f32; 16],
     order: &mut [usize; 16],
-    places: &mut [[usize; 8]; 16],
+    places: &mut Places,
     docs: &mut [[u32; 128]; 16],
     freqs: &mut [[u32; 128]; 16],
-    bounds: &mut [f32; 128],
+    floats: &mut Floats,
 ) -> Step
     requires { let scoring = bar .similarity .scoring in
         let slots = held (now places) (now docs) (now freqs) in
         ⌜ (bar .similarity .norms ≡ normReader (now file)) × Sixteen (now tops)
         × All (TopIs (now file) (now lists) scoring (now tops)) (take (union .len) (now order))
-        × Stands (now file) (now lists) (terms scoring (now caches) (now bounds)) union (now order) slots ⌝ }
+        × Stands (now file) (now lists) (terms scoring (now caches) (now floats)) union (now order) slots ⌝ }
     ensures { λ r.
-        let T = terms (bar .similarity .scoring) (before caches) (before bounds) in
+        let T = terms (bar .similarity .scoring) (before caches) (before floats) in
         let old = held (before places) (before docs) (before freqs) in
         let new = held (after places) (after docs) (after freqs) in
         ⌜ Turned (before file) (before lists) T (bar .threshold) (union .stage) old (before order) (union .len) new
-        (after order) (after bounds) r ⌝ }
+        (after order) (after floats) r ⌝ }
 {
     let stage = union.stage;
     match stage {
@@ -318,7 +326,7 @@ pub fn turn(
             places,
             docs,
             freqs,
-            bounds,
+            floats,
         ),
         Stage::Called(k) => {
             let len = advance_all_scorers_on_pivot(

@@ -5,6 +5,8 @@ use crate::Union;
 use crate::turn::Bar;
 use crate::turn::turn;
 use reports::Event;
+use slot_rows::place::Places;
+use term_scorer::Floats;
 use term_scorer::score;
 use term_scorer::score::Similarity;
 ghost use mathlib.Core.Path.{_≡_};
@@ -73,22 +75,22 @@ pub fn walk(
     turns: usize,
     tops: &[f32; 16],
     order: &mut [usize; 16],
-    places: &mut [[usize; 8]; 16],
+    places: &mut Places,
     docs: &mut [[u32; 128]; 16],
     freqs: &mut [[u32; 128]; 16],
-    bounds: &mut [f32; 128],
+    floats: &mut Floats,
 ) -> Gone
     requires { let scoring = bar .similarity .scoring in
         let slots = held (now places) (now docs) (now freqs) in
         ⌜ (bar .similarity .norms ≡ normReader (now file)) × Sixteen (now tops)
         × All (TopIs (now file) (now lists) scoring (now tops)) (take (union .len) (now order))
-        × Stands (now file) (now lists) (terms scoring (now caches) (now bounds)) union (now order) slots ⌝ }
+        × Stands (now file) (now lists) (terms scoring (now caches) (now floats)) union (now order) slots ⌝ }
     ensures { λ r.
         let scoring = bar .similarity .scoring in
         let slots = held (after places) (after docs) (after freqs) in
         let from = placeOf (before file) (before lists) scoring union (before order) (before places) in
         let to = placeOf (before file) (before lists) scoring (r .union) (after order) (after places) in
-        ⌜ Stands (before file) (before lists) (terms scoring (before caches) (after bounds)) (r .union) (after order) slots
+        ⌜ Stands (before file) (before lists) (terms scoring (before caches) (after floats)) (r .union) (after order) slots
         × Went (unionTurn 128 f32) unionEnded (bar .threshold) from turns (r .taken) to (r .event) ⌝ }
 {
     let mut now = union;
@@ -108,7 +110,7 @@ pub fn walk(
             places,
             docs,
             freqs,
-            bounds,
+            floats,
         );
         now = step.union;
         taken += 1;

@@ -50,7 +50,7 @@ module _ (n : ℕ) (order : List ℕ) (floats₀ : List (List Float)) where
     next = set floats 1 (set (restsRow floats) (i - 1) running)
 
     rests-then : restsRow next ≡ set (restsRow floats) (i - 1) running
-    rests-then = getD-set-same floats 1 (set (restsRow floats) (i - 1) running) [] (omega (arith, S .rows .three))
+    rests-then = getD-set-same floats 1 (set (restsRow floats) (i - 1) running) [] (omega (arith, S .rows .eighteen))
 
     bounds-then : boundsRow next ≡ boundsRow floats
     bounds-then = getD-set-other floats 1 0 (set (restsRow floats) (i - 1) running) [] (λ z. omega arith)

@@ -1,4 +1,5 @@
 // A candidate of the leader against the secondaries, one after the other.
+use slot_rows::place::Places;
 use term_scorer::score;
 use term_scorer::score::Similarity;
 use term_scorer::slot;
@@ -32,7 +33,7 @@ pub fn try_candidate(
     rests: &[f32; 128],
     candidate: Posting,
     threshold: f32,
-    places: &mut [[usize; 8]; 16],
+    places: &mut Places,
     docs: &mut [[u32; 128]; 16],
     freqs: &mut [[u32; 128]; 16],
 ) -> Candidate

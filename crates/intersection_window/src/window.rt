@@ -1,4 +1,5 @@
 // A window: all skip readers on the blocks that may hold a document, and the bounds of these blocks against the threshold.
+use slot_rows::place::Places;
 use term_scorer::BOUNDS;
 use term_scorer::Floats;
 use term_scorer::RESTS;
@@ -45,7 +46,7 @@ fn gather(
     order: &[usize; 16],
     doc: u32,
     leader_end: u32,
-    places: &mut [[usize; 8]; 16],
+    places: &mut Places,
     docs: &[[u32; 128]; 16],
     freqs: &[[u32; 128]; 16],
     bounds: &mut [f32; 128],
@@ -103,7 +104,7 @@ pub fn next_window(
     order: &[usize; 16],
     doc: u32,
     threshold: f32,
-    places: &mut [[usize; 8]; 16],
+    places: &mut Places,
     docs: &mut [[u32; 128]; 16],
     freqs: &mut [[u32; 128]; 16],
     bounds: &mut [f32; 128],

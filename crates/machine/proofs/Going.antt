@@ -34,15 +34,15 @@ use Rattle.machine.specs.declared.Machine.the-variants as mode
 use Rattle.machine.proofs.Embeds.{runs-intersection, runs-plain, runs-single, runs-union, went-in}
 
 module _ (file : List ℕ) (similarity : Similarity) (lists : List (List ℕ)) (caches : List (List Float)) (t : Float) (turns : ℕ) where
-  -- a union: its bounds are the first row of floats
-  pub union-goes : (u : Union) (old : Tables) {order : List ℕ} {h : Held} {bounds : List Float} (r : many.Gone) → length (old .floats) ≡ 3
-      → any.Stands file lists (terms (similarity .scoring) caches bounds) (r .union) order h
+  -- a union
+  pub union-goes : (u : Union) (old : Tables) {order : List ℕ} {h : Held} {floats : List (List Float)} (r : many.Gone)
+      → any.Stands file lists (terms (similarity .scoring) caches floats) (r .union) order h
       → Went (unionTurn 128 f32) any.unionEnded t (any.placeOf file lists (similarity .scoring) u (old .order) (old .held .places)) turns (r .taken)
       (any.placeOf file lists (similarity .scoring) (r .union) order (h .places)) (r .event)
-      → GoesOn file similarity lists caches t turns old (mode.Union u) (record { order = order; held = h; floats = set (old .floats) 0 bounds })
+      → GoesOn file similarity lists caches t turns old (mode.Union u) (record { order = order; held = h; floats = floats })
       (record { machine = mode.Union (r .union); taken = r .taken; event = r .event })
-  union-goes u old {order} {h} {bounds} r three S w = record {
-    stands = (length-set (old .floats) 0 bounds ∙ three, rw (getD-set-same (old .floats) 0 bounds [] (omega (arith, three))) S);
+  union-goes u old r S w = record {
+    stands = S;
     went = went-in (runs-union []) t (any.placeOf file lists (similarity .scoring) u (old .order) (old .held .places)) (r .event) w;
   }
 

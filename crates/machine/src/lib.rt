@@ -8,7 +8,7 @@ use reports::report;
 use reports::rows;
 use rule::Rule;
 use rule::Threshold;
-use term_scorer::BOUNDS;
+use slot_rows::place::Places;
 use term_scorer::Floats;
 use term_scorer::score::Similarity;
 ghost use mathlib.Core.Path.{_≡_};
@@ -63,7 +63,7 @@ pub fn go_on(
     threshold: f32,
     turns: usize,
     order: &mut [usize; 16],
-    places: &mut [[usize; 8]; 16],
+    places: &mut Places,
     docs: &mut [[u32; 128]; 16],
     freqs: &mut [[u32; 128]; 16],
     floats: &mut Floats,
@@ -89,7 +89,7 @@ pub fn go_on(
                 places,
                 docs,
                 freqs,
-                &mut floats[BOUNDS],
+                floats,
             );
             let to = gone.union;
             let event = gone.event;
@@ -187,7 +187,7 @@ pub fn drive(
     lists: &[[usize; 8]; 16],
     caches: &[[f32; 256]; 16],
     order: &mut [usize; 16],
-    places: &mut [[usize; 8]; 16],
+    places: &mut Places,
     docs: &mut [[u32; 128]; 16],
     freqs: &mut [[u32; 128]; 16],
     floats: &mut Floats,

@@ -1,6 +1,7 @@
 // The plain scan: every document that some list has, upward, with the scores of all lists that have it.
 use notefile::block::TERMINATED;
 use reports::Event;
+use slot_rows::place::Places;
 use term_scorer::score::Similarity;
 use term_scorer::score::score;
 use term_scorer::slot;
@@ -70,7 +71,7 @@ impl Found {
 }
 
 // The documents on which the first n scorers stand.
-fn heads_of(n: usize, places: &[[usize; 8]; 16], docs: &[[u32; 128]; 16]) -> [u32; 16]
+fn heads_of(n: usize, places: &Places, docs: &[[u32; 128]; 16]) -> [u32; 16]
     requires { ⌜ (n ≤ 16) × PlaceRead (now places) n ⌝ }
     ensures { λ r. ⌜ HeadsOf (before places) (before docs) n r ⌝ }
 {
@@ -109,7 +110,7 @@ fn take_document(
     n: usize,
     doc: u32,
     heads: &mut [u32; 16],
-    places: &mut [[usize; 8]; 16],
+    places: &mut Places,
     docs: &mut [[u32; 128]; 16],
     freqs: &mut [[u32; 128]; 16],
 ) -> Found
@@ -168,7 +169,7 @@ pub fn go(
     caches: &[[f32; 256]; 16],
     threshold: f32,
     turns: usize,
-    places: &mut [[usize; 8]; 16],
+    places: &mut Places,
     docs: &mut [[u32; 128]; 16],
     freqs: &mut [[u32; 128]; 16],
 ) -> Gone

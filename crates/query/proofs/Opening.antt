@@ -87,6 +87,7 @@ module _ (scoring : Scoring) (file : List ℕ) (l q : ℕ) (h : q < 16) {x : Par
       cursor-is = O .opened .moved .cursor-is Unstepped;
       weighed = norms-there;
       unknown = O .unknown;
+      unscored = O .unscored;
     };
     only = record {
       lists = O .lists-only ∙ ap (set (a .lists) q) (sym row-is);
@@ -128,6 +129,7 @@ module _ (file : List ℕ) (a b : Tables) (n : ℕ) (O : OnlySlot n a b) where
         cursor-is = rw ep (S .cursor-is);
         weighed = rw (el, ec) (S .weighed);
         unknown = rw ep (S .unknown);
+        unscored = rw ep (S .unscored);
       }
 
 -- and so are the slots behind

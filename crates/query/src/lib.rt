@@ -3,6 +3,7 @@ use bm25::Bm25Weight;
 use bm25::Scoring;
 use notefile::header::Header;
 use notefile::part::read_part;
+use slot_rows::place::Places;
 use term_scorer::TermScorer;
 use term_scorer::slot;
 ghost use mathlib.Core.Path.{_≡_};
@@ -23,7 +24,7 @@ fn open_list(
     q: usize,
     lists: &mut [[usize; 8]; 16],
     caches: &mut [[f32; 256]; 16],
-    places: &mut [[usize; 8]; 16],
+    places: &mut Places,
     docs: &mut [[u32; 128]; 16],
     freqs: &mut [[u32; 128]; 16],
 ) -> TermScorer
@@ -55,7 +56,7 @@ pub fn open_lists(
     query: &[u32],
     lists: &mut [[usize; 8]; 16],
     caches: &mut [[f32; 256]; 16],
-    places: &mut [[usize; 8]; 16],
+    places: &mut Places,
     docs: &mut [[u32; 128]; 16],
     freqs: &mut [[u32; 128]; 16],
 ) -> [TermScorer; 16]

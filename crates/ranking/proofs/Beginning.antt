@@ -90,8 +90,8 @@ apart-first (x ∷ xs) (suc n) i k h = (
     next i q = omega arith
 
 -- the floats as they are made
-pub made-rows : (z : Float) → FloatRows (replicate 3 (replicate 128 z))
-made-rows z = record { three = refl; row = λ r h. ap length (getD-replicate 3 r (replicate 128 z) [] h) }
+pub made-rows : (z : Float) → FloatRows (replicate 18 (replicate 128 z))
+made-rows z = record { eighteen = refl; row = λ r h. ap length (getD-replicate 18 r (replicate 128 z) [] h) }
 
 -- a route that the machine runs, by another name
 lists-by : {W Z : Route Float} → Z ≡ W → {p : place.Place} → Runs Z p → (rule : Rule) (script : List Float) (list : List (Report Float))
@@ -133,7 +133,7 @@ module _ (similarity : Similarity) (file query : List ℕ) (norms-are : similari
   f = scorerAt file (a .lists) scoring (a .held .places)
 
   abbrev Fresh : TermScorer → Type 0
-  Fresh = begins.Fresh file (a .lists) (terms scoring (a .caches) (getD floats 0 [])) (a .held)
+  Fresh = begins.Fresh file (a .lists) (terms scoring (a .caches) floats) (a .held)
 
   list-there : (q : ℕ) → q < n → listAt scoring file (a .lists) q ≡ postingsOf scoring file (getD query q 0)
   list-there q h = ap (listOf scoring file) (Q .open-slots q h .part-is)
@@ -163,6 +163,7 @@ module _ (similarity : Similarity) (file query : List ℕ) (norms-are : similari
           first = S .cursor-is;
           weighed = S .weighed;
           unknown = S .unknown;
+          unscored = S .unscored;
           scorer-is = ap (λ (k : ℕ). record { doc = k; «max_score» = listOf scoring file (partOf file (getD query q 0)) .top; slot = q }) d
               ∙ ap (λ (x : Part). record { doc = docIn file (partAt (a .lists) q) (cursorAt (a .held .places) q .at); «max_score» = listOf scoring file x .top; slot = q }) (sym (S .part-is));
         };
@@ -246,13 +247,13 @@ module _ (similarity : Similarity) (file query : List ℕ) (norms-are : similari
 
     pub pivots-begun : (live .len ≡ 1 → ⊥) → {u : Union} → any.Begins (alive live) (live .len) u order → Begins modes.Union (mode.Union u)
     pivots-begun ne {u} B =
-        let T = terms scoring (a .caches) (getD floats 0 []) in
-        let z = begins.begins file (a .lists) T (a .held) (alive live) (imp Fresh (λ s o. o .as-opened) (alive live) left-opened) left-apart (rows .row 0 (omega arith)) (omega (arith, L .few, few)) B in
+        let T = terms scoring (a .caches) floats in
+        let z = begins.begins file (a .lists) T (a .held) (alive live) (imp Fresh (λ s o. o .as-opened) (alive live) left-opened) left-apart rows (omega (arith, L .few, few)) B in
         let k : length (map f (alive live)) ≡ live .len = map-long (alive live) ∙ length-take-le (live .len) (live .scorers) (omega (arith, L .few, L .long, few)) in
         let W : Route Float = pivotRoute 128 f32 (map f (alive live)) in
         let first : at (mode.Union u) ≡ place.union (W .first) = ap place.union (z .1) in
         record {
-          stands = (rows .three, z .0);
+          stands = z .0;
           kept = z .0 .kept;
           list-is = lists-by (pivots (map f (alive live)) (λ e. ne (sym k ∙ e)) ∙ ap (blockWand 128 f32) left-are) (subst (Runs W) (sym first) (runs-union (map f (alive live))));
         }

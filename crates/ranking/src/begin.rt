@@ -7,6 +7,7 @@ use ordering::retain;
 use plain_scan::Plain;
 use query::open_lists;
 use request::Mode;
+use slot_rows::place::Places;
 use term_scorer::TermScorer;
 use term_scorer::score::Similarity;
 ghost use mathlib.Core.Path.{_≡_};
@@ -74,7 +75,7 @@ fn begin_skipping(
     lists: &[[usize; 8]; 16],
     caches: &[[f32; 256]; 16],
     order: &mut [usize; 16],
-    places: &[[usize; 8]; 16],
+    places: &Places,
     docs: &[[u32; 128]; 16],
     freqs: &[[u32; 128]; 16],
 ) -> Machine
@@ -120,7 +121,7 @@ pub fn begin(
     lists: &mut [[usize; 8]; 16],
     caches: &mut [[f32; 256]; 16],
     order: &mut [usize; 16],
-    places: &mut [[usize; 8]; 16],
+    places: &mut Places,
     docs: &mut [[u32; 128]; 16],
     freqs: &mut [[u32; 128]; 16],
 ) -> Machine

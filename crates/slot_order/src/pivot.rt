@@ -1,6 +1,7 @@
 // What is found by the scorers' documents and list bounds: the pivot, the scorer to seek, and how far it may.
 use notefile::block::TERMINATED;
 use ordering::Pivot;
+use slot_rows::place::Places;
 use term_scorer::slot;
 ghost use mathlib.Core.List.{List, map};
 ghost use mathlib.Core.Path.{_≡_};
@@ -39,7 +40,7 @@ fn end_of_pivot(
     n: usize,
     from: usize,
     doc: u32,
-    places: &[[usize; 8]; 16],
+    places: &Places,
     docs: &[[u32; 128]; 16],
 ) -> usize
     requires { ⌜ (from ≤ n) × (n ≤ 16) × Sixteen (now order) × All (Readable (now places)) (take n (now order)) ⌝ }
@@ -62,7 +63,7 @@ pub fn find_pivot_doc(
     n: usize,
     tops: &[f32; 16],
     threshold: f32,
-    places: &[[usize; 8]; 16],
+    places: &Places,
     docs: &[[u32; 128]; 16],
 ) -> Pivot
     requires { ⌜ (n ≤ 16) × Sixteen (now order) × Sixteen (now tops) × All (Readable (now places)) (take n (now order)) ⌝ }
@@ -110,7 +111,7 @@ pub fn least_doc(
     n: usize,
     len: usize,
     from: u32,
-    places: &[[usize; 8]; 16],
+    places: &Places,
     docs: &[[u32; 128]; 16],
 ) -> u32
     requires { ⌜ (len ≤ n) × (n ≤ 16) × Sixteen (now order) × All (Readable (now places)) (take n (now order)) ⌝ }

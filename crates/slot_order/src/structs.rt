@@ -1,5 +1,6 @@
 // The scorers as structs in an array of 16, read off the tables in their order, and their slots written back.
 use ordering::Scorers;
+use slot_rows::place::Places;
 use term_scorer::TermScorer;
 use term_scorer::slot;
 ghost use mathlib.Core.List.{map};
@@ -17,7 +18,7 @@ pub fn in_order(
     order: &[usize; 16],
     n: usize,
     tops: &[f32; 16],
-    places: &[[usize; 8]; 16],
+    places: &Places,
     docs: &[[u32; 128]; 16],
 ) -> Scorers
     requires { ⌜ (n ≤ 16) × Sixteen (now order) × Sixteen (now tops) × All (Readable (now places)) (take n (now order)) ⌝ }

@@ -8,7 +8,13 @@ ghost use Rattle.arrays.specs.Lent.{before, after};
 ghost use Rattle.notefile.specs.Inner.Given.{BlocksIn, Limits, weightOf};
 ghost use Rattle.slot_rows.specs.Inner.Rows.{partIn, partRow, PartRow, postingsIn, placeRow, Narrow, Standing};
 
-// Where a place's numbers stand in its row. The last says whether the block's bound is known.
+// A scorer's place, and those of all slots.
+pub type Place = [usize; 9];
+
+pub type Places = [[usize; 9]; 16];
+
+// Where a place's numbers stand in its row. The last two say whether the block's bound is known,
+// and whether the scores of the block decoded last are made.
 pub const BLOCK: usize = 0;
 
 const BYTE_OFFSET: usize = 1;
@@ -25,10 +31,16 @@ pub const CUR: usize = 6;
 
 pub const BOUND: usize = 7;
 
-// Its two values.
+pub const SCORED: usize = 8;
+
+// The two values of each.
 const UNKNOWN: usize = 0;
 
 pub const KNOWN: usize = 1;
+
+const UNMADE: usize = 0;
+
+pub const MADE: usize = 1;
 
 // Where a part's number of postings stands in its row.
 pub const COUNT: usize = 2;
@@ -78,9 +90,9 @@ pub fn weight_of(list: &[usize; 8], norms: &[f32; 256]) -> Bm25Weight
     }
 }
 
-// A place's numbers, put into a row, with a bound that is not known.
-pub fn keep(p: SegmentPostings, place: &mut [usize; 8])
-    ensures { λ _. ⌜ (after place ≡ placeRow p 0) × Narrow p ⌝ }
+// A place's numbers, put into a row. Its bound is not known, and its scores are not made.
+pub fn keep(p: SegmentPostings, place: &mut Place)
+    ensures { λ _. ⌜ (after place ≡ placeRow p 0 0) × Narrow p ⌝ }
 {
     let reader = p.skip_reader;
     let mut loaded = 0usize;
@@ -96,11 +108,12 @@ pub fn keep(p: SegmentPostings, place: &mut [usize; 8])
         p.decoded,
         p.cur,
         UNKNOWN,
+        UNMADE,
     ];
 }
 
 // The place of a row. Its skip reader reads the block's entry again.
-pub fn postings_of(file: &[u8], x: Part, place: &[usize; 8]) -> SegmentPostings
+pub fn postings_of(file: &[u8], x: Part, place: &Place) -> SegmentPostings
     requires { ⌜ BlocksIn (now file) x × Standing (now file) x (now place) ⌝ }
     ensures { λ r. ⌜ r ≡ postingsIn (before file) x (before place) ⌝ }
 {

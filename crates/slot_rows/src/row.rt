@@ -2,6 +2,7 @@
 use crate::place::CUR;
 use crate::place::LAST;
 use crate::place::LOADED;
+use crate::place::Place;
 use crate::place::keep;
 use crate::place::part_of;
 use crate::place::postings_of;
@@ -25,13 +26,13 @@ ghost use Rattle.slot_rows.specs.Inner.Rows.{cursorIn, firstOf, partIn, 
 pub fn open(
     file: &[u8],
     x: Part,
-    place: &mut [usize; 8],
+    place: &mut Place,
     docs: &mut [u32; 128],
     freqs: &mut [u32; 128],
 ) -> u32
     requires { ⌜ ListIn (now file) x ⌝ }
     ensures { λ r. ⌜ MovedRow (before file) x (λ _. fresh) (before place) (after place) (after docs) (after freqs) r
-        × (getD (after place) 7 0 ≡ 0) ⌝ }
+        × (getD (after place) 7 0 ≡ 0) × (getD (after place) 8 0 ≡ 0) ⌝ }
 {
     let p = SegmentPostings::open(file, x, docs, freqs);
     keep(p, place);
@@ -39,7 +40,7 @@ pub fn open(
 }
 
 // The skip reader alone goes on; within its block nothing moves.
-pub fn seek_block(file: &[u8], list: &[usize; 8], target: u32, place: &mut [usize; 8])
+pub fn seek_block(file: &[u8], list: &[usize; 8], target: u32, place: &mut Place)
     requires { let x = partIn (now list) in
         ⌜ PartRow (now list) × ListIn (now file) x × Standing (now file) x (now place) ⌝ }
     ensures { λ _.
@@ -61,7 +62,7 @@ fn seek_far(
     file: &[u8],
     list: &[usize; 8],
     target: u32,
-    place: &mut [usize; 8],
+    place: &mut Place,
     docs: &mut [u32; 128],
     freqs: &mut [u32; 128],
 ) -> u32
@@ -85,7 +86,7 @@ pub fn seek(
     list: &[usize; 8],
     doc: u32,
     target: u32,
-    place: &mut [usize; 8],
+    place: &mut Place,
     docs: &mut [u32; 128],
     freqs: &mut [u32; 128],
 ) -> u32
@@ -120,7 +121,7 @@ pub fn seek(
 fn advance_far(
     file: &[u8],
     list: &[usize; 8],
-    place: &mut [usize; 8],
+    place: &mut Place,
     docs: &mut [u32; 128],
     freqs: &mut [u32; 128],
 ) -> u32
@@ -143,7 +144,7 @@ fn advance_far(
 pub fn advance(
     file: &[u8],
     list: &[usize; 8],
-    place: &mut [usize; 8],
+    place: &mut Place,
     docs: &mut [u32; 128],
     freqs: &mut [u32; 128],
 ) -> u32
@@ -167,7 +168,7 @@ pub fn advance(
 pub fn load(
     file: &[u8],
     list: &[usize; 8],
-    place: &mut [usize; 8],
+    place: &mut Place,
     docs: &mut [u32; 128],
     freqs: &mut [u32; 128],
 ) -> u32

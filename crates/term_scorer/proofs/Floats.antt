@@ -11,11 +11,11 @@ use borrow.Author.Tests.{eqb-false, eqb-true}
 use Rattle.route.proofs.Cases.{on-test}
 use Rattle.term_scorer.specs.Inner.Weights.{FloatRow, FloatRows}
 
-pub rows-set : {floats : List (List Float)} (r : ℕ) (row : List Float) → FloatRows floats → r < 3 → FloatRow row → FloatRows (set floats r row)
+pub rows-set : {floats : List (List Float)} (r : ℕ) (row : List Float) → FloatRows floats → r < 18 → FloatRow row → FloatRows (set floats r row)
 rows-set {floats} r row F h l = record {
-  three = length-set floats r row ∙ F .three;
+  eighteen = length-set floats r row ∙ F .eighteen;
   row = λ k hk.
-      let t = F .three in
+      let t = F .eighteen in
       on-test (eqb k r)
       (λ e. subst (λ (z : ℕ). FloatRow (getD (set floats r row) z [])) (sym (eqb-true k r e)) (ap length (getD-set-same floats r row [] (omega arith)) ∙ l))
       (λ e. ap length (getD-set-other floats r k row [] (eqb-false k r e)) ∙ F .row k hk);

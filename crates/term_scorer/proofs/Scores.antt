@@ -7,7 +7,7 @@ use Prim.Native.Nat.{ℕ, _+_, _≤_, _<_}
 use native.Mathlib.Omega.{arith}
 use lib.Dec.{eqb, ltb}
 use lib.ListN.{getD, set}
-use lib.Seq.{set-getD}
+use lib.Seq.{getD-set-other, getD-set-same, set-getD}
 use lib.Ieee.{Float, nan}
 use borrow.Author.Tests.{eqb-true, lt-ltb, le-ltb}
 use Rattle.arrays.proofs.Order.{lt-or-ge}
@@ -36,8 +36,9 @@ use Rattle.postings.specs.declared.cursor.SegmentPostings.{SegmentPostings}
 use Rattle.postings.proofs.BlockBounds.{score-at, score-is}
 use Rattle.slot_rows.specs.Inner.Rows.{cursorIn, partIn, postingsIn, PlaceIn}
 use Rattle.slot_rows.proofs.Rows.{cursor-is}
-use Rattle.term_scorer.specs.Inner.Slots.{listAt, partAt, cursorAt}
-use Rattle.term_scorer.specs.Inner.Weights.{blockMaxAt, BlockScores, BoundFound, Bounded, BoundKept, NormsIn}
+use Rattle.term_scorer.specs.Inner.Slots.{listAt, partAt, cursorAt, Sixteen}
+use Rattle.term_scorer.specs.Inner.Weights.{blockMaxAt, BlockScores, BoundFound, Bounded, BoundKept, FloatRow, FloatRows, NormsIn, ScoresKept, ScoresMade}
+use Rattle.term_scorer.proofs.Floats.{rows-set}
 use Rattle.term_scorer.specs.declared.score.BlockMax.{BlockMax}
 use Rattle.term_scorer.specs.declared.score.BlockMax.the-variants.{Known, Unknown}
 use Rattle.term_scorer.specs.declared.score.Bound.{Bound}
@@ -46,19 +47,19 @@ use Rattle.term_scorer.specs.declared.score.Bound.{Bound}
 pub weight-in : (x : Part) (cache : List Float) → NormsIn x cache → {w : Bm25Weight} → w ≡ weightOf x cache → WeightIn x w
 weight-in x cache N e = subst (WeightIn x) (sym e) (record { weight-is = refl; average-is = refl; norms = N })
 
+-- a posting with a document stands inside its list
+inside-list : (file : List ℕ) (x : Part) (at : ℕ) → docIn file x at < 2147483647 → at < x .count
+inside-list file x at h = elim (lt-or-ge at (x .count)) [
+  | inl l ↦ l
+  | inr g ↦ absurd (omega (arith, rw (le-ltb at (x .count) g) at h))
+]
+
 module _ (file : List ℕ) (x : Part) (w : Bm25Weight) (W : WeightIn x w) (scoring : Scoring) where
   module _ (bytes : (k : ℕ) → getD file k 0 < 256) {norms : FieldNormReader} (en : norms ≡ normReader file)
       {row docs freqs : List ℕ} (P : PlaceIn file x row docs freqs) where
     module _ (i : ℕ) (hi : i < 128) where
       abbrev at : ℕ
       at = start 128 (cursorIn row .dec) + i
-
-      -- a posting with a document stands inside its list
-      inside : docIn file x at < 2147483647 → at < x .count
-      inside h = elim (lt-or-ge at (x .count)) [
-        | inl l ↦ l
-        | inr g ↦ absurd (omega (arith, rw (le-ltb at (x .count) g) at h))
-      ]
 
       freq-is : at < x .count → getD freqs i 0 ≡ Rattle.notefile.specs.Inner.Structs.listFreq file x at
       unfolding postingsIn cursorIn
@@ -68,7 +69,7 @@ module _ (file : List ℕ) (x : Part) (w : Bm25Weight) (W : WeightIn x w) (scori
           → {r : Float} → r ≡ scored scoring (scoreIn w id freq) → r ≡ listOf scoring file x .score at
       unfolding listOf blockScore normCodeOf
       score-in-block {doc} {id} {freq} ed hd ei ef {r} er =
-          let l = inside (omega (arith, ed, hd)) in
+          let l = inside-list file x at (omega (arith, ed, hd)) in
           let d : doc ≡ Rattle.notefile.specs.Lists.listDoc file x at = ed ∙ rw (lt-ltb at (x .count) l) in
           let n : id ≡ normCodeOf file doc = ei ∙ rw en in
           er ∙ ap (scored scoring) (score-by-code x w W id freq (subst (λ (z : ℕ). z < 256) (sym n) (norm-code-small file bytes doc)) ∙ rw (n, d, ef, freq-is l))
@@ -88,6 +89,51 @@ module _ (file : List ℕ) (x : Part) (w : Bm25Weight) (W : WeightIn x w) (scori
   pub max-by : {r : Float} → r ≡ scored scoring (listBoundIn w) → r ≡ listOf scoring file x .top
   unfolding listOf
   max-by er = er ∙ ap (scored scoring) (list-bound-by x w W)
+
+-- the score of the posting that the scorer stands on, by the scores of its block
+score-kept : (scoring : Scoring) (file : List ℕ) (x : Part) {row docs freqs : List ℕ} → PlaceIn file x row docs freqs → docIn file x (cursorIn row .at) < 2147483647
+    → {scores : List Float} → BlockScores (listOf scoring file x) (cursorIn row .dec) scores → getD scores (getD row 6 0) nan ≡ listOf scoring file x .score (cursorIn row .at)
+unfolding listOf postingsIn cursorIn
+score-kept scoring file x {row} P h S = S .at (getD row 6 0) (P .placed .inside) (inside-list file x (cursorIn row .at) h)
+
+-- after that the scorer's place in its block is what it was
+pub cur-made : {scoring : Scoring} {file : List ℕ} {lists : List (List ℕ)} {q : ℕ} {places places′ : List (List ℕ)} {floats floats′ : List (List Float)} → q < 16 → Sixteen places
+    → ScoresMade scoring file lists q places floats places′ floats′ → getD (getD places′ q []) 6 0 ≡ getD (getD places q []) 6 0
+cur-made {q = q} {places = places} h l M =
+    ap (λ (z : List (List ℕ)). getD (getD z q []) 6 0) (M .places-are)
+    ∙ ap (λ (z : List ℕ). getD z 6 0) (getD-set-same places q (set (getD places q []) 8 1) [] (omega (arith, h, l)))
+    ∙ getD-set-other (getD places q []) 8 6 1 0 (λ z. omega (arith, z))
+
+-- and the score there is the posting's
+pub score-made : {scoring : Scoring} {file : List ℕ} {lists : List (List ℕ)} {q : ℕ} {places places′ : List (List ℕ)} {floats floats′ : List (List Float)} {docs freqs : List ℕ} → q < 16 → Sixteen places
+    → PlaceIn file (partAt lists q) (getD places q []) docs freqs → docIn file (partAt lists q) (cursorAt places q .at) < 2147483647
+    → ScoresMade scoring file lists q places floats places′ floats′ → {r : Float} → r ≡ getD (getD floats′ (2 + q) []) (getD (getD places′ q []) 6 0) nan
+    → r ≡ listAt scoring file lists q .score (cursorAt places q .at)
+score-made {scoring} {file} {lists} {q} {floats′ = floats′} h l P d M e =
+    e ∙ ap (λ (k : ℕ). getD (getD floats′ (2 + q) []) k nan) (cur-made h l M) ∙ score-kept scoring file (partAt lists q) P d (M .scores)
+
+-- the scores of slot q's decoded block
+module _ (scoring : Scoring) (file : List ℕ) (lists : List (List ℕ)) (q : ℕ) (places : List (List ℕ)) (floats : List (List Float)) (F : FloatRows floats) where
+  -- that were made before
+  pub scores-known : getD (getD places q []) 8 0 ≡ 1 → ScoresKept scoring file lists places floats q → ScoresMade scoring file lists q places floats places floats
+  scores-known k S = record {
+    places-are = sym (ap (λ (z : ℕ). set places q (set (getD places q []) 8 z)) (sym k) ∙ ap (set places q) (set-getD (getD places q []) 8 0) ∙ set-getD places q []);
+    floats-are = sym (set-getD floats (2 + q) []);
+    scores = S k;
+    rows = F;
+  }
+
+  -- that are made now
+  pub scores-new : q < 16 → {scores : List Float} → BlockScores (listAt scoring file lists q) (cursorAt places q .dec) scores × FloatRow scores
+      → ScoresMade scoring file lists q places floats (set places q (set (getD places q []) 8 1)) (set floats (2 + q) scores)
+  scores-new h {scores} (S, l) =
+      let e = getD-set-same floats (2 + q) scores [] (omega (arith, h, F .eighteen)) in
+      record {
+        places-are = refl;
+        floats-are = ap (set floats (2 + q)) (sym e);
+        scores = rw e S;
+        rows = rows-set (2 + q) scores F (omega (arith, h)) l;
+      }
 
 module _ (scoring : Scoring) (file : List ℕ) (lists : List (List ℕ)) (q : ℕ) (places : List (List ℕ)) (bounds : List Float) where
   abbrev kept : Bool

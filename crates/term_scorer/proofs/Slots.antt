@@ -49,9 +49,9 @@ module _ (file : List ℕ) (x : Part) (q : ℕ) (h : q < 16) (lists : List (List
   part-there = ap partIn (same-row lists q (partRow x) h l) ∙ part-back x
 
   pub opened : {list : List ℕ} → (list ≡ partRow x) × PartRow list → {places docs freqs : List (List ℕ)} → Sixteen places × Sixteen docs × Sixteen freqs → {p d f : List ℕ} {doc : ℕ}
-      → MovedRow file x (λ _. fresh) (getD places q []) p d f doc × (getD p 7 0 ≡ 0)
+      → MovedRow file x (λ _. fresh) (getD places q []) p d f doc × (getD p 7 0 ≡ 0) × (getD p 8 0 ≡ 0)
       → Opened file x q lists (set lists q list) (held places docs freqs) (held (set places q p) (set docs q d) (set freqs q f)) doc
-  opened {list} (e, r) {places} {docs} {freqs} s {p} {d} {f} {doc} (M, u) =
+  opened {list} (e, r) {places} {docs} {freqs} s {p} {d} {f} {doc} (M, u, v) =
       subst (λ (z : List ℕ). Opened file x q lists (set lists q z) (held places docs freqs) (held (set places q p) (set docs q d) (set freqs q f)) doc) (sym e)
       (record {
         lists-only = refl;
@@ -59,4 +59,5 @@ module _ (file : List ℕ) (x : Part) (q : ℕ) (h : q < 16) (lists : List (List
         opened = moved-slot file (set lists q (partRow x)) q h (λ _. fresh) s
             (subst (λ (z : Part). MovedRow file z (λ _. fresh) (getD places q []) p d f doc) (sym part-there) M);
         unknown = rw (same-row places q p h (s .0)) u;
+        unscored = rw (same-row places q p h (s .0)) v;
       })

@@ -4,8 +4,8 @@ pub mod score;
 pub mod slot;
 
 // The floats of a run, in rows of 128: block bounds by slot; the intersection's sums of the bounds that follow, by place in its order;
-// the scores of a decoded block, by place in the block.
-pub type Floats = [[f32; 128]; 3];
+// then 16 rows for the scores of decoded blocks, by place in the block: a union has one for each slot, the others use the first.
+pub type Floats = [[f32; 128]; 18];
 
 pub const BOUNDS: usize = 0;
 

@@ -1,4 +1,6 @@
 // Scores and block bounds by slot. The struct of a slot's list is made of its rows and goes by value.
+use crate::Floats;
+use crate::SCORES;
 use bm25::Bm25Weight;
 use bm25::Scoring;
 use fieldnorm::FieldNormReader;
@@ -7,12 +9,17 @@ use slot_rows::place::BLOCK;
 use slot_rows::place::BOUND;
 use slot_rows::place::CUR;
 use slot_rows::place::KNOWN;
+use slot_rows::place::MADE;
+use slot_rows::place::Place;
+use slot_rows::place::Places;
+use slot_rows::place::SCORED;
 use slot_rows::place::part_of;
 use slot_rows::place::postings_of;
 use slot_rows::place::weight_of;
 ghost use mathlib.Core.Path.{_≡_};
 ghost use mathlib.Core.List.{[]};
-ghost use Prim.Native.Nat.{_<_};
+ghost use Prim.Native.Nat.{_+_, _<_};
+ghost use lib.Ieee.{nan};
 ghost use lib.ListN.{getD};
 ghost use Rattle.arrays.specs.Lent.{before, after};
 ghost use Rattle.notefile.specs.Header.{normReader};
@@ -20,7 +27,7 @@ ghost use Rattle.notefile.specs.Inner.Given.{Limits, WeightIn};
 ghost use Rattle.skip_reader.specs.Inner.Decoded.{docIn, ListIn};
 ghost use Rattle.slot_rows.specs.Inner.Rows.{partIn, PartRow, PlaceIn};
 ghost use Rattle.term_scorer.specs.Inner.Slots.{cursorAt, held, listAt, partAt, SlotIn};
-ghost use Rattle.term_scorer.specs.Inner.Weights.{blockMaxAt, BlockScores, BoundFound, Bounded, BoundKept, FloatRow, NormsIn, Weighed};
+ghost use Rattle.term_scorer.specs.Inner.Weights.{blockMaxAt, BlockScores, BoundFound, Bounded, BoundKept, FloatRow, FloatRows, NormsIn, ScoresKept, ScoresMade, Weighed};
 
 // What every score of a run is made with: the file's norm codes, and stepped scores or unstepped ones.
 pub struct Similarity {
@@ -41,7 +48,7 @@ struct Bound {
 }
 
 // The frequency of the posting on which slot q's scorer stands.
-pub fn term_freq(q: usize, places: &[[usize; 8]; 16], freqs: &[[u32; 128]; 16]) -> u32
+pub fn term_freq(q: usize, places: &Places, freqs: &[[u32; 128]; 16]) -> u32
     requires { ⌜ (q < 16) × (getD (getD (now places) q []) 6 0 < 128) ⌝ }
     ensures { λ r. ⌜ r ≡ getD (getD (before freqs) q []) (getD (getD (before places) q []) 6 0) 0 ⌝ }
 {
@@ -65,7 +72,7 @@ pub fn score(
     caches: &[[f32; 256]; 16],
     q: usize,
     doc: u32,
-    places: &[[usize; 8]; 16],
+    places: &Places,
     docs: &[[u32; 128]; 16],
     freqs: &[[u32; 128]; 16],
 ) -> f32
@@ -108,7 +115,7 @@ pub fn score_block(
     lists: &[[usize; 8]; 16],
     caches: &[[f32; 256]; 16],
     q: usize,
-    places: &[[usize; 8]; 16],
+    places: &Places,
     docs: &[[u32; 128]; 16],
     freqs: &[[u32; 128]; 16],
     scores: &mut [f32; 128],
@@ -126,13 +133,93 @@ pub fn score_block(
     bm25_block::score_block(file, norms, w, scoring, &docs[q], &freqs[q], scores);
 }
 
+// The scores of the block that slot q decoded last, made and kept.
+fn make_scores(
+    file: &[u8],
+    similarity: Similarity,
+    lists: &[[usize; 8]; 16],
+    caches: &[[f32; 256]; 16],
+    q: usize,
+    places: &mut Places,
+    docs: &[[u32; 128]; 16],
+    freqs: &[[u32; 128]; 16],
+    floats: &mut Floats,
+)
+    requires { let slots = held (now places) (now docs) (now freqs) in
+        ⌜ (q < 16) × (similarity .norms ≡ normReader (now file)) × SlotIn (now file) (now lists) slots q
+        × Weighed (now lists) (now caches) q × FloatRows (now floats) ⌝ }
+    ensures { λ _.
+        ⌜ ScoresMade (similarity .scoring) (before file) (before lists) q (before places) (before floats) (after places) (after floats) ⌝ }
+{
+    score_block(
+        file,
+        similarity,
+        lists,
+        caches,
+        q,
+        places,
+        docs,
+        freqs,
+        &mut floats[SCORES + q],
+    );
+    places[q][SCORED] = MADE;
+}
+
+// What slot q's scores have of the posting on which its scorer stands.
+fn score_in(q: usize, places: &Places, floats: &Floats) -> f32
+    requires { ⌜ (q < 16) × (getD (getD (now places) q []) 6 0 < 128) ⌝ }
+    ensures { λ r. ⌜ r ≡ getD (getD (before floats) (2 + q) []) (getD (getD (before places) q []) 6 0) nan ⌝ }
+{
+    let cur = places[q][CUR];
+    floats[SCORES + q][cur]
+}
+
+// The score of the posting on which slot q's scorer stands. Its block is scored whole at the first need of one score,
+// with one copy of the struct, and the scores are kept until another block is decoded.
+pub fn kept_score(
+    file: &[u8],
+    similarity: Similarity,
+    lists: &[[usize; 8]; 16],
+    caches: &[[f32; 256]; 16],
+    q: usize,
+    places: &mut Places,
+    docs: &[[u32; 128]; 16],
+    freqs: &[[u32; 128]; 16],
+    floats: &mut Floats,
+) -> f32
+    requires { let slots = held (now places) (now docs) (now freqs) in
+        ⌜ (q < 16) × (similarity .norms ≡ normReader (now file)) × SlotIn (now file) (now lists) slots q
+        × Weighed (now lists) (now caches) q × FloatRows (now floats)
+        × ScoresKept (similarity .scoring) (now file) (now lists) (now places) (now floats) q
+        × (docIn (now file) (partAt (now lists) q) (cursorAt (now places) q .at) < 2147483647) ⌝ }
+    ensures { λ r.
+        ⌜ (r ≡ listAt (similarity .scoring) (before file) (before lists) q .score (cursorAt (before places) q .at))
+        × ScoresMade (similarity .scoring) (before file) (before lists) q (before places) (before floats) (after places) (after floats) ⌝ }
+{
+    if places[q][SCORED] == MADE {
+        return score_in(q, places, floats);
+    }
+    make_scores(
+        file,
+        similarity,
+        lists,
+        caches,
+        q,
+        places,
+        docs,
+        freqs,
+        floats,
+    );
+    score_in(q, places, floats)
+}
+
 // The bound of the skip reader's block. It lasts unless the block is a tail that is not loaded.
 fn bound_of(
     file: &[u8],
     similarity: Similarity,
     list: &[usize; 8],
     cache: &[f32; 256],
-    place: &[usize; 8],
+    place: &Place,
     docs: &[u32; 128],
     freqs: &[u32; 128],
 ) -> Bound
@@ -156,7 +243,7 @@ fn bound_of(
 }
 
 // The bound that slot q keeps of its block. Nobody else reads the flag.
-fn cached(q: usize, places: &[[usize; 8]; 16], bounds: &[f32; 128]) -> BlockMax
+fn cached(q: usize, places: &Places, bounds: &[f32; 128]) -> BlockMax
     requires { ⌜ q < 16 ⌝ }
     ensures { λ r. ⌜ r ≡ blockMaxAt (before places) (before bounds) q ⌝ }
 {
@@ -173,7 +260,7 @@ fn new_block_max(
     lists: &[[usize; 8]; 16],
     caches: &[[f32; 256]; 16],
     q: usize,
-    places: &mut [[usize; 8]; 16],
+    places: &mut Places,
     docs: &[[u32; 128]; 16],
     freqs: &[[u32; 128]; 16],
     bounds: &mut [f32; 128],
@@ -208,7 +295,7 @@ pub fn block_max(
     lists: &[[usize; 8]; 16],
     caches: &[[f32; 256]; 16],
     q: usize,
-    places: &mut [[usize; 8]; 16],
+    places: &mut Places,
     docs: &[[u32; 128]; 16],
     freqs: &[[u32; 128]; 16],
     bounds: &mut [f32; 128],

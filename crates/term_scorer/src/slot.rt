@@ -4,6 +4,7 @@ use slot_rows::place::BLOCK;
 use slot_rows::place::COUNT;
 use slot_rows::place::CUR;
 use slot_rows::place::LAST;
+use slot_rows::place::Places;
 use slot_rows::place::keep_part;
 use slot_rows::row;
 ghost use mathlib.Core.Path.{_≡_};
@@ -27,7 +28,7 @@ pub fn open(
     x: Part,
     q: usize,
     lists: &mut [[usize; 8]; 16],
-    places: &mut [[usize; 8]; 16],
+    places: &mut Places,
     docs: &mut [[u32; 128]; 16],
     freqs: &mut [[u32; 128]; 16],
 ) -> u32
@@ -43,7 +44,7 @@ pub fn open(
 }
 
 // The document that slot q's scorer stands on.
-pub fn doc(q: usize, places: &[[usize; 8]; 16], docs: &[[u32; 128]; 16]) -> u32
+pub fn doc(q: usize, places: &Places, docs: &[[u32; 128]; 16]) -> u32
     requires { ⌜ (q < 16) × (getD (getD (now places) q []) 6 0 < 128) ⌝ }
     ensures { λ r. ⌜ r ≡ getD (getD (before docs) q []) (getD (getD (before places) q []) 6 0) 0 ⌝ }
 {
@@ -52,7 +53,7 @@ pub fn doc(q: usize, places: &[[usize; 8]; 16], docs: &[[u32; 128]; 16]) -> u32
 }
 
 // The last document of the block on which the skip reader stands.
-pub fn last_doc_in_block(q: usize, places: &[[usize; 8]; 16]) -> u32
+pub fn last_doc_in_block(q: usize, places: &Places) -> u32
     requires { ⌜ (q < 16) × (lastAt (now places) q < 4294967296) ⌝ }
     ensures { λ r. ⌜ r ≡ lastAt (before places) q ⌝ }
 {
@@ -60,12 +61,7 @@ pub fn last_doc_in_block(q: usize, places: &[[usize; 8]; 16]) -> u32
 }
 
 // Whether the block on which the skip reader stands has a document.
-pub fn has_remaining_docs(
-    file: &[u8],
-    lists: &[[usize; 8]; 16],
-    q: usize,
-    places: &[[usize; 8]; 16],
-) -> bool
+pub fn has_remaining_docs(file: &[u8], lists: &[[usize; 8]; 16], q: usize, places: &Places) -> bool
     requires { ⌜ (q < 16) × StandingIn (now file) (now lists) (now places) q ⌝ }
     ensures { λ r. ⌜ r ≡ ltb (start 128 (cursorAt (before places) q .blk)) (partAt (before lists) q .count) ⌝ }
 {
@@ -73,13 +69,7 @@ pub fn has_remaining_docs(
 }
 
 // The skip reader alone goes on to the block that may hold the target.
-pub fn seek_block(
-    file: &[u8],
-    lists: &[[usize; 8]; 16],
-    q: usize,
-    target: u32,
-    places: &mut [[usize; 8]; 16],
-)
+pub fn seek_block(file: &[u8], lists: &[[usize; 8]; 16], q: usize, target: u32, places: &mut Places)
     requires { ⌜ (q < 16) × StandingIn (now file) (now lists) (now places) q ⌝ }
     ensures { λ _.
         ⌜ Shallowed (before file) (before lists) q
@@ -95,7 +85,7 @@ pub fn shallow_seek(
     lists: &[[usize; 8]; 16],
     q: usize,
     target: u32,
-    places: &mut [[usize; 8]; 16],
+    places: &mut Places,
 )
     requires { ⌜ (q < 16) × StandingIn (now file) (now lists) (now places) q ⌝ }
     ensures { λ _.
@@ -117,7 +107,7 @@ pub fn seek(
     q: usize,
     doc: u32,
     target: u32,
-    places: &mut [[usize; 8]; 16],
+    places: &mut Places,
     docs: &mut [[u32; 128]; 16],
     freqs: &mut [[u32; 128]; 16],
 ) -> u32
@@ -147,7 +137,7 @@ pub fn advance(
     file: &[u8],
     lists: &[[usize; 8]; 16],
     q: usize,
-    places: &mut [[usize; 8]; 16],
+    places: &mut Places,
     docs: &mut [[u32; 128]; 16],
     freqs: &mut [[u32; 128]; 16],
 ) -> u32
@@ -168,7 +158,7 @@ pub fn load(
     file: &[u8],
     lists: &[[usize; 8]; 16],
     q: usize,
-    places: &mut [[usize; 8]; 16],
+    places: &mut Places,
     docs: &mut [[u32; 128]; 16],
     freqs: &mut [[u32; 128]; 16],
 ) -> u32

@@ -14,7 +14,7 @@ use Rattle.bm25.specs.declared.Scoring.{Scoring}
 use Rattle.ordering.specs.Inner.Scorers.{Moving}
 use Rattle.term_scorer.specs.declared.TermScorer.{TermScorer}
 use Rattle.term_scorer.specs.Inner.Slots.{Held, lastAt, Sixteen}
-use Rattle.term_scorer.specs.Inner.Weights.{FloatRow}
+use Rattle.term_scorer.specs.Inner.Weights.{FloatRows}
 use Rattle.block_wand_union.specs.Inner.Seats.{Carried, Seat, Terms, TopIs, onRoute, scorerAt, terms, termsOf}
 use Rattle.block_wand_union.specs.declared.align.Alignment.{Alignment}
 
@@ -30,12 +30,12 @@ LastRead places q = (q < 16) × (lastAt places q < 4294967296)
 module _ (file : List ℕ) (lists : List (List ℕ)) where
   -- the first len of l have shallowly sought doc, and r is the sum of their block bounds, in their order
   pub record BlocksSought (T : Terms) (h : Held) (doc len : ℕ)
-      (h′ : Held) (bounds′ : List Float) (r : Float) (l : List TermScorer) : Type 0 where
-    pub seats : All (Seat file lists (terms (T .scoring) (T .caches) bounds′) h′) l
+      (h′ : Held) (floats′ : List (List Float)) (r : Float) (l : List TermScorer) : Type 0 where
+    pub seats : All (Seat file lists (terms (T .scoring) (T .caches) floats′) h′) l
     pub moving : Moving (seekBlock 128 doc) (scorerAt file lists (T .scoring) (h .places)) l len
         (scorerAt file lists (T .scoring) (h′ .places)) l
     pub sum-is : r ≡ sum f32 (map (blockMaxScore 128 f32) (onRoute file lists (T .scoring) h′ (take len l)))
-    pub row : FloatRow bounds′
+    pub rows : FloatRows floats′
 
   -- the blocks of the first len of scorers l were too low, and one of them has gone on: the route's next scorers
   pub record OneOn (scoring : Scoring) (h : Held) (l : List TermScorer) (len : ℕ) (h′ : Held) (l′ : List TermScorer) : Type 0 where

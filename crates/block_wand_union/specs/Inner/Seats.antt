@@ -15,18 +15,18 @@ use Rattle.notefile.specs.Lists.{fullBlocks}
 use Rattle.skip_reader.specs.Inner.Decoded.{docIn, ListIn}
 use Rattle.slot_rows.specs.Inner.Rows.{PartRow}
 use Rattle.term_scorer.specs.Inner.Slots.{cursorAt, Held, listAt, partAt, SlotIn}
-use Rattle.term_scorer.specs.Inner.Weights.{BoundKept, FloatRow, Weighed}
+use Rattle.term_scorer.specs.Inner.Weights.{BoundKept, FloatRows, ScoresKept, Weighed}
 use Rattle.block_wand_union.specs.declared.Stage as code
 use Rattle.block_wand_union.specs.declared.Stage.the-variants.{Called, Looking, Over}
 
--- how the lists' postings are scored, and the block bounds that are kept
+-- how the lists' postings are scored, and the block bounds and scores that are kept
 pub record Terms : Type 0 where
   pub scoring : Scoring
   pub caches : List (List Float)
-  pub bounds : List Float
+  pub floats : List (List Float)
 
-abbrev pub terms : Scoring → List (List Float) → List Float → Terms
-terms scoring caches bounds = record { scoring = scoring; caches = caches; bounds = bounds }
+abbrev pub terms : Scoring → List (List Float) → List (List Float) → Terms
+terms scoring caches floats = record { scoring = scoring; caches = caches; floats = floats }
 
 -- the scorers of an array that are left
 abbrev pub alive : Scorers → List TermScorer
@@ -91,20 +91,27 @@ module _ (file : List ℕ) (lists : List (List ℕ)) where
     pub list : ListIn file (partAt lists q)
     pub weighed : Weighed lists caches q
 
-  -- a scorer stands in its slot, with its list's norms and its list bound, and a block bound that is known is right
+  -- a scorer stands in its slot, with its list's norms and its list bound; a block bound that is known is right, and so are scores
+  -- that are made
   pub record Seat (T : Terms) (h : Held) (s : TermScorer) : Type 0 where
     pub stand : Stand h s
     pub weighed : Weighed lists (T .caches) (s .slot)
-    pub bound : BoundKept (T .scoring) file lists (h .places) (T .bounds) (s .slot)
+    pub bound : BoundKept (T .scoring) file lists (h .places) (getD (T .floats) 0 []) (s .slot)
+    pub scores : ScoresKept (T .scoring) file lists (h .places) (T .floats) (s .slot)
     pub max-is : MaxScoreAt (T .scoring) s
 
-  -- slot q's scorer stands on document p: its posting can be scored, and it can advance
-  pub record OnDocument (caches : List (List Float)) (h : Held) (p q : ℕ) : Type 0 where
-    pub slot-in : q < 16
-    pub slot : SlotIn file lists h q
-    pub weighed : Weighed lists caches q
-    pub on : p ≡ docIn file (partAt lists q) (cursorAt (h .places) q .at)
+  -- slot q's scorer stands on a document: its posting can be scored, and it can advance
+  pub record OnDocument (T : Terms) (h : Held) (q : ℕ) : Type 0 where
+    pub seat : Seat T h (termAt (T .scoring) (h .places) q)
+    pub live : docIn file (partAt lists q) (cursorAt (h .places) q .at) < 2147483647
     pub inside : Inside lists h q
+
+  -- postings were scored: every scorer stands where it stood, and where it was right it still is
+  pub record Unmoved (scoring : Scoring) (caches : List (List Float)) (floats : List (List Float)) (h : Held)
+      (floats′ : List (List Float)) (h′ : Held) : Type 0 where
+    pub cursor-is : (q : ℕ) → cursorAt (h′ .places) q ≡ cursorAt (h .places) q
+    pub seats : (s : TermScorer) → Seat (terms scoring caches floats) h s → Seat (terms scoring caches floats′) h′ s
+    pub rows : FloatRows floats′
 
   -- the scorers of these slots can move, each in a slot of its own
   pub record Lined (h : Held) (qs : List ℕ) : Type 0 where
@@ -123,4 +130,4 @@ module _ (file : List ℕ) (lists : List (List ℕ)) where
   pub record Seated (T : Terms) (h : Held) (l : List TermScorer) : Type 0 where
     pub seats : All (Seat T h) l
     pub apart : Apart l
-    pub row : FloatRow (T .bounds)
+    pub rows : FloatRows (T .floats)

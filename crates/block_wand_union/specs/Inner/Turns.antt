@@ -18,7 +18,7 @@ use Rattle.term_scorer.specs.declared.TermScorer.{TermScorer}
 use Rattle.ordering.specs.declared.Pivot.the-variants.{At}
 use Rattle.notefile.specs.Header.{documents}
 use Rattle.term_scorer.specs.Inner.Slots.{Held, Sixteen}
-use Rattle.block_wand_union.specs.Inner.Seats.{Carried, Seated, Terms, TopIs, onRoute, placeIn, terms, termsOf}
+use Rattle.block_wand_union.specs.Inner.Seats.{Seated, Terms, TopIs, onRoute, placeIn, terms, termsOf}
 use Rattle.block_wand_union.specs.declared.Stage.{Stage}
 use Rattle.block_wand_union.specs.declared.Stage.the-variants.{Looking}
 use Rattle.block_wand_union.specs.declared.turn.Span.{Span}
@@ -42,6 +42,12 @@ module _ (file : List ℕ) (lists : List (List ℕ)) where
     pub next-is : u .next ≡ placeIn file lists scoring (h′ .places) (r .union .stage) (leftBy scoring h′ order′ r)
     pub due-is : u .due ≡ dueOf r
 
+  -- the scorers that a step leaves of n slots are seated, and a row that has the list bounds of these has theirs
+  pub record Left (T : Terms) (n : ℕ) (order : List ℕ) (h′ : Held) (order′ : List ℕ) (floats′ : List (List Float)) (r : Step) : Type 0 where
+    pub seated : Seated file lists (terms (T .scoring) (T .caches) floats′) h′ (leftBy (T .scoring) h′ order′ r)
+    pub topped : (tops : List Float) → All (TopIs file lists (T .scoring) tops) (take n order)
+        → All (TopIs file lists (T .scoring) tops) (take (r .union .len) order′)
+
   -- scorers at a pivot whose blocks are high enough: seated, and safe on the route
   pub record AtPivot (T : Terms) (h : Held) (l : List TermScorer) (at : Span) : Type 0 where
     pub found : Found l (at .«before_pivot_len») (at .«pivot_len») (at .«pivot_doc»)
@@ -49,25 +55,28 @@ module _ (file : List ℕ) (lists : List (List ℕ)) where
     pub safe : All (SafeS 128 (documents file)) (onRoute file lists (T .scoring) h l)
 
   -- the first len of n slots, all on document p, were scored at threshold t, and went on if no report is due
-  pub record Hit (scoring : Scoring) (t : Float) (h : Held) (order : List ℕ) (n len p : ℕ) (h′ : Held) (order′ : List ℕ) (r : Step) : Type 0 where
-    pub carried : Carried file lists h (termsOf file lists scoring (h .places) (take n order)) h′ (leftBy scoring h′ order′ r)
+  pub record Hit (T : Terms) (t : Float) (h : Held) (order : List ℕ) (n len p : ℕ) (h′ : Held) (order′ : List ℕ)
+      (floats′ : List (List Float)) (r : Step) : Type 0 where
+    pub left : Left T n order h′ order′ floats′ r
     pub does : (ls : List Load)
-        → let l = termsOf file lists scoring (h .places) (take n order) in
-        Does scoring (scored 128 f32 t p ls (onRoute file lists scoring h (take len l)) (onRoute file lists scoring h (drop len l))) h′ order′ r
+        → let l = termsOf file lists (T .scoring) (h .places) (take n order) in
+        let route = onRoute file lists (T .scoring) h in
+        Does (T .scoring) (scored 128 f32 t p ls (route (take len l)) (route (drop len l))) h′ order′ r
     pub few : r .union .len ≤ n
     pub long : Sixteen order′
 
   -- what the route does from there, at threshold t
-  pub record Pivoted (scoring : Scoring) (t : Float) (h : Held) (order : List ℕ) (n : ℕ) (at : Span)
-      (h′ : Held) (order′ : List ℕ) (r : Step) : Type 0 where
-    pub carried : Carried file lists h (termsOf file lists scoring (h .places) (take n order)) h′ (leftBy scoring h′ order′ r)
+  pub record Pivoted (T : Terms) (t : Float) (h : Held) (order : List ℕ) (n : ℕ) (at : Span)
+      (h′ : Held) (order′ : List ℕ) (floats′ : List (List Float)) (r : Step) : Type 0 where
+    pub left : Left T n order h′ order′ floats′ r
     pub does :
-        let l = termsOf file lists scoring (h .places) (take n order) in
-        let pre = onRoute file lists scoring h (take (at .«before_pivot_len») l) in
-        Does scoring
+        let l = termsOf file lists (T .scoring) (h .places) (take n order) in
+        let route = onRoute file lists (T .scoring) h in
+        let pre = route (take (at .«before_pivot_len») l) in
+        Does (T .scoring)
         (afterAlign 128 f32 t pre (alignScorers 128 (at .«pivot_doc») pre) (at .«pivot_doc»)
-        (onRoute file lists scoring h (drop (at .«before_pivot_len») (take (at .«pivot_len») l)))
-        (onRoute file lists scoring h (drop (at .«pivot_len») l)))
+        (route (drop (at .«before_pivot_len») (take (at .«pivot_len») l)))
+        (route (drop (at .«pivot_len») l)))
         h′ order′ r
     pub few : r .union .len ≤ n
     pub long : Sixteen order′
@@ -85,12 +94,10 @@ module _ (file : List ℕ) (lists : List (List ℕ)) where
 
   -- a turn at threshold t is the route's, and the scorers are seated after it
   pub record Turned (T : Terms) (t : Float) (stage : Stage) (h : Held) (order : List ℕ) (n : ℕ) (h′ : Held) (order′ : List ℕ)
-      (bounds′ : List Float) (r : Step) : Type 0 where
+      (floats′ : List (List Float)) (r : Step) : Type 0 where
     pub does : Does (T .scoring)
         (unionTurn 128 f32 t (placeIn file lists (T .scoring) (h .places) stage (termsOf file lists (T .scoring) (h .places) (take n order))))
         h′ order′ r
-    pub seated : Seated file lists (terms (T .scoring) (T .caches) bounds′) h′ (leftBy (T .scoring) h′ order′ r)
-    pub topped : (tops : List Float) → All (TopIs file lists (T .scoring) tops) (take n order)
-        → All (TopIs file lists (T .scoring) tops) (take (r .union .len) order′)
+    pub left : Left T n order h′ order′ floats′ r
     pub few : r .union .len ≤ n
     pub long : Sixteen order′

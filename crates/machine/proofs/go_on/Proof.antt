@@ -29,14 +29,11 @@ from-mode a e {new} {r} G =
 enum-known-machine : tie.Need-enum-known-machine
 enum-known-machine c = search needs
 
-index-1-go : tie.Need-index-1-go
-index-1-go c = search needs
-
 go-requires : tie.Need-go-requires
 go-requires c κs =
     let m = c .before .before .before .before .before .before in
     let a = m .before .before .before in
-    (a .pre .0, stood a (m .machine .given .1) .1)
+    (a .pre .0, stood a (m .machine .given .1))
 
 enum-known-machine-2 : tie.Need-enum-known-machine-2
 enum-known-machine-2 c = search needs
@@ -71,7 +68,7 @@ returns c =
     let m = g .before .before .before .before .before .before .before in
     let a = m .before .before .before in
     let l = g .go .last .1 .1 .1 .1 .1 .1 .1 in
-    from-mode a (sym (m .machine .given .1)) (union-goes (a .args .file .now) (a .args .similarity) (a .args .lists .now) (a .args .caches .now) (a .args .threshold) (a .args .turns) _ (had a) {order = l .0} {h = held (l .1 .0) (l .1 .1 .0) (l .1 .1 .1 .0)} {bounds = l .1 .1 .1 .1 .0} (g .go .result) (stood a (m .machine .given .1) .0) (g .go .ensures .0) (g .go .ensures .1))
+    from-mode a (sym (m .machine .given .1)) (union-goes (a .args .file .now) (a .args .similarity) (a .args .lists .now) (a .args .caches .now) (a .args .threshold) (a .args .turns) _ (had a) {order = l .0} {h = held (l .1 .0) (l .1 .1 .0) (l .1 .1 .1 .0)} {floats = l .1 .1 .1 .1 .0} (g .go .result) (g .go .ensures .0) (g .go .ensures .1))
 
 returns-2 : tie.Need-returns-2
 returns-2 c =
@@ -102,7 +99,6 @@ go-on-spec =
     tie.close
     (tie.spec
     enum-known-machine
-    index-1-go
     go-requires
     enum-known-machine-2
     go-requires-2

@@ -43,8 +43,7 @@ module _ (file : List ℕ) (similarity : Similarity) (lists : List (List ℕ)) (
 
   -- and its struct and tables are as the mode's functions ask
   abbrev pub StandsIn : Tables → Machine → Type 0
-  StandsIn h (Union u) =
-      (length (h .floats) ≡ 3) × any.Stands file lists (terms (similarity .scoring) caches (getD (h .floats) 0 [])) u (h .order) (h .held)
+  StandsIn h (Union u) = any.Stands file lists (terms (similarity .scoring) caches (h .floats)) u (h .order) (h .held)
   StandsIn h (Single x) = scan.Stands file similarity lists caches x (h .held) (h .floats)
   StandsIn h (Intersection v) = all.Stands (query similarity file lists caches (v .len) (h .order)) v (h .held) (h .floats)
   StandsIn h (Plain x) = PlainStands (similarity .scoring) file lists caches (h .held) x

@@ -33,13 +33,14 @@ pub record Room (a : Tables) : Type 0 where
   pub docs : Sixteen (a .held .docs)
   pub freqs : Sixteen (a .held .freqs)
 
--- slot q has list l of the file, on its first posting, with its norms and no block bound known
+-- slot q has list l of the file, on its first posting, with its norms; no block bound is known, and no scores are made
 pub record OpenSlot (file : List ℕ) (a : Tables) (l q : ℕ) : Type 0 where
   pub slot : SlotIn file (a .lists) (a .held) q
   pub part-is : partAt (a .lists) q ≡ partOf file l
   pub cursor-is : cursorAt (a .held .places) q ≡ fresh
   pub weighed : Weighed (a .lists) (a .caches) q
   pub unknown : getD (getD (a .held .places) q []) 7 0 ≡ 0
+  pub unscored : getD (getD (a .held .places) q []) 8 0 ≡ 0
 
 -- its scorer
 abbrev pub openedScorer : Scoring → List ℕ → ℕ → ℕ → TermScorer

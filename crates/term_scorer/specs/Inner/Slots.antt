@@ -85,3 +85,4 @@ pub record Opened (file : List ℕ) (x : Part) (q : ℕ) (lists lists′ : List 
   pub part-row : PartRow (partRow x)
   pub opened : MovedSlot file lists′ q (λ _. fresh) before after doc
   pub unknown : getD (getD (after .places) q []) 7 0 ≡ 0
+  pub unscored : getD (getD (after .places) q []) 8 0 ≡ 0

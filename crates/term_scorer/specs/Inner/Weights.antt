@@ -24,10 +24,10 @@ use Rattle.term_scorer.specs.declared.score.Bound.{Bound}
 abbrev pub FloatRow : List Float → Type 0
 FloatRow xs = length xs ≡ 128
 
--- the floats of a run: three rows
+-- the floats of a run: 18 rows
 pub record FloatRows (floats : List (List Float)) : Type 0 where
-  pub three : length floats ≡ 3
-  pub row : (r : ℕ) → r < 3 → FloatRow (getD floats r [])
+  pub eighteen : length floats ≡ 18
+  pub row : (r : ℕ) → r < 18 → FloatRow (getD floats r [])
 
 -- a list's norms
 abbrev pub NormsIn : Part → List Float → Type 0
@@ -40,6 +40,19 @@ Weighed lists caches q = NormsIn (partAt lists q) (getD caches q [])
 -- a row has the scores of block b of a list
 pub record BlockScores (l : Postings Float) (b : ℕ) (scores : List Float) : Type 0 where
   pub at : (i : ℕ) → i < 128 → start 128 b + i < l .len → getD scores i nan ≡ l .score (start 128 b + i)
+
+-- where the scores of slot q's decoded block are made, its row has them
+abbrev pub ScoresKept : Scoring → List ℕ → List (List ℕ) → List (List ℕ) → List (List Float) → ℕ → Type 0
+ScoresKept scoring file lists places floats q =
+    getD (getD places q []) 8 0 ≡ 1 → BlockScores (listAt scoring file lists q) (cursorAt places q .dec) (getD floats (2 + q) [])
+
+-- slot q's row has the scores of its decoded block, and they are kept: nothing else has changed
+pub record ScoresMade (scoring : Scoring) (file : List ℕ) (lists : List (List ℕ)) (q : ℕ) (places : List (List ℕ))
+    (floats : List (List Float)) (places′ : List (List ℕ)) (floats′ : List (List Float)) : Type 0 where
+  pub places-are : places′ ≡ set places q (set (getD places q []) 8 1)
+  pub floats-are : floats′ ≡ set floats (2 + q) (getD floats′ (2 + q) [])
+  pub scores : BlockScores (listAt scoring file lists q) (cursorAt places q .dec) (getD floats′ (2 + q) [])
+  pub rows : FloatRows floats′
 
 -- where slot q's bound is known, the row has it
 abbrev pub BoundKept : Scoring → List ℕ → List (List ℕ) → List (List ℕ) → List Float → ℕ → Type 0

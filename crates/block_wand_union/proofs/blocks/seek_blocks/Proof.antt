@@ -19,11 +19,11 @@ use Rattle.block_wand_union.proofs.blocks.seek_blocks.Statement.{statem
 use Rattle.block_wand_union.proofs.blocks.seek_blocks.Tie as tie
 
 abbrev Inv-loop : tie.InvT-loop
-Inv-loop file similarity lists caches pivot-len pivot-doc order places₀ docs freqs bounds₀ sum₀ i₀ places bounds sum i =
-    (i ≤ pivot-len) × ((n : ℕ) → pivot-len ≤ n → Seated file lists (terms (similarity .scoring) caches bounds₀) (held places₀ docs freqs) (termsOf file lists (similarity .scoring) places₀ (take n order)) → Bounding file lists (terms (similarity .scoring) caches bounds₀) places₀ docs freqs pivot-doc (termsOf file lists (similarity .scoring) places₀ (take n order)) i places bounds sum)
+Inv-loop file similarity lists caches pivot-len pivot-doc order places₀ docs freqs floats₀ sum₀ i₀ places floats sum i =
+    (i ≤ pivot-len) × ((n : ℕ) → pivot-len ≤ n → Seated file lists (terms (similarity .scoring) caches floats₀) (held places₀ docs freqs) (termsOf file lists (similarity .scoring) places₀ (take n order)) → Bounding file lists (terms (similarity .scoring) caches floats₀) places₀ docs freqs pivot-doc (termsOf file lists (similarity .scoring) places₀ (take n order)) i places floats sum)
 
 abbrev μ-loop : tie.MeasureT-loop
-μ-loop file similarity lists caches pivot-len pivot-doc order places₀ docs freqs bounds₀ sum₀ i₀ places bounds sum i = pivot-len - i
+μ-loop file similarity lists caches pivot-len pivot-doc order places₀ docs freqs floats₀ sum₀ i₀ places floats sum i = pivot-len - i
 
 abbrev start : tie.At-loop Inv-loop μ-loop → tie.Start Inv-loop μ-loop
 start l = l .before .before
@@ -47,12 +47,12 @@ here b n k =
 
 -- of the first scorers alone
 own : (b : tie.In-loop Inv-loop μ-loop) → (let a = start (b .before) in
-    Bounding (a .args .file .now) (a .args .lists .now) (terms (a .args .similarity .scoring) (a .args .caches .now) (a .args .bounds .now)) (a .args .places .now) (a .args .docs .now) (a .args .freqs .now) (a .args .pivot-doc)
-    (scorers a (a .args .pivot-len)) (b .before .loop .i) (b .before .loop .places) (b .before .loop .bounds) (b .before .loop .sum))
+    Bounding (a .args .file .now) (a .args .lists .now) (terms (a .args .similarity .scoring) (a .args .caches .now) (a .args .floats .now)) (a .args .places .now) (a .args .docs .now) (a .args .freqs .now) (a .args .pivot-doc)
+    (scorers a (a .args .pivot-len)) (b .before .loop .i) (b .before .loop .places) (b .before .loop .floats) (b .before .loop .sum))
 own b = let a = start (b .before) in b .before .loop .inv .1 (a .args .pivot-len) (omega arith) (a .pre .3)
 
 seat-in : (b : tie.In-loop Inv-loop μ-loop) → (let a = start (b .before) in
-    Seat (a .args .file .now) (a .args .lists .now) (terms (a .args .similarity .scoring) (a .args .caches .now) (b .before .loop .bounds)) (held (b .before .loop .places) (a .args .docs .now) (a .args .freqs .now))
+    Seat (a .args .file .now) (a .args .lists .now) (terms (a .args .similarity .scoring) (a .args .caches .now) (b .before .loop .floats)) (held (b .before .loop .places) (a .args .docs .now) (a .args .freqs .now))
     (termAt (a .args .file .now) (a .args .lists .now) (a .args .similarity .scoring) (a .args .places .now) (getD (a .args .order .now) (b .before .loop .i) 0)))
 seat-in b =
     let a = start (b .before) in
@@ -60,7 +60,7 @@ seat-in b =
 
 loop-holds : tie.Need-loop-holds Inv-loop μ-loop
 unfolding ofBits
-loop-holds c = (omega arith, λ n k S. bounding _ _ _ _ _ _ _ _ (S .seats) (S .row))
+loop-holds c = (omega arith, λ n k S. bounding _ _ _ _ _ _ _ _ (S .seats) (S .rows))
 
 mul-q : tie.Need-mul-q Inv-loop μ-loop
 mul-q c = search needs
@@ -71,16 +71,19 @@ element-copy-out-q c = search needs
 shallow-seek-requires : tie.Need-shallow-seek-requires Inv-loop μ-loop
 shallow-seek-requires c κs = let S = seat-in (c .before .before) in (S .stand .slot-in, standing-in _ _ _ _ (S .stand))
 
+index-1-block-max : tie.Need-index-1-block-max Inv-loop μ-loop
+index-1-block-max c = search needs
+
 block-max-requires : tie.Need-block-max-requires Inv-loop μ-loop
 block-max-requires c κs =
     let b = c .before .before .before .before .before in
     let a = start (b .before) in
     let S = seat-in b in
     let q = getD (a .args .order .now) (b .before .loop .i) 0 in
-    let T = terms (a .args .similarity .scoring) (a .args .caches .now) (b .before .loop .bounds) in
+    let T = terms (a .args .similarity .scoring) (a .args .caches .now) (b .before .loop .floats) in
     let x = termAt (a .args .file .now) (a .args .lists .now) (a .args .similarity .scoring) (a .args .places .now) q in
     let Z = shallow-seat (a .args .file .now) (a .args .lists .now) x (a .args .docs .now) (a .args .freqs .now) {to = λ k. seekBlockIn (listAt k (a .args .file .now) (a .args .lists .now) q) 128 (a .args .pivot-doc) (cursorAt (b .before .loop .places) q)} (c .before .before .shallow-seek .ensures) T S in
-    (S .stand .slot-in, a .pre .1, Z .stand .slot, Z .weighed, Z .bound, own b .row)
+    (S .stand .slot-in, a .pre .1, Z .stand .slot, Z .weighed, Z .bound, own b .rows .row 0 (omega arith))
 
 add-i : tie.Need-add-i Inv-loop μ-loop
 add-i c = search needs
@@ -111,6 +114,7 @@ seek-blocks-spec =
     mul-q
     element-copy-out-q
     shallow-seek-requires
+    index-1-block-max
     block-max-requires
     add-i
     loop-less

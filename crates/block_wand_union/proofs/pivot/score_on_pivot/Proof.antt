@@ -1,4 +1,4 @@
--- `pivot::score_on_pivot` meets its contract: each turn adds the next scorer's score.
+-- `pivot::score_on_pivot` meets its contract: each turn adds the next scorer's score, and the scorers stay.
 use mathlib.Core.List.{map}
 use mathlib.Core.Path.{ap, refl, _∙_, _≡_}
 use Prim.Native.Nat.{ℕ, _-_, _≤_}
@@ -6,35 +6,51 @@ use native.Mathlib.Omega.{arith}
 use lib.Ieee.{ofBits}
 use lib.ListN.{getD, take}
 use borrow.Author.Needs.{needs}
+use Rattle.route.specs.Cursor.{Cursor}
 use Rattle.route.specs.F32.{f32}
 use Rattle.route.specs.Score.{sum}
 use Rattle.route.specs.Scorer.{scoreHere}
 use Rattle.ordering.proofs.Places.{all-first}
-use Rattle.term_scorer.specs.Inner.Slots.{held}
-use Rattle.block_wand_union.specs.Inner.Seats.{OnDocument, slotScorer}
+use Rattle.skip_reader.specs.Inner.Decoded.{docIn}
+use Rattle.term_scorer.specs.Inner.Slots.{held, listAt, partAt}
+use Rattle.block_wand_union.specs.Inner.Seats.{OnDocument, Seat, Terms, Unmoved, slotScorer, termAt, terms}
 use Rattle.block_wand_union.proofs.Advances.{scored-next}
+use Rattle.block_wand_union.proofs.Unmoved.{unmoved, unmoved-refl, unmoved-trans}
 use Rattle.block_wand_union.proofs.pivot.score_on_pivot.Statement.{statement}
 use Rattle.block_wand_union.proofs.pivot.score_on_pivot.Tie as tie
 
 abbrev Inv-loop : tie.InvT-loop
-Inv-loop file similarity lists caches pivot-len pivot-doc order places docs freqs sum₀ i₀ acc i =
-    (i ≤ pivot-len) × (acc ≡ sum f32 (map scoreHere (map (slotScorer file lists (similarity .scoring) places) (take i order))))
+Inv-loop file similarity lists caches pivot-len order places₀ docs freqs floats₀ sum₀ i₀ places floats acc i =
+    (i ≤ pivot-len) × (acc ≡ sum f32 (map scoreHere (map (slotScorer file lists (similarity .scoring) places₀) (take i order))))
+    × Unmoved file lists (similarity .scoring) caches floats₀ (held places₀ docs freqs) floats (held places docs freqs)
 
 abbrev μ-loop : tie.MeasureT-loop
-μ-loop file similarity lists caches pivot-len pivot-doc order places docs freqs sum₀ i₀ acc i = pivot-len - i
+μ-loop file similarity lists caches pivot-len order places₀ docs freqs floats₀ sum₀ i₀ places floats acc i = pivot-len - i
 
 abbrev start : tie.At-loop Inv-loop μ-loop → tie.Start Inv-loop μ-loop
 start l = l .before .before
 
-on-document : (c : tie.In-loop Inv-loop μ-loop) → (let a = start (c .before) in
-    OnDocument (a .args .file .now) (a .args .lists .now) (a .args .caches .now) (held (a .args .places .now) (a .args .docs .now) (a .args .freqs .now)) (a .args .pivot-doc) (getD (a .args .order .now) (c .before .loop .i) 0))
-on-document c =
-    let a = start (c .before) in
-    all-first (OnDocument (a .args .file .now) (a .args .lists .now) (a .args .caches .now) (held (a .args .places .now) (a .args .docs .now) (a .args .freqs .now)) (a .args .pivot-doc)) (a .args .order .now) (a .args .pivot-len) (c .before .loop .i) 0 (omega arith) (omega (arith, a .pre .2)) (a .pre .4)
+abbrev slot : tie.In-loop Inv-loop μ-loop → ℕ
+slot b = getD (start (b .before) .args .order .now) (b .before .loop .i) 0
+
+abbrev terms₀ : tie.Start Inv-loop μ-loop → Terms
+terms₀ a = terms (a .args .similarity .scoring) (a .args .caches .now) (a .args .floats .now)
+
+on-document : (b : tie.In-loop Inv-loop μ-loop) → (let a = start (b .before) in
+    OnDocument (a .args .file .now) (a .args .lists .now) (terms₀ a) (held (a .args .places .now) (a .args .docs .now) (a .args .freqs .now)) (slot b))
+on-document b =
+    let a = start (b .before) in
+    all-first (OnDocument (a .args .file .now) (a .args .lists .now) (terms₀ a) (held (a .args .places .now) (a .args .docs .now) (a .args .freqs .now))) (a .args .order .now) (a .args .pivot-len) (b .before .loop .i) 0 (omega arith) (omega (arith, a .pre .2)) (a .pre .4)
+
+-- the scorer at place i, as it is seated now
+seat-in : (b : tie.In-loop Inv-loop μ-loop) → (let a = start (b .before) in
+    Seat (a .args .file .now) (a .args .lists .now) (terms (a .args .similarity .scoring) (a .args .caches .now) (b .before .loop .floats)) (held (b .before .loop .places) (a .args .docs .now) (a .args .freqs .now))
+    (termAt (a .args .file .now) (a .args .lists .now) (a .args .similarity .scoring) (a .args .places .now) (slot b)))
+seat-in b = b .before .loop .inv .2 .seats _ (on-document b .seat)
 
 loop-holds : tie.Need-loop-holds Inv-loop μ-loop
 unfolding ofBits
-loop-holds c = (omega arith, refl)
+loop-holds c = (omega arith, refl, unmoved-refl (c .before .pre .3))
 
 mul-q : tie.Need-mul-q Inv-loop μ-loop
 mul-q c = search needs
@@ -42,12 +58,14 @@ mul-q c = search needs
 element-copy-out-q : tie.Need-element-copy-out-q Inv-loop μ-loop
 element-copy-out-q c = search needs
 
-score-requires : tie.Need-score-requires Inv-loop μ-loop
-score-requires c κs =
-    let b = c .before in
+kept-score-requires : tie.Need-kept-score-requires Inv-loop μ-loop
+kept-score-requires c κs =
+    let b = c .before .before .before in
     let a = start (b .before) in
-    let S = on-document b in
-    (S .slot-in, a .pre .1, S .slot, S .weighed, S .on, a .pre .3)
+    let S = seat-in b in
+    let U = b .before .loop .inv .2 in
+    let x = partAt (a .args .lists .now) (slot b) in
+    (S .stand .slot-in, a .pre .1, S .stand .slot, S .weighed, U .rows, S .scores, rw (ap (λ (z : Cursor). docIn (a .args .file .now) x (z .at)) (U .cursor-is (slot b))) (on-document b .live))
 
 add-i : tie.Need-add-i Inv-loop μ-loop
 add-i c = search needs
@@ -57,16 +75,24 @@ loop-less c = search needs
 
 loop-again : tie.Need-loop-again Inv-loop μ-loop
 loop-again c =
-    let b = c .before .before in
+    let b = c .before .before .before .before in
     let a = start (b .before) in
-    (omega arith, scored-next (slotScorer (a .args .file .now) (a .args .lists .now) (a .args .similarity .scoring) (a .args .places .now)) (a .args .order .now) (b .before .loop .i) (omega (arith, a .pre .2)) (b .before .loop .inv .1) (c .score .ensures))
+    let S = seat-in b in
+    let U = b .before .loop .inv .2 in
+    let E = c .kept-score .ensures in
+    let list = listAt (a .args .similarity .scoring) (a .args .file .now) (a .args .lists .now) (slot b) in (
+      omega arith,
+      scored-next (slotScorer (a .args .file .now) (a .args .lists .now) (a .args .similarity .scoring) (a .args .places .now)) (a .args .order .now) (b .before .loop .i) (omega (arith, a .pre .2)) (b .before .loop .inv .1)
+          (E .0 ∙ ap (λ (z : Cursor). list .score (z .at)) (U .cursor-is (slot b))),
+      unmoved-trans U (unmoved (a .args .file .now) (a .args .lists .now) (a .args .similarity .scoring) (a .args .caches .now) (S .stand .slot-in) (a .args .docs .now) (a .args .freqs .now) (S .stand .slot .sixteen .0) (E .1)),
+    )
 
 returns : tie.Need-returns Inv-loop μ-loop
 returns c =
     let a = start (c .before) in
     let f = slotScorer (a .args .file .now) (a .args .lists .now) (a .args .similarity .scoring) (a .args .places .now) in
     let e : c .before .loop .i ≡ a .args .pivot-len = omega arith in
-    c .before .loop .inv .1 ∙ ap (λ (k : ℕ). sum f32 (map scoreHere (map f (take k (a .args .order .now))))) e
+    (c .before .loop .inv .1 ∙ ap (λ (k : ℕ). sum f32 (map scoreHere (map f (take k (a .args .order .now))))) e, c .before .loop .inv .2)
 
 pub score-on-pivot-spec : {M : Type 1} → statement M
 score-on-pivot-spec =
@@ -77,7 +103,7 @@ score-on-pivot-spec =
     loop-holds
     mul-q
     element-copy-out-q
-    score-requires
+    kept-score-requires
     add-i
     loop-less
     loop-again

@@ -1,35 +1,44 @@
--- `turn::hit` meets its contract: a report is due if the sum of the scores exceeds the threshold, and then the scorers stay; else those that went on are the route's.
+-- `turn::hit` meets its contract: the scores' sum is the route's, and so are the two ways on.
 use native.Mathlib.Omega.{arith}
 use lib.ListN.{take}
 use borrow.Author.Needs.{needs}
 use Rattle.route.proofs.Lists.{all-imp}
 use Rattle.term_scorer.specs.Inner.Slots.{held, Held}
-use Rattle.block_wand_union.specs.Inner.Seats.{Inside, OnDocument}
-use Rattle.block_wand_union.proofs.OnPivots.{hit-due, hit-quiet}
+use Rattle.block_wand_union.specs.Inner.Seats.{Inside, OnDocument, Terms, terms}
+use Rattle.block_wand_union.proofs.OnPivots.{hit-due, hit-quiet, inside-unmoved, seated₁}
+use Rattle.block_wand_union.proofs.Slots.{lined}
+use Rattle.block_wand_union.proofs.Steps.{stands}
 use Rattle.block_wand_union.proofs.turn.hit.Statement.{statement}
 use Rattle.block_wand_union.proofs.turn.hit.Tie as tie
 
 abbrev start : tie.After-score-on-pivot → tie.Start
-start s = s .before .before .before .before .before .before
+start s = s .before .before .before .before .before .before .before
 
 abbrev now : tie.Start → Held
 now a = held (a .args .places .now) (a .args .docs .now) (a .args .freqs .now)
 
+abbrev terms₀ : tie.Start → Terms
+terms₀ a = terms (a .args .bar .similarity .scoring) (a .args .caches .now) (a .args .floats .now)
+
 score-on-pivot-requires : tie.Need-score-on-pivot-requires
 score-on-pivot-requires c κs =
-    let a = c .before .before .before .before .before in (omega arith, a .pre .2, a .pre .3, a .pre .5, a .pre .6)
+    let a = c .before .before .before .before .before .before in (omega arith, a .pre .2, a .pre .3, a .pre .4 .rows, a .pre .5)
 
 returns : tie.Need-returns
 returns c =
     let s = c .before .before in
     let a = start s in
-    hit-due (a .args .file .now) (a .args .lists .now) (a .args .bar .similarity .scoring) (a .args .bar .threshold) (now a) (a .args .order .now) (a .args .n) (a .args .span .«pivot_len») (a .args .span .«pivot_doc») (a .pre .0)
-    (s .score-on-pivot .ensures) (c .if1 .taken) (a .pre .1) (a .pre .3) (a .pre .4)
+    let E = s .score-on-pivot .ensures in
+    hit-due (a .args .file .now) (a .args .lists .now) (terms₀ a) (a .args .bar .threshold) (now a) (a .args .order .now) (a .args .n) (a .args .span .«pivot_len») (a .args .span .«pivot_doc») (a .pre .0)
+    (E .0) (E .1) (a .pre .4) (c .if1 .taken) (a .pre .1) (a .pre .3)
 
 advance-all-scorers-on-pivot-requires : tie.Need-advance-all-scorers-on-pivot-requires
 advance-all-scorers-on-pivot-requires c κs =
-    let a = start (c .before .before .before .before .before .before) in
-    (a .pre .0, a .pre .1, a .pre .3, a .pre .4, all-imp (OnDocument (a .args .file .now) (a .args .lists .now) (a .args .caches .now) (now a) (a .args .span .«pivot_doc»)) (Inside (a .args .lists .now) (now a)) (take (a .args .span .«pivot_len») (a .args .order .now)) (λ _ s. s .inside) (a .pre .6))
+    let s = c .before .before .before .before .before .before in
+    let a = start s in
+    let E = s .score-on-pivot .ensures in
+    let S = seated₁ (a .args .file .now) (a .args .lists .now) (terms₀ a) (a .args .bar .threshold) (now a) (a .args .order .now) (a .args .n) (a .args .span .«pivot_len») (a .args .span .«pivot_doc») (a .pre .0) (E .0) (E .1) (a .pre .4) in
+    (a .pre .0, a .pre .1, a .pre .3, lined (a .args .file .now) (a .args .lists .now) (a .args .bar .similarity .scoring) _ (take (a .args .n) (a .args .order .now)) (stands S) (S .apart), inside-unmoved (E .1) (take (a .args .span .«pivot_len») (a .args .order .now)) (a .pre .5))
 
 quiet-requires : tie.Need-quiet-requires
 quiet-requires c κs = search needs
@@ -39,9 +48,10 @@ returns-2 c =
     let e = c .before .before .before .before .before .before in
     let s = e .before .before in
     let a = start s in
+    let E = s .score-on-pivot .ensures in
     rw (c .quiet .ensures)
-    (hit-quiet (a .args .file .now) (a .args .lists .now) (a .args .bar .similarity .scoring) (a .args .bar .threshold) (now a) (a .args .order .now) (a .args .n) (a .args .span .«pivot_len») (a .args .span .«pivot_doc») (a .pre .0)
-    (s .score-on-pivot .ensures) (e .if1 .left) (c .before .advance-all-scorers-on-pivot .ensures))
+    (hit-quiet (a .args .file .now) (a .args .lists .now) (terms₀ a) (a .args .bar .threshold) (now a) (a .args .order .now) (a .args .n) (a .args .span .«pivot_len») (a .args .span .«pivot_doc») (a .pre .0)
+    (E .0) (E .1) (a .pre .4) (e .if1 .left) (c .before .advance-all-scorers-on-pivot .ensures))
 
 pub hit-spec : {M : Type 1} → statement M
 hit-spec =

@@ -16,14 +16,14 @@ seek-blocks-requires c κs =
 
 on-pivot-requires : tie.Need-on-pivot-requires
 on-pivot-requires c κs =
-    let b = c .before .before .before .before .before .before in
+    let b = c .before .before .before .before .before .before .before in
     let a = start b in
     let P = a .pre .2 in
-    (P .few, a .pre .0, P .long, (_, at-pivot P (b .seek-blocks .ensures (a .args .n) (few P) (P .seated))))
+    (P .few, a .pre .0, P .long, at-pivot P (b .seek-blocks .ensures (a .args .n) (few P) (P .seated)))
 
 returns : tie.Need-returns
 returns c =
-    let t = c .before .before .before .before .before in
+    let t = c .before .before .before .before .before .before in
     let b = t .before .before in
     let a = start b in
     let P = a .pre .2 in

@@ -14,11 +14,11 @@ use Rattle.block_wand_union.proofs.walk.walk.Statement.{statement}
 use Rattle.block_wand_union.proofs.walk.walk.Tie as tie
 
 abbrev Inv-loop : tie.InvT-loop
-Inv-loop file bar lists caches turns tops order₀ places₀ docs₀ freqs₀ bounds₀ now₀ taken₀ order places docs freqs bounds now taken =
-    OnWay file lists (bar .similarity .scoring) caches (bar .threshold) tops (placeOf file lists (bar .similarity .scoring) now₀ order₀ places₀) turns (held places docs freqs) bounds now order taken
+Inv-loop file bar lists caches turns tops order₀ places₀ docs₀ freqs₀ floats₀ now₀ taken₀ order places docs freqs floats now taken =
+    OnWay file lists (bar .similarity .scoring) caches (bar .threshold) tops (placeOf file lists (bar .similarity .scoring) now₀ order₀ places₀) turns (held places docs freqs) floats now order taken
 
 abbrev μ-loop : tie.MeasureT-loop
-μ-loop file bar lists caches turns tops order₀ places₀ docs₀ freqs₀ bounds₀ now₀ taken₀ order places docs freqs bounds now taken = turns - taken
+μ-loop file bar lists caches turns tops order₀ places₀ docs₀ freqs₀ floats₀ now₀ taken₀ order places docs freqs floats now taken = turns - taken
 
 abbrev at-loop : tie.Then1 Inv-loop μ-loop → tie.At-loop Inv-loop μ-loop
 at-loop t = t .before .before

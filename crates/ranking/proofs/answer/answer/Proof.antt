@@ -45,7 +45,7 @@ place-of g h m =
 abbrev first-of : tie.After-begin → Place
 first-of g =
     let l = g .begin .last .1 .1 .1 .1 .1 .1 .1 .1 in
-    place-of g (tables (l .0) (l .1 .0) (l .1 .1 .0) (l .1 .1 .1 .0) (replicate 3 (replicate 128 (f32 .nil)))) (g .begin .result)
+    place-of g (tables (l .0) (l .1 .0) (l .1 .1 .0) (l .1 .1 .1 .0) (replicate 18 (replicate 128 (f32 .nil)))) (g .begin .result)
 
 abbrev last-of : tie.After-drive → Place
 last-of d =

@@ -22,7 +22,7 @@ returns c =
     let j = c .before .before .before in
     let p = j .before .before .args .p in (
       ap (λ (n : ℕ). p .«skip_reader» .block ∷ p .«skip_reader» .«byte_offset» ∷ p .«skip_reader» .«last_doc_in_previous_block»
-          ∷ p .«skip_reader» .«last_doc_in_block» ∷ n ∷ p .decoded ∷ p .cur ∷ 0 ∷ [])
+          ∷ p .«skip_reader» .«last_doc_in_block» ∷ n ∷ p .decoded ∷ p .cur ∷ 0 ∷ 0 ∷ [])
           (loaded-is j),
       record { previous = omega (arith, c .before .before .struct-known .given); last = omega (arith, c .before .struct-known2 .given) },
     )

@@ -24,6 +24,7 @@ returns c =
     let a = o .before .before .before .before in (
       moved-row (a .args .file .now) (a .args .x) (o .«open» .result) (k .keep .ensures .1) _ (o .«open» .ensures) (k .keep .ensures .0) (c .doc .ensures),
       ap (λ (z : List ℕ). getD z 7 0) (k .keep .ensures .0),
+      ap (λ (z : List ℕ). getD z 8 0) (k .keep .ensures .0),
     )
 
 pub open-spec : {M : Type 1} → statement M
