@@ -14,8 +14,9 @@ shl-result c = search needs
 
 returns : tie.Need-returns
 returns c =
-    let a = c .before .before .args in
-    above-is (wordAt (a .s .now) (a .p)) (a .low) (a .up) (c .before .before .pre .1) (c .before .before .pre .2) (c .read-u32 .ensures .0)
+    let s = c .before .before in
+    let a = s .args in
+    above-is (wordAt (a .s .now) (a .p)) (a .low) (a .up) (s .pre .1) (s .pre .2) (c .read-u32 .ensures .0)
 
 pub above-spec : {M : Type 1} → statement M
 above-spec = tie.close (tie.spec read-u32-requires shl-result returns)

@@ -17,9 +17,16 @@ Inv-loop s at width out₀ unit mask word₀ shift₀ i₀ out word shift i = Ro
 abbrev μ-loop : tie.MeasureT-loop
 μ-loop s at width out₀ unit mask word₀ shift₀ i₀ out word shift i = 128 - i
 
+-- the places that the answers look back to
+abbrev start : tie.At-loop Inv-loop μ-loop → tie.Start Inv-loop μ-loop
+start c = c .before .before
+
+abbrev loop-of : tie.Joined1 Inv-loop μ-loop → tie.At-loop Inv-loop μ-loop
+loop-of c = c .before .before .before
+
 -- a word that is not past the block
-inside : (c : tie.In-loop Inv-loop μ-loop) → c .before .loop .word ≤ c .before .before .before .args .width
-inside c = word-in (c .before .loop .inv) (c .loop-test .taken) (c .before .before .before .pre .0)
+inside : (c : tie.In-loop Inv-loop μ-loop) → c .before .loop .word ≤ start (c .before) .args .width
+inside c = word-in (c .before .loop .inv) (c .loop-test .taken) (start (c .before) .pre .0)
 
 shl-unit : tie.Need-shl-unit Inv-loop μ-loop
 shl-unit c = search needs
@@ -41,7 +48,7 @@ add-four-at c = omega (arith, inside c)
 
 four-at-requires : tie.Need-four-at-requires Inv-loop μ-loop
 four-at-requires c κs =
-    let e = c .before .before .before in
+    let e = start (c .before) in
     in-block (c .before .loop .inv) (c .loop-test .taken) (e .pre .0) (length (e .args .s .now)) (1 * 2 ^ e .args .width % 18446744073709551616 - 1) (e .pre .1) (ap (λ (x : ℕ). x - 1) (unit-is (e .args .width) (e .pre .0)))
 
 mul-out : tie.Need-mul-out Inv-loop μ-loop
@@ -91,9 +98,9 @@ loop-less c = search needs
 
 loop-again : tie.Need-loop-again Inv-loop μ-loop
 loop-again c =
-    let e = c .before .before .before .before .before in
-    let l = c .before .before .before .loop in
-    let on = row-more (l .inv) (c .before .before .loop-test .taken) (e .pre .0) (λ k. omega (arith, c .before .before .before .before .shared-slice-known .given k)) (c .before .four-at .result) (c .before .four-at .ensures) (c .if1 .word) (c .if1 .shift) in
+    let e = start (loop-of c) in
+    let l = loop-of c .loop in
+    let on = row-more (l .inv) (c .before .before .loop-test .taken) (e .pre .0) (λ k. omega (arith, loop-of c .before .shared-slice-known .given k)) (c .before .four-at .result) (c .before .four-at .ensures) (c .if1 .word) (c .if1 .shift) in
     ⊎-elim (λ h. on (omega (arith, l .inv .low)) (omega arith)) (λ h. on (omega arith) (omega arith)) (c .if1 .came)
 
 returns : tie.Need-returns Inv-loop μ-loop

@@ -7,10 +7,14 @@ use Rattle.floats.proofs.Step.{step-over, step-near, step-high, step-ze
 use Rattle.floats.proofs.step_down.Statement.{statement}
 use Rattle.floats.proofs.step_down.Tie as tie
 
+-- the place that the answers look back to
+abbrev start : tie.Joined3 → tie.Start
+start c = c .before .before .before
+
 returns : tie.Need-returns
 unfolding ofBits
 returns c =
-    let s = c .before .before .before in
+    let s = start c in
     elim (c .if3 .came) [
       | inl t ↦ let e = t .1 in rw e (step-over (s .args .x) (c .before .before .if1 .taken) (c .before .if2 .taken) (t .0 .taken))
       | inr t ↦ let e = t .1 in rw e (step-near (s .args .x) (c .before .before .if1 .taken) (c .before .if2 .taken) (t .0 .left))

@@ -72,20 +72,23 @@ rounded-shift-requires c κs = omega (arith, zeros (c .before .args .n) (c .if1 
 
 int-to-float-result-2 : tie.Need-int-to-float-result-2
 int-to-float-result-2 c =
-    let n = c .before .before .before .args .n in
-    in-float (c .before .rounded-shift .result) (rw (c .before .rounded-shift .ensures) (p-small n (c .before .before .if1 .left) (omega arith)))
+    let r = c .before in
+    let e = r .before in
+    in-float (r .rounded-shift .result) (rw (r .rounded-shift .ensures) (p-small (e .before .args .n) (e .if1 .left) (omega arith)))
 
 int-to-float-result-3 : tie.Need-int-to-float-result-3
 int-to-float-result-3 c =
-    let n = c .before .before .before .before .args .n in
-    let b = c .before .before .before .if1 .left in
+    let r = c .before .before in
+    let n = r .before .before .args .n in
+    let b = r .before .if1 .left in
     rw (u-is n b (omega arith)) (in-float (2 ^ k n b (omega arith)) (u-small n b (omega arith)))
 
 returns-2 : tie.Need-returns-2
 returns-2 c =
-    let n = c .before .before .before .before .args .n in
-    let b = c .before .before .before .if1 .left in
-    rw (u-is n b (omega arith), c .before .before .rounded-shift .ensures) (result n b (omega arith))
+    let r = c .before .before in
+    let n = r .before .before .args .n in
+    let b = r .before .if1 .left in
+    rw (u-is n b (omega arith), r .rounded-shift .ensures) (result n b (omega arith))
 
 pub u32-to-f32-spec : {M : Type 1} → statement M
 u32-to-f32-spec = tie.close (tie.spec int-to-float-result returns sub-dropped shl-unit rounded-shift-requires int-to-float-result-2 int-to-float-result-3 returns-2)

@@ -5,6 +5,22 @@ use Rattle.noterank.proofs.Numbers.{skipping-by, plain-by}
 use Rattle.noterank.proofs.by_walk.Statement.{statement}
 use Rattle.noterank.proofs.by_walk.Tie as tie
 
+-- the places that the answers look back to
+abbrev start : tie.After-slice-known2 → tie.Start
+start c = c .before .before .before .before .before
+
+abbrev skips : tie.After-run → tie.Then1
+skips c = c .before .before .before
+
+abbrev run-of : tie.After-slice-known4 → tie.After-run
+run-of c = c .before .before .before .before
+
+abbrev scans : tie.After-plain → tie.Else1
+scans c = c .before .before .before
+
+abbrev plain-of : tie.After-slice-known6 → tie.After-plain
+plain-of c = c .before .before .before .before
+
 run-requires : tie.Need-run-requires
 run-requires c κs = search needs
 
@@ -16,9 +32,9 @@ same-length-2 c = search needs
 
 returns : tie.Need-returns
 returns c =
-    let r = c .before .before .before .before in
-    let t = r .before .before .before in
-    let a = t .before .before .before .before .before .before in
+    let r = run-of c in
+    let t = skips r in
+    let a = start (t .before) in
     skipping-by (asked (a .args .file .now) (a .args .query .now) (a .args .mode) (a .args .scoring) (a .args .rule) (a .args .script .now)) _ _ (r .run .result) (a .args .walk) (t .if1 .taken) (r .run .ensures)
 
 plain-requires : tie.Need-plain-requires
@@ -32,9 +48,9 @@ same-length-4 c = search needs
 
 returns-2 : tie.Need-returns-2
 returns-2 c =
-    let r = c .before .before .before .before in
-    let t = r .before .before .before in
-    let a = t .before .before .before .before .before .before in
+    let r = plain-of c in
+    let t = scans r in
+    let a = start (t .before) in
     plain-by (asked (a .args .file .now) (a .args .query .now) (a .args .mode) (a .args .scoring) (a .args .rule) (a .args .script .now)) _ _ (r .plain .result) (a .args .walk) (t .if1 .left) (r .plain .ensures)
 
 pub by-walk-spec : {M : Type 1} → statement M

@@ -9,6 +9,19 @@ use Rattle.noterank.proofs.Numbers.{refused-ranked, walk-ranked, few-by
 use Rattle.noterank.proofs.noterank_run.Statement.{statement}
 use Rattle.noterank.proofs.noterank_run.Tie as tie
 
+-- the places that the answers look back to
+abbrev file-of : tie.After-numbers-refusal → tie.After-shared-slice-known
+file-of c = c .before .before .before .before .before
+
+abbrev start : tie.After-numbers-refusal → tie.Start
+start c = file-of c .before
+
+abbrev rule-of : tie.After-by-walk → tie.After-rule-at
+rule-of c = c .before .before .before
+
+abbrev walk-of : tie.After-count-of → tie.After-by-walk
+walk-of c = c .before .before .before .before .before
+
 abbrev call : tie.Start → Call
 call a = record {
   file = a .args .file .now;
@@ -21,10 +34,6 @@ call a = record {
   k = a .args .k;
   script = a .args .script .now;
 }
-
--- where the function began
-abbrev start : tie.After-numbers-refusal → tie.Start
-start c = c .before .before .before .before .before .before
 
 numbers-refusal-requires : tie.Need-numbers-refusal-requires
 numbers-refusal-requires c κs = search needs
@@ -52,13 +61,13 @@ count-of-requires c κs = search needs
 
 short-requires : tie.Need-short-requires
 short-requires c κs =
-    let b = c .before .before .before .before .before in
-    let u = b .before .before .before in
+    let b = walk-of c in
+    let u = rule-of b in
     let s = u .before in
     let m = s .before in
     let n = m .before .before in
     let a = start n in
-    let file = n .before .before .before .before .before in
+    let file = file-of n in
     let few =
     few-by (asked (a .args .file .now) (a .args .query .now) (m .mode-at .result) (s .scoring-at .result) (u .rule-at .result) (a .args .script .now)) _ _ (b .by-walk .result)
     (λ k. file .shared-slice-known .given k .fits) (a .args .walk) (b .by-walk .ensures) in
@@ -77,8 +86,8 @@ returns-2 : tie.Need-returns-2
 returns-2 c =
     let h = c .before in
     let k = h .before in
-    let b = k .before .before .before .before .before in
-    let u = b .before .before .before in
+    let b = walk-of k in
+    let u = rule-of b in
     let s = u .before in
     let m = s .before in
     let e = m .before in

@@ -6,9 +6,13 @@ use Rattle.request.proofs.Requests.{first-refused, rule-refused, not-re
 use Rattle.request.proofs.refusal.Statement.{statement}
 use Rattle.request.proofs.refusal.Tie as tie
 
+-- the place that the answers look back to
+abbrev start : tie.After-query-refusal → tie.Start
+start c = c .before .before .before .before
+
 abbrev request : tie.After-query-refusal → Request
 request c =
-    let a = c .before .before .before .before in
+    let a = start c in
     asked (a .args .file .now) (a .args .query .now) (a .args .mode) (a .args .scoring) (a .args .rule) (a .args .script .now)
 
 query-refusal-requires : tie.Need-query-refusal-requires

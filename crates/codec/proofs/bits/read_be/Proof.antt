@@ -17,10 +17,17 @@ Inv-loop s at n v₀ i₀ v i = (i ≤ n) × (v ≡ bitsAt s (8 * at) (8 * i))
 abbrev μ-loop : tie.MeasureT-loop
 μ-loop s at n v₀ i₀ v i = n - i
 
+-- the places that the answers look back to
+abbrev start : tie.At-loop Inv-loop μ-loop → tie.Start Inv-loop μ-loop
+start c = c .before .before
+
+abbrev loop-of : tie.After-wide Inv-loop μ-loop → tie.At-loop Inv-loop μ-loop
+loop-of c = c .before .before .before
+
 -- fewer than eight bytes are below 2 ^ 56
 small : (c : tie.In-loop Inv-loop μ-loop) → c .before .loop .v < 72057594037927936
 small c =
-    let a = c .before .before .before .args in
+    let a = start (c .before) .args in
     rw (c .before .loop .inv .1) (lt-of-lt-of-le (bits-lt (a .s .now) (8 * a .at) (8 * c .before .loop .i)) (pow-mono {j = 56} (omega arith)))
 
 loop-holds : tie.Need-loop-holds Inv-loop μ-loop
@@ -53,8 +60,8 @@ loop-less c = search needs
 
 loop-again : tie.Need-loop-again Inv-loop μ-loop
 loop-again c =
-    let a = c .before .before .before .before .before .args in
-    let l = c .before .before .before .loop in (
+    let a = start (loop-of c) .args in
+    let l = loop-of c .loop in (
       omega arith,
       ap (λ (x : ℕ). x * 256 + c .wide .result) (l .inv .1)
           ∙ ap (λ (x : ℕ). bitsAt (a .s .now) (8 * a .at) (8 * l .i) * 256 + x) (c .wide .ensures .0)
@@ -63,7 +70,7 @@ loop-again c =
 
 returns : tie.Need-returns Inv-loop μ-loop
 returns c =
-    let a = c .before .before .before .args in
+    let a = start (c .before) .args in
     c .before .loop .inv .1 ∙ ap (λ (x : ℕ). bitsAt (a .s .now) (8 * a .at) (8 * x)) (omega arith)
 
 pub read-be-spec : {M : Type 1} → statement M

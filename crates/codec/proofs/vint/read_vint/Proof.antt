@@ -13,6 +13,16 @@ Inv-loop s end at v₀ shift₀ p₀ v shift p = Reading s end at v shift p
 abbrev μ-loop : tie.MeasureT-loop
 μ-loop s end at v₀ shift₀ p₀ v shift p = 35 - shift
 
+-- from the byte that was read: the test of the end, the loop's test and its start
+abbrev inside : tie.After-wide Inv-loop μ-loop → tie.Else1 Inv-loop μ-loop
+inside c = c .before .before
+
+abbrev tested : tie.After-wide Inv-loop μ-loop → tie.In-loop Inv-loop μ-loop
+tested c = inside c .before
+
+abbrev read : tie.After-wide Inv-loop μ-loop → tie.At-loop Inv-loop μ-loop
+read c = tested c .before
+
 loop-holds : tie.Need-loop-holds Inv-loop μ-loop
 loop-holds c = begun (c .before .args .s .now) (c .before .args .end) (c .before .args .at)
 
@@ -37,24 +47,17 @@ cast-whole c = search needs
 shl-whole : tie.Need-shl-whole Inv-loop μ-loop
 shl-whole c = search needs
 
--- from the byte that was read, the loop's test and its start
-abbrev tested : tie.After-wide Inv-loop μ-loop → tie.In-loop Inv-loop μ-loop
-tested c = c .before .before .before
-
-abbrev read : tie.After-wide Inv-loop μ-loop → tie.At-loop Inv-loop μ-loop
-read c = tested c .before
-
 add-whole : tie.Need-add-whole Inv-loop μ-loop
 add-whole c = let w = c .before in record { fits = fits (read w .loop .inv) (w .wide .result - 128) (omega arith) }
 
 returns-2 : tie.Need-returns-2 Inv-loop μ-loop
-returns-2 c = let w = c .before .before in last-over (read w .loop .inv) (w .before .before .if1 .left) (tested w .loop-test .taken) (w .wide .ensures .0) (w .wide .ensures .1) (c .before .if2 .taken) (c .if3 .taken)
+returns-2 c = let w = c .before .before in last-over (read w .loop .inv) (inside w .if1 .left) (tested w .loop-test .taken) (w .wide .ensures .0) (w .wide .ensures .1) (c .before .if2 .taken) (c .if3 .taken)
 
 cast-t17 : tie.Need-cast-t17 Inv-loop μ-loop
 cast-t17 c = search needs
 
 returns-3 : tie.Need-returns-3 Inv-loop μ-loop
-returns-3 c = let w = c .before .before in last-fits (read w .loop .inv) (w .before .before .if1 .left) (tested w .loop-test .taken) (w .wide .ensures .0) (w .wide .ensures .1) (c .before .if2 .taken) (c .if3 .left)
+returns-3 c = let w = c .before .before in last-fits (read w .loop .inv) (inside w .if1 .left) (tested w .loop-test .taken) (w .wide .ensures .0) (w .wide .ensures .1) (c .before .if2 .taken) (c .if3 .left)
 
 cast-v : tie.Need-cast-v Inv-loop μ-loop
 cast-v c = search needs
@@ -72,7 +75,7 @@ loop-less : tie.Need-loop-less Inv-loop μ-loop
 loop-less c = search needs
 
 loop-again : tie.Need-loop-again Inv-loop μ-loop
-loop-again c = let w = c .before in goes-on (read w .loop .inv) (w .before .before .if1 .left) (tested w .loop-test .taken) (w .wide .ensures .0) (w .wide .ensures .1) (c .if2 .left)
+loop-again c = let w = c .before in goes-on (read w .loop .inv) (inside w .if1 .left) (tested w .loop-test .taken) (w .wide .ensures .0) (w .wide .ensures .1) (c .if2 .left)
 
 returns-4 : tie.Need-returns-4 Inv-loop μ-loop
 returns-4 c = at-five (c .before .loop .inv) (c .loop-test .left)

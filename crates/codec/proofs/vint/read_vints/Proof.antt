@@ -12,6 +12,10 @@ Inv-loop s end at n out₀ p₀ i₀ out p i = Reading s end at n out₀ out p i
 abbrev μ-loop : tie.MeasureT-loop
 μ-loop s end at n out₀ p₀ i₀ out p i = n - i
 
+-- the place that the answers look back to
+abbrev read-of : tie.After-known-told Inv-loop μ-loop → tie.After-read-vint Inv-loop μ-loop
+read-of c = c .before .before .before
+
 loop-holds : tie.Need-loop-holds Inv-loop μ-loop
 loop-holds c = begun (c .before .args .s .now) (c .before .args .end) (c .before .args .at) (c .before .args .n) (c .before .pre .2)
 
@@ -25,7 +29,7 @@ enum-told : tie.Need-enum-told Inv-loop μ-loop
 enum-told c = search needs
 
 returns : tie.Need-returns Inv-loop μ-loop
-returns c = let t = c .before .before .before in one-broken (t .before .loop .inv) (t .loop-test .taken) (c .before .before .read-vint .ensures) (c .enum-told .given .1)
+returns c = let r = c .before .before in one-broken (r .before .before .loop .inv) (r .before .loop-test .taken) (r .read-vint .ensures) (c .enum-told .given .1)
 
 mul-out : tie.Need-mul-out Inv-loop μ-loop
 mul-out c = search needs
@@ -41,7 +45,7 @@ loop-less c = search needs
 
 loop-again : tie.Need-loop-again Inv-loop μ-loop
 loop-again c =
-    let r = c .before .before .before in
+    let r = read-of c in
     let t = r .before in
     let l = t .before in
     one-read (l .loop .inv) (t .loop-test .taken) (r .read-vint .ensures) (l .before .before .pre .1) (c .before .v .given .1)

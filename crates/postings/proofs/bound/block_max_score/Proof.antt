@@ -6,6 +6,13 @@ use Rattle.postings.proofs.BlockBounds.{full-bound, unloaded-bound, loa
 use Rattle.postings.proofs.bound.block_max_score.Statement.{statement}
 use Rattle.postings.proofs.bound.block_max_score.Tie as tie
 
+-- the places that the answers look back to
+abbrev slice-packed : tie.After-info → tie.After-shared-slice-known
+slice-packed c = c .before .before .before
+
+abbrev slice-tail : tie.After-info2 → tie.After-shared-slice-known
+slice-tail c = c .before .before .before
+
 enum-known-info : tie.Need-enum-known-info
 enum-known-info c = search needs
 
@@ -18,7 +25,7 @@ enum-known-info-2 c = search needs
 tail-max-score-requires : tie.Need-tail-max-score-requires
 tail-max-score-requires c κs =
     let m = c .before .before in
-    let a = m .before .before .before .before in
+    let a = slice-tail m .before in
     let s = a .args .file .now in let x = a .args .x in let r = a .args .p .«skip_reader» in
     (a .pre .1, a .pre .2, omega (arith, tail-info s x r (a .pre .3 .stands) (m .info2 .given .1)))
 
@@ -26,11 +33,12 @@ returns : tie.Need-returns
 returns c =
     let t = c .before in
     let m = t .before .before in
-    let b = m .before .before .before in
+    let k = m .before .before in
+    let b = k .before in
     let a = b .before in
     let s = a .args .file .now in let x = a .args .x in let r = a .args .p .«skip_reader» in
     let i = tail-info s x r (a .pre .3 .stands) (m .info2 .given .1) in
-    loaded-bound s x (a .args .w) (a .pre .2) (λ k. b .shared-slice-known .given k .fits) (a .args .scoring) (a .args .p) (i .0) (t .if1 .taken)
+    loaded-bound s x (a .args .w) (a .pre .2) (λ n. b .shared-slice-known .given n .fits) (a .args .scoring) (a .args .p) (i .0) (t .if1 .taken)
     (rw (a .pre .3 .loaded-is (t .if1 .taken)) at (a .pre .3 .holds)) (i .1) (c .tail-max-score .ensures)
 
 max-score-requires : tie.Need-max-score-requires
@@ -39,7 +47,7 @@ max-score-requires c κs = search needs
 returns-2 : tie.Need-returns-2
 returns-2 c =
     let m = c .before .before in
-    let b = m .before .before .before in
+    let b = slice-packed m in
     let a = b .before in
     let s = a .args .file .now in let x = a .args .x in let r = a .args .p .«skip_reader» in
     full-bound s x (a .args .w) (a .pre .2) (λ k. b .shared-slice-known .given k .fits) (a .args .scoring) (a .args .p) (packed-info s x r (a .pre .3 .stands) (m .info .given .1)) (c .block-max-score .ensures)
@@ -48,7 +56,7 @@ returns-3 : tie.Need-returns-3
 returns-3 c =
     let t = c .before in
     let m = t .before .before in
-    let b = m .before .before .before in
+    let b = slice-tail m in
     let a = b .before in
     let s = a .args .file .now in let x = a .args .x in let r = a .args .p .«skip_reader» in
     unloaded-bound s x (a .args .w) (a .pre .2) (λ k. b .shared-slice-known .given k .fits) (a .args .scoring) (a .args .p) (tail-info s x r (a .pre .3 .stands) (m .info2 .given .1) .0) (t .if1 .left) (c .max-score .ensures)

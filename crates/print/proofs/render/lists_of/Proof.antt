@@ -7,6 +7,10 @@ use Rattle.request.proofs.Requests.{lists-are}
 use Rattle.print.proofs.render.lists_of.Statement.{statement}
 use Rattle.print.proofs.render.lists_of.Tie as tie
 
+-- the place that the answers look back to
+abbrev start : tie.After-read-header → tie.Start
+start c = c .before .before .before
+
 returns : tie.Need-returns
 returns c = let f = c .before .before .args .file .now in (search needs, λ e. absurd (omega (arith, long-enough f (header-right f e))))
 
@@ -19,7 +23,7 @@ returns-2 c = let h = c .before .before .read-header in (search needs, λ e. lis
 returns-3 : tie.Need-returns-3
 returns-3 c =
     let h = c .before .before .read-header in
-    let f = c .before .before .before .before .before .args .file .now in
+    let f = start (c .before .before) .args .file .now in
     (search needs, λ e. omega (arith, lists-are _ (h .ensures), few-lists f (header-right f e)))
 
 pub lists-of-spec : {M : Type 1} → statement M

@@ -4,6 +4,13 @@ use Rattle.print.proofs.Putting.{put-then, put-wider}
 use Rattle.print.proofs.render.put_first.Statement.{statement}
 use Rattle.print.proofs.render.put_first.Tie as tie
 
+-- the places that the answers look back to
+abbrev word-of : tie.After-put-number → tie.After-put
+word-of c = c .before .before .before .before
+
+abbrev number-of : tie.After-put2 → tie.After-put-number
+number-of c = c .before .before .before .before .before
+
 put-requires : tie.Need-put-requires
 put-requires c κs = search needs
 
@@ -22,8 +29,8 @@ same-length c = search needs
 returns : tie.Need-returns
 returns c =
     let last = c .before .before in
-    let number = last .before .before .before .before .before in
-    let word = number .before .before .before .before in
+    let number = number-of last in
+    let word = word-of number in
     put-wider (put-then (word .put .ensures) (put-then (number .put-number .ensures) (last .put2 .ensures))) 29 (search needs)
 
 pub put-first-spec : {M : Type 1} → statement M

@@ -6,6 +6,16 @@ use Rattle.print.proofs.Lines.{refused-text, reports-text}
 use Rattle.print.proofs.render.put_ranking.Statement.{statement}
 use Rattle.print.proofs.render.put_ranking.Tie as tie
 
+-- the places that the answers look back to
+abbrev refused : tie.After-put-first → tie.Then1
+refused c = c .before .before .before
+
+abbrev accepted : tie.After-put-first2 → tie.Else1
+accepted c = c .before .before .before
+
+abbrev first-of : tie.After-put-rows → tie.After-put-first2
+first-of c = c .before .before .before .before
+
 slice-aggregate-put-first : tie.Need-slice-aggregate-put-first
 slice-aggregate-put-first c = search needs
 
@@ -16,7 +26,7 @@ same-length : tie.Need-same-length
 same-length c = search needs
 
 returns : tie.Need-returns
-returns c = put-as (put-wider (c .before .before .put-first .ensures) 172061 (lit≤ tt)) (refused-text _ _ _ _ (c .before .before .before .before .before .if1 .taken))
+returns c = put-as (put-wider (c .before .before .put-first .ensures) 172061 (lit≤ tt)) (refused-text _ _ _ _ (refused (c .before .before) .if1 .taken))
 
 slice-aggregate-put-first-2 : tie.Need-slice-aggregate-put-first-2
 slice-aggregate-put-first-2 c = search needs
@@ -33,8 +43,8 @@ same-length-2 c = search needs
 returns-2 : tie.Need-returns-2
 returns-2 c =
     let p = c .before .before in
-    let f = p .before .before .before .before in
-    let e = f .before .before .before in
+    let f = first-of p in
+    let e = accepted f in
     put-as (put-wider (put-then (f .put-first2 .ensures) (p .put-rows .ensures)) 172061 (search needs)) (reports-text _ _ _ _ (e .if1 .left))
 
 pub put-ranking-spec : {M : Type 1} → statement M

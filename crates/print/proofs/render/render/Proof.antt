@@ -8,6 +8,16 @@ use Rattle.print.proofs.Rendered.{drawn, whole}
 use Rattle.print.proofs.render.render.Statement.{statement}
 use Rattle.print.proofs.render.render.Tie as tie
 
+-- the places that the answers look back to
+abbrev lists-of : tie.After-run → tie.After-lists-of
+lists-of c = c .before .before .before .before .before
+
+abbrev run-of : tie.After-count-of → tie.After-run
+run-of c = c .before .before .before .before
+
+abbrev count-of : tie.After-put-ranking-arg → tie.After-count-of
+count-of c = c .before .before .before
+
 lists-of-requires : tie.Need-lists-of-requires
 lists-of-requires c κs = search needs
 
@@ -47,9 +57,9 @@ slice-aggregate-put-ranking-2 c = search needs
 put-ranking-requires : tie.Need-put-ranking-requires
 unfolding ofBits gridF round
 put-ranking-requires c κs =
-    let k = c .before .before .before in
-    let r = k .before .before .before .before in
-    let l = r .before .before .before .before .before in
+    let k = count-of c in
+    let r = run-of k in
+    let l = lists-of r in
     let s = l .before in
     let d =
     drawn (s .before .args .file .now) (λ i. s .shared-slice-known .given i .fits) (l .lists-of .result) (l .lists-of .ensures .0) (l .lists-of .ensures .1) refl refl
@@ -59,9 +69,9 @@ put-ranking-requires c κs =
 returns : tie.Need-returns
 unfolding ofBits gridF round
 returns c =
-    let k = c .before .before .before .before in
-    let r = k .before .before .before .before in
-    let l = r .before .before .before .before .before in
+    let k = count-of (c .before) in
+    let r = run-of k in
+    let l = lists-of r in
     let s = l .before in
     let d =
     drawn (s .before .args .file .now) (λ i. s .shared-slice-known .given i .fits) (l .lists-of .result) (l .lists-of .ensures .0) (l .lists-of .ensures .1) refl refl

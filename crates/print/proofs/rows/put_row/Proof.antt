@@ -1,8 +1,20 @@
 -- `put_row` meets its contract: the four parts one behind another.
+use mathlib.Core.Path.{ap}
 use borrow.Author.Needs.{needs}
-use Rattle.print.proofs.Putting.{put-then}
+use Rattle.print.specs.Text.{decimal}
+use Rattle.print.proofs.Putting.{put-as, put-then}
 use Rattle.print.proofs.rows.put_row.Statement.{statement}
 use Rattle.print.proofs.rows.put_row.Tie as tie
+
+-- the places that the answers look back to
+abbrev number-of : tie.After-put → tie.After-put-number
+number-of c = c .before .before .before .before .before
+
+abbrev space-of : tie.After-put-number2 → tie.After-put
+space-of c = c .before .before .before .before
+
+abbrev score-of : tie.After-put2 → tie.After-put-number2
+score-of c = c .before .before .before .before .before
 
 in-steps-requires : tie.Need-in-steps-requires
 in-steps-requires c κs = search needs
@@ -31,11 +43,11 @@ same-length c = search needs
 returns : tie.Need-returns
 returns c =
     let last = c .before .before in
-    let score = last .before .before .before .before .before in
-    let space = score .before .before .before .before in
-    let number = space .before .before .before .before .before in
+    let score = score-of last in
+    let space = space-of score in
+    let number = number-of space in
     let steps = number .before .before .in-steps in
-    put-then (number .put-number .ensures) (put-then (space .put .ensures) (put-then (rw (steps .ensures) at (score .put-number2 .ensures)) (last .put2 .ensures)))
+    put-then (number .put-number .ensures) (put-then (space .put .ensures) (put-then (put-as (score .put-number2 .ensures) (ap decimal (steps .ensures))) (last .put2 .ensures)))
 
 pub put-row-spec : {M : Type 1} → statement M
 put-row-spec =

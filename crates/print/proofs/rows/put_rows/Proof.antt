@@ -11,6 +11,13 @@ Inv-loop documents scores count out₀ at end₀ i₀ out end i = Lining documen
 abbrev μ-loop : tie.MeasureT-loop
 μ-loop documents scores count out₀ at end₀ i₀ out end i = count - i
 
+-- the places that the answers look back to
+abbrev start : tie.At-loop Inv-loop μ-loop → tie.Start Inv-loop μ-loop
+start c = c .before .before .before .before
+
+abbrev loop-of : tie.After-put-row-arg Inv-loop μ-loop → tie.At-loop Inv-loop μ-loop
+loop-of c = c .before .before .before .before
+
 loop-holds : tie.Need-loop-holds Inv-loop μ-loop
 loop-holds c = lines-begin _ _ _ _ _ (search needs)
 
@@ -28,8 +35,8 @@ shared-slice-read-put-row-2 c = search needs
 
 put-row-requires : tie.Need-put-row-requires Inv-loop μ-loop
 put-row-requires c κs =
-    let l = c .before .before .before .before in
-    let s = l .before .before .before .before in
+    let l = loop-of c in
+    let s = start l in
     (search needs, s .pre .1 .stepped (l .loop .i) (search needs))
 
 add-i : tie.Need-add-i Inv-loop μ-loop
@@ -41,8 +48,8 @@ loop-less c = search needs
 loop-again : tie.Need-loop-again Inv-loop μ-loop
 loop-again c =
     let p = c .before .before in
-    let l = p .before .before .before .before .before in
-    let s = l .before .before .before .before in
+    let l = loop-of (p .before) in
+    let s = start l in
     line-put _ _ _ _ _ (l .loop .i) (l .loop .end) (p .put-row .result) (l .loop .out) _ (search needs) (s .pre .1 .in-documents) (s .pre .1 .in-scores) (l .loop .inv)
     (p .put-row .ensures)
 

@@ -7,6 +7,13 @@ use Rattle.print.proofs.Putting.{put-as, put-wider}
 use Rattle.print.proofs.text.put_number.Statement.{statement}
 use Rattle.print.proofs.text.put_number.Tie as tie
 
+-- the places that the answers look back to
+abbrev start : tie.After-decimal → tie.Start
+start c = c .before .before .before
+
+abbrev decimal-of : tie.After-put-arg → tie.After-decimal
+decimal-of c = c .before .before
+
 decimal-requires : tie.Need-decimal-requires
 decimal-requires c κs = search needs
 
@@ -18,8 +25,8 @@ slice-aggregate-put c = search needs
 
 put-requires : tie.Need-put-requires
 put-requires c κs =
-    let d = c .before .before in
-    let s = d .before .before .before in
+    let d = decimal-of c in
+    let s = start d in
     omega (arith, d .decimal .ensures .0 .1, digits-few _ _ (s .fits .n .fits) (d .decimal .ensures .1 .0))
 
 same-length : tie.Need-same-length
@@ -28,8 +35,8 @@ same-length c = search needs
 returns : tie.Need-returns
 returns c =
     let p = c .before .before in
-    let d = p .before .before .before in
-    let s = d .before .before .before in
+    let d = decimal-of (p .before) in
+    let s = start d in
     put-as (put-wider (p .put .ensures) 20 (omega (arith, d .decimal .ensures .0 .1, digits-few _ _ (s .fits .n .fits) (d .decimal .ensures .1 .0))))
     (d .decimal .ensures .1 .1 ∙ decimal-is _ _ (d .decimal .ensures .1 .0))
 

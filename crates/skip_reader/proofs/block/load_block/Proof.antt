@@ -8,13 +8,29 @@ use Rattle.skip_reader.proofs.Blocks.{right-here, place-here, full-here
 use Rattle.skip_reader.proofs.block.load_block.Statement.{statement}
 use Rattle.skip_reader.proofs.block.load_block.Tie as tie
 
+-- the places that the answers look back to
+abbrev start-packed : tie.After-enum-told → tie.Start
+start-packed c = c .before .before .before
+
+abbrev start-tail : tie.After-info → tie.Start
+start-tail c = c .before .before .before
+
+abbrev packed-of : tie.After-load-packed-arg2 → tie.After-enum-told
+packed-of c = c .before .before
+
+abbrev rest-of : tie.After-load-tail-arg2 → tie.Else1
+rest-of c = c .before .before
+
+abbrev padded : tie.After-pad2 → tie.After-pad
+padded c = c .before .before
+
 enum-told : tie.Need-enum-told
 enum-told c = search needs
 
 load-packed-requires : tie.Need-load-packed-requires
 load-packed-requires c κs =
-    let m = c .before .before in
-    let a = m .before .before .before in
+    let m = packed-of c in
+    let a = start-packed m in
     let P = packed-info (a .args .file .now) (a .args .x) (a .args .reader) (a .pre .1) (m .enum-told .given .1) in
     (full-here (a .pre .0) (a .args .reader) (a .pre .1) (P .full), right-here (a .pre .0) (a .args .reader) (a .pre .1) (omega (arith, P .full)))
 
@@ -31,31 +47,32 @@ load-tail-requires : tie.Need-load-tail-requires
 load-tail-requires c κs =
     let t = c .before .before in
     let m = t .before .before in
-    let a = m .before .before .before in
+    let k = m .before .before in
+    let a = k .before in
     let s = a .args .file .now in let x = a .args .x in let r = a .args .reader in
     let e = on-tail x r (tail-info s x r (a .pre .1) (m .info .given .1)) (t .if1 .left) in
     (a .pre .0 .blocks .skipped, rw e at (place-here (a .pre .0) r (a .pre .1) (omega (arith, e))), a .pre .0 .right .postings, rw e at (right-here (a .pre .0) r (a .pre .1) (omega (arith, e))))
 
 returns : tie.Need-returns
 returns c =
-    let m = c .before .before .before in
-    let a = m .before .before .before in
+    let m = packed-of (c .before) in
+    let a = start-packed m in
     let P = packed-info (a .args .file .now) (a .args .x) (a .args .reader) (a .pre .1) (m .enum-told .given .1) in
     loaded-is (omega (arith, P .full)) (c .load-packed .ensures)
 
 returns-2 : tie.Need-returns-2
 returns-2 c =
-    let t = c .before .before .before .before in
+    let t = padded c .before .before in
     let m = t .before .before in
-    let a = m .before .before .before in
+    let a = start-tail m in
     let s = a .args .file .now in let x = a .args .x in let r = a .args .reader in
-    empty-is s x (r .block) (sym (tail-info s x r (a .pre .1) (m .info .given .1) .1) ∙ t .if1 .taken) (c .before .before .pad .ensures) (c .pad2 .ensures)
+    empty-is s x (r .block) (sym (tail-info s x r (a .pre .1) (m .info .given .1) .1) ∙ t .if1 .taken) (padded c .pad .ensures) (c .pad2 .ensures)
 
 returns-3 : tie.Need-returns-3
 returns-3 c =
-    let t = c .before .before .before in
+    let t = rest-of (c .before) in
     let m = t .before .before in
-    let a = m .before .before .before in
+    let a = start-tail m in
     let s = a .args .file .now in let x = a .args .x in let r = a .args .reader in
     let e = on-tail x r (tail-info s x r (a .pre .1) (m .info .given .1)) (t .if1 .left) in
     rw e (loaded-is (le-refl _) (c .load-tail .ensures))

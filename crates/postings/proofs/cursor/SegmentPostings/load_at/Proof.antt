@@ -4,16 +4,23 @@ use Rattle.postings.proofs.Moves.{lands}
 use Rattle.postings.proofs.cursor.SegmentPostings.load_at.Statement.{statement}
 use Rattle.postings.proofs.cursor.SegmentPostings.load_at.Tie as tie
 
+-- the places that the answers look back to
+abbrev start : tie.After-load-arg2 → tie.Start
+start c = c .before .before .before
+
+abbrev load-of : tie.After-search-block-arg → tie.After-load
+load-of c = c .before .before
+
 load-requires : tie.Need-load-requires
-load-requires c κs = let a = c .before .before .before in (a .pre .0, a .pre .1)
+load-requires c κs = let a = start c in (a .pre .0, a .pre .1)
 
 search-block-requires : tie.Need-search-block-requires
-search-block-requires c κs = let l = c .before .before in let a = l .before .before .before .before in decoded-sorted (a .pre .0) (l .load .ensures)
+search-block-requires c κs = let l = load-of c in let a = start (l .before) in decoded-sorted (a .pre .0) (l .load .ensures)
 
 returns : tie.Need-returns
 returns c =
-    let l = c .before .before .before in
-    let a = l .before .before .before .before in
+    let l = load-of (c .before) in
+    let a = start (l .before) in
     lands (a .pre .0) (a .args .self) (a .pre .1) (l .load .ensures) (a .args .target) (a .pre .2) (c .search-block .ensures)
 
 pub load-at-spec : {M : Type 1} → statement M

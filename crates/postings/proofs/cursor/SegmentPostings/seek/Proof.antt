@@ -4,6 +4,19 @@ use Rattle.postings.proofs.Moves.{sought-here, sought-next, sought-far,
 use Rattle.postings.proofs.cursor.SegmentPostings.seek.Statement.{statement}
 use Rattle.postings.proofs.cursor.SegmentPostings.seek.Tie as tie
 
+-- the places that the answers look back to
+abbrev start-here : tie.Then1 → tie.Start
+start-here c = c .before .before .before
+
+abbrev start : tie.After-next-place → tie.Start
+start c = c .before .before .before .before
+
+abbrev next-of : tie.After-seek-block → tie.After-next-place
+next-of c = c .before .before .before
+
+abbrev block-of : tie.After-load-at-arg2 → tie.After-seek-block
+block-of c = c .before .before
+
 mul-doc : tie.Need-mul-doc
 mul-doc c = search needs
 
@@ -11,7 +24,7 @@ element-copy-out-doc : tie.Need-element-copy-out-doc
 element-copy-out-doc c = search needs
 
 returns : tie.Need-returns
-returns c = let a = c .before .before .before in sought-here (a .pre .0) (a .args .self) (a .pre .1) (a .args .target) (c .if1 .taken)
+returns c = let a = start-here c in sought-here (a .pre .0) (a .args .self) (a .pre .1) (a .args .target) (c .if1 .taken)
 
 next-place-requires : tie.Need-next-place-requires
 next-place-requires c κs = search needs
@@ -25,25 +38,25 @@ element-copy-out-next-doc c = search needs
 returns-2 : tie.Need-returns-2
 returns-2 c =
     let n = c .before .before in
-    let a = n .before .before .before .before in
+    let a = start n in
     sought-next (a .pre .0) (a .args .self) (a .pre .1) (a .args .target) (n .before .if1 .left) (n .next-place .ensures .0) (n .next-place .ensures .1) (c .if2 .taken)
 
 seek-block-requires : tie.Need-seek-block-requires
-seek-block-requires c κs = let a = c .before .before .before .before .before .before in (a .pre .0, a .pre .1 .stands, a .pre .1 .low)
+seek-block-requires c κs = let a = start (c .before .before) in (a .pre .0, a .pre .1 .stands, a .pre .1 .low)
 
 load-at-requires : tie.Need-load-at-requires
 load-at-requires c κs =
-    let k = c .before .before in
-    let n = k .before .before .before in
-    let a = n .before .before .before .before in
+    let k = block-of c in
+    let n = next-of k in
+    let a = start n in
     let Q = k .seek-block .ensures _ _ (a .pre .1) in
     (a .pre .0, Q .placed, reaches (a .pre .0) (a .args .self) (a .pre .1) (a .args .target) (n .before .if1 .left) (n .next-place .ensures .0) (n .next-place .ensures .1) Q (a .pre .2))
 
 returns-3 : tie.Need-returns-3
 returns-3 c =
-    let k = c .before .before .before in
-    let n = k .before .before .before in
-    let a = n .before .before .before .before in
+    let k = block-of (c .before) in
+    let n = next-of k in
+    let a = start n in
     let Q = k .seek-block .ensures _ _ (a .pre .1) in
     sought-far (a .pre .0) (a .args .self) (a .pre .1) (a .args .target) (n .before .if1 .left) (n .next-place .ensures .0) (n .next-place .ensures .1) Q (k .before .if2 .left) (c .load-at .ensures)
 
