@@ -4,18 +4,17 @@ use mathlib.Core.Bool.{Bool, true, false, cond, _&&_}
 use mathlib.Core.List.{List, [], _∷_}
 use Prim.Native.Nat.{ℕ, zero, suc, _≤_, _<_}
 use native.Mathlib.Omega.{arith}
-use lib.Dec.{leb, lit<, lit≤}
+use lib.Dec.{leb}
 use lib.Ieee.{Float}
 use borrow.Author.Tests.{le-leb, lt-leb}
 use Rattle.route.specs.Report.{Report}
-use Rattle.route.specs.Rule as rules
 use Rattle.bm25.specs.declared.Scoring.{Scoring}
 use Rattle.bm25.specs.declared.Scoring.the-variants.{Stepped}
 use Rattle.rule.specs.Right.{ruleRight}
 use Rattle.rule.specs.declared.Rule.{Rule}
 use Rattle.rule.specs.declared.Rule.the-variants.{BestK}
 use Rattle.notefile.specs.Header.{listCount}
-use Rattle.notefile.specs.Refusal.{Test, test, unless, firstRefusal, fileTests, fileRefusal}
+use Rattle.notefile.specs.Refusal.{test, unless, firstRefusal, fileTests, fileRefusal}
 use Rattle.notefile.specs.Inner.Order.{orElse}
 use Rattle.notefile.proofs.Order.{first-append, file-numbered}
 use Rattle.reports.specs.Rows.{Rows, rowsOf}
@@ -29,11 +28,11 @@ use Rattle.request.specs.declared.Mode.{Mode}
 use Rattle.request.specs.declared.Mode.the-variants.{Single}
 use Rattle.request.proofs.Requests.{query-or, request-or}
 use Rattle.ranking.specs.Answers.{answer, countOf, numberOf, plainList, Answered, PlainIs, RunIs}
-use Rattle.ranking.specs.Demand.{Given, result, resultOf, Demand3}
+use Rattle.ranking.specs.Demand.{Given, result, Demand3}
 use Rattle.ranking.specs.declared.outcome.Outcome.{Outcome}
 use Rattle.ranking.proofs.Demand.{demand-3, given-of}
 use Rattle.ranking.proofs.Counts.{run-few, plain-few}
-use Rattle.noterank.specs.Interface.{modeAt, scoringAt, ruleAt, Call, requestOf, callTests, callRefusal, ListBy, Ranked}
+use Rattle.noterank.specs.Interface.{modeAt, scoringAt, ruleAt, Call, requestOf, callRefusal, ListBy, Ranked}
 use Rattle.noterank.specs.Inner.Calls.{numbersRefusal, OutcomeBy}
 
 pub past-one : (n : ℕ) → (n ≡ 0 → ⊥) → (n ≡ 1 → ⊥) → Single ≡ modeAt n

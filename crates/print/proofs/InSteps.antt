@@ -4,9 +4,9 @@ use mathlib.Core.Bool.{true, false, true≢false}
 use Prim.Native.Nat.{ℕ, _+_, _*_, _/_, _%_, _^_, _≤_, _<_}
 use native.Mathlib.Nat.{div-add-mod', zero-div, mul-lt-mul-of-pos-right}
 use native.Mathlib.Omega.{arith}
-use lib.IntN.{ℤ, pos}
+use lib.IntN.{pos}
 use lib.Dec.{T, eqb, leb, eqb→eq, le→leb, lt→ltb, lit<}
-use lib.Ieee.{Float, nan, inf, fin, binary32, up, down, mul, lt, round, ofInt, inFloat, toUnsigned}
+use lib.Ieee.{Float, nan, inf, fin, binary32, up, down, mul, lt, ofInt, inFloat, toUnsigned}
 use lib.Ieee.Exact.{HasValue}
 use lib.Ieee.Fits.{down-pos, and-l, and-r}
 use lib.Ieee.Scale.{round-same}

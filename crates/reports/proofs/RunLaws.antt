@@ -12,7 +12,6 @@ use Rattle.route.specs.Report as route
 use Rattle.route.specs.Rule.{limited}
 use Rattle.route.specs.Route.{Route, Turn, Ends}
 use Rattle.route.specs.F32.{f32}
-use Rattle.route.proofs.Cases.{on-test}
 use Rattle.route.proofs.Ending.{Nears, Stays, one-end}
 use Rattle.route.proofs.Rows.{route-full}
 use Rattle.rule.specs.Rules.{ruleOf, startOf}
@@ -136,20 +135,6 @@ module _ (W : Route Float) (rule : Rule) (script : List Float) (documents₀ : L
         -- or as many as were allowed
         pub went-paused : Went (W .turn) (W .ended) (t .now) p turns taken q Paused → Goes t best documents values q
         went-paused w = subst (Goes t best documents values) (sym (w .place-is)) (run-silent taken (w .stood .0))
-
-  -- ---- what a route keeps on its way
-
-  module _ {Kept : W .Place → Type 0} {cost : W .Place → ℕ} (N : Nears W Kept cost) where
-    -- each place of a run has it
-    pub run-kept : Stays W → {t : Threshold} {best : List Float} {documents : List ℕ} {values : List Float} {p : W .Place} → Goes t best documents values p → Kept p
-    run-kept still G = subst Kept (G .place-is) (always (G .steps))
-      where
-        always : (n : ℕ) → Kept (runAfter W rule script n .place)
-        always zero = N .begins
-        always (suc n) =
-            let u = runAfter W rule script n in
-            let h = callbackOf rule script .threshold (u .state) in
-            on-test (W .ended (u .place)) (λ e. subst Kept (sym (ap (λ (z : Turn (W .Place) Float). z .next) (still h (u .place) e))) (always n)) (λ e. N .nears h (u .place) e (always n) .0)
 
   -- ---- what a run leaves
 

@@ -1,20 +1,17 @@
 -- A query's numbers one by one, and what a request that is not refused gives.
 use mathlib.Core.Path.{_≡_, refl, sym, ap, _∙_}
-use mathlib.Core.Bool.{Bool, true, false, _&&_, cond}
-use mathlib.Core.List.{List, [], _∷_, _++_}
+use mathlib.Core.Bool.{Bool, true, false, _&&_}
+use mathlib.Core.List.{List, [], _∷_}
 use Prim.Native.Nat.{ℕ, zero, suc, _+_, _≤_, _<_}
 use native.Mathlib.Numerals.{add-one}
 use native.Mathlib.Omega.{arith}
 use lib.Dec.{leb, ltb, lit<, lit≤}
 use lib.ListN.{length, getD, drop, drop-of-length-le}
 use lib.Seq.{drop-cons}
-use lib.Ieee.{Float}
 use borrow.Author.Tests.{lt-ltb, le-ltb, ltb-true, leb-true, eqb-true}
 use Rattle.arrays.proofs.Every.{first-true, second-true}
 use Rattle.route.specs.Inner.Rules.{Takes}
-use Rattle.bm25.specs.declared.Scoring.{Scoring}
 use Rattle.rule.specs.Right.{ruleRight}
-use Rattle.rule.specs.declared.Rule.{Rule}
 use Rattle.notefile.specs.Header.{listCount}
 use Rattle.notefile.specs.Refusal.{Test, test, unless, firstRefusal, fileTests, fileRefusal}
 use Rattle.notefile.specs.Inner.Order.{orElse}

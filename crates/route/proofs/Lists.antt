@@ -1,7 +1,7 @@
 -- Facts about all members of a list, and lists up to order.
 use mathlib.Core.List.{List, [], map, _++_, _∷_}
 use mathlib.Core.Path.{ap, refl, subst, _∙_, _≡_}
-use Prim.Native.Nat.{suc}
+use Prim.Native.Nat.{suc, zero, ℕ}
 use lib.ListN.{drop, length, take}
 use Rattle.arrays.specs.Every.{All}
 
@@ -69,6 +69,11 @@ module _ {A : Type 0} where
   pub all-imp : (P Q : A → Type 0) (xs : List A) → ((x : A) → P x → Q x) → All P xs → All Q xs
   all-imp P Q [] f a = tt
   all-imp P Q (x ∷ xs) f a = (f x (a .0), all-imp P Q xs f (a .1))
+
+  pub all-take : (P : A → Type 0) (n : ℕ) (xs : List A) → All P xs → All P (take n xs)
+  all-take P zero xs a = tt
+  all-take P (suc n) [] a = tt
+  all-take P (suc n) (x ∷ xs) a = (a .0, all-take P n xs (a .1))
 
   pub all-zip : (P Q R : A → Type 0) → ((x : A) → P x → Q x → R x) → (xs : List A) → All P xs → All Q xs → All R xs
   all-zip P Q R f [] a b = tt

@@ -25,11 +25,6 @@ sum-has O P Z acc [] h a = h
 sum-has O P Z acc (x ∷ xs) h a = sum-has O P Z (O .add acc x) xs (Z .add-has acc x h (a .0)) (a .1)
 
 module _ {S : Type 0} where
-  -- a score, if there is one, has P
-  abbrev pub HasOf : (S → Type 0) → Option S → Type 0
-  HasOf P none = Unit {0}
-  HasOf P (some x) = P x
-
   -- the documents rise strictly, from a on and below n
   abbrev pub Upward : ℕ → ℕ → List (Report S) → Type 0
   Upward a n [] = a ≤ n

@@ -29,6 +29,11 @@ pub record Values (O : Ops) (L : Ordered O) (P : O .S → Type 0) : Type 0 where
   pub nil-ok : P (O .nil)
   pub nil-least : (x : O .S) → P x → L .rank (O .nil) ≤ L .rank x
 
+-- a score, if there is one, has P
+abbrev pub HasOf : {S : Type 0} → (S → Type 0) → Option S → Type 0
+HasOf P none = Unit {0}
+HasOf P (some x) = P x
+
 module _ (O : Ops) (L : Ordered O) where
   -- a sum that is no report at threshold t
   abbrev pub LowOf : Option (O .S) → O .S → Type 0
@@ -36,8 +41,7 @@ module _ (O : Ops) (L : Ordered O) where
   LowOf (some x) t = L .rank x ≤ L .rank t
 
   abbrev pub FinOf : Option (O .S) → Type 0
-  FinOf none = Unit {0}
-  FinOf (some x) = L .Fin x
+  FinOf = HasOf (L .Fin)
 
   -- a comparison tells the order of the ranks
   pub above-true : (x t : O .S) → L .Fin x → L .Fin t → O .above x t ≡ true → L .rank t < L .rank x

@@ -30,7 +30,8 @@ use Rattle.route.proofs.Ordering.{sort-perm}
 use Rattle.route.proofs.Scorers.{present-has}
 use Rattle.route.proofs.Hits.{Every, e-all, e-not, every}
 use Rattle.route.proofs.Ending.{one-end}
-use Rattle.route.proofs.Onward.{HasOf, Listed, Summed, Upward, listed-below, listed-more, reports-upward, sum-has, upward-few}
+use Rattle.route.proofs.Order.{HasOf}
+use Rattle.route.proofs.Onward.{Listed, Summed, Upward, listed-below, listed-more, reports-upward, sum-has, upward-few}
 use Rattle.route.proofs.Single.Ends.{single-nears, single-stays}
 use Rattle.route.proofs.Single.Onward.{SingleAhead, single-onward}
 use Rattle.route.proofs.Union.Ends.{union-nears, union-stays, unionCost}
@@ -38,6 +39,26 @@ use Rattle.route.proofs.Union.Onward.{UnionAhead, union-onward}
 use Rattle.route.proofs.Intersection.Ends.{interCost, intersection-nears, intersection-stays}
 use Rattle.route.proofs.Intersection.Onward.{InterAhead, intersection-onward}
 use Rattle.route.proofs.Agree.{Fresh, by-live, by-one, by-two, fresh-all, live-all}
+
+-- a scan's list rises, and its scores have what every document's sum has
+module _ (O : Ops) (P : O .S → Type 0) (rule : Rule (O .S)) (start : O .S) (h : ℕ → Option (O .S)) (has : (d : ℕ) → HasOf P (h d)) where
+  turn-listed : (o : Option (O .S)) (d : ℕ) (rs : List (Report (O .S))) → HasOf P o → Listed P d rs → Listed P (suc d) (turnOf O (ruled O rule start) o d rs)
+  turn-listed none d rs p k = listed-below P d (suc d) rs (omega arith) k
+  turn-listed (some x) d rs p k =
+      offer-all O (ruled O rule start) (Listed P (suc d)) d x rs
+      (λ _. listed-more P d rs (record { doc = d; score = x }) (omega arith) p k)
+      (λ _. listed-below P d (suc d) rs (omega arith) k)
+
+  scan-from : (n d : ℕ) (rs : List (Report (O .S))) → Listed P d rs → Listed P (d + n) (scan O (ruled O rule start) h n d rs)
+  scan-from zero d rs k = listed-below P d (d + 0) rs (omega arith) k
+  scan-from (suc n) d rs k =
+      let rs′ = turnOf O (ruled O rule start) (h d) d rs in
+      listed-below P (suc d + n) (d + suc n) (scan O (ruled O rule start) h n (suc d) rs′) (omega arith)
+      (scan-from n (suc d) rs′ (turn-listed (h d) d rs (has d) k))
+
+  scan-listed : (N : ℕ) → Listed P N (scan O (ruled O rule start) h N 0 [])
+  scan-listed N =
+      listed-below P (0 + N) N (scan O (ruled O rule start) h N 0 []) (omega arith) (scan-from N 0 [] (record { upward = omega arith; scored = tt }))
 
 module _ (O : Ops) (P : O .S → Type 0) (Z : Summed O P) (q : List (Postings (O .S))) (has : All (Scored P) q) (rule : Rule (O .S)) (start : O .S) where
   abbrev K : Callback (O .S)
@@ -58,23 +79,8 @@ module _ (O : Ops) (P : O .S → Type 0) (Z : Summed O P) (q : List (Postings (O
       go (e-all a b) = subst (λ o. HasOf P (allOf O o)) (sym a) (total-has (present d q) (present-has P d q has))
       go (e-not a b) = subst (λ o. HasOf P (allOf O o)) (sym a) tt
 
-  turn-listed : (o : Option (O .S)) (d : ℕ) (rs : List (Report (O .S))) → HasOf P o → Listed P d rs → Listed P (suc d) (turnOf O K o d rs)
-  turn-listed none d rs p k = listed-below P d (suc d) rs (omega arith) k
-  turn-listed (some x) d rs p k =
-      offer-all O K (Listed P (suc d)) d x rs
-      (λ _. listed-more P d rs (record { doc = d; score = x }) (omega arith) p k)
-      (λ _. listed-below P d (suc d) rs (omega arith) k)
-
-  scan-listed : (m : Mode) (n d : ℕ) (rs : List (Report (O .S))) → Listed P d rs → Listed P (d + n) (scan O K (hit O m q) n d rs)
-  scan-listed m zero d rs k = listed-below P d (d + 0) rs (omega arith) k
-  scan-listed m (suc n) d rs k =
-      let rs′ = turnOf O K (hit O m q d) d rs in
-      listed-below P (suc d + n) (d + suc n) (scan O K (hit O m q) n (suc d) rs′) (omega arith)
-      (scan-listed m n (suc d) rs′ (turn-listed (hit O m q d) d rs (hit-has m d) k))
-
   plain-listed : (m : Mode) (N : ℕ) → Listed P N (plain O m q rule start N)
-  plain-listed m N =
-      listed-below P (0 + N) N (plain O m q rule start N) (omega arith) (scan-listed m N 0 [] (record { upward = omega arith; scored = tt }))
+  plain-listed m N = scan-listed O P rule start (hit O m q) (hit-has m) N
 
   -- ---- skipping runs
 
@@ -151,6 +157,10 @@ module _ (O : Ops) (m : Mode) (q : List (Postings (O .S))) (rule : Rule (O .S)) 
   pub plain-few : (N : ℕ) → length (plain O m q rule start N) ≤ N
   plain-few N = omega (arith, upward-few 0 N (plain O m q rule start N) (plain-rise N))
 
-  -- THE PLAIN SCAN'S SCORES ARE SUMS OF THE LISTS' SCORES
+  -- THE PLAIN SCAN'S SCORES ARE ITS DOCUMENTS' SUMS
+  pub plain-sums : (N : ℕ) (P : O .S → Type 0) → ((d : ℕ) → HasOf P (hit O m q d)) → All (λ r. P (r .score)) (plain O m q rule start N)
+  plain-sums N P has = scan-listed O P rule start (hit O m q) has N .scored
+
+  -- AND SO SUMS OF THE LISTS' SCORES
   pub plain-scores : (N : ℕ) (P : O .S → Type 0) → Summed O P → All (Scored P) q → All (λ r. P (r .score)) (plain O m q rule start N)
   plain-scores N P Z has = plain-listed O P Z q has rule start m N .scored

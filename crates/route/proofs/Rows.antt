@@ -11,10 +11,9 @@ use lib.ListN.{length, length-append, take}
 use lib.Seq.{take-at}
 use borrow.Author.Tests.{leb-false, leb-true, lt-leb}
 use Rattle.route.specs.Score.{Ops}
-use Rattle.route.specs.Report.{Callback, Report, dueAt, reported}
+use Rattle.route.specs.Report.{Callback, Report, reported}
 use Rattle.route.specs.Rule.{Outcome, Rule, limited, ruled}
 use Rattle.route.specs.Postings.{start}
-use Rattle.route.specs.Plain.{scan, turnOf}
 use Rattle.route.specs.Route.{Ends, Route, after, step}
 use Rattle.route.proofs.Cases.{by-test, on-test}
 use Rattle.route.proofs.Ending.{Stays, stays-on}
@@ -26,13 +25,6 @@ module _ {S : Type 0} (n : ℕ) where
       by-test (λ (o : Outcome S). o .code ≡ 0 → o .rows ≡ rs) (leb (length rs) n) (record { code = 0; rows = rs })
       (record { code = 12; rows = take n rs })
       (λ _ _. refl) (λ _ z. absurd (omega (arith, z))) e
-
-  -- a run that returns 12 has the first n
-  pub first-rows : (rs : List (Report S)) → limited n rs .code ≡ 12 → limited n rs .rows ≡ take n rs
-  first-rows rs e =
-      by-test (λ (o : Outcome S). o .code ≡ 12 → o .rows ≡ take n rs) (leb (length rs) n) (record { code = 0; rows = rs })
-      (record { code = 12; rows = take n rs })
-      (λ _ z. absurd (omega (arith, z))) (λ _ _. refl) e
 
   -- n rows r are full and x is due
   pub full-rows : (total r zs : List (Report S)) (x : Report S) → length r ≡ n → total ≡ (r ++ (x ∷ [])) ++ zs
@@ -57,28 +49,6 @@ module _ (O : Ops) (rule : Rule (O .S)) (start : O .S) where
   reported-longer : (o : Option (Report (O .S))) (r : List (Report (O .S))) → Longer r (reported K o r)
   reported-longer none r = ([], sym (append-nil r))
   reported-longer (some x) r = (x ∷ [], refl)
-
-  -- ---- the plain scan
-
-  module _ (h : ℕ → Option (O .S)) where
-    turn-longer : (o : Option (O .S)) (d : ℕ) (r : List (Report (O .S))) → Longer r (turnOf O K o d r)
-    turn-longer none d r = ([], sym (append-nil r))
-    turn-longer (some x) d r = reported-longer (dueAt O (K .threshold r) d x) r
-
-    scan-longer : (n d : ℕ) (r : List (Report (O .S))) → Longer r (scan O K h n d r)
-    scan-longer zero d r = ([], sym (append-nil r))
-    scan-longer (suc n) d r = longer r (turnOf O K (h d) d r) (scan O K h n (suc d) (turnOf O K (h d) d r)) (turn-longer (h d) d r)
-        (scan-longer n (suc d) (turnOf O K (h d) d r))
-
-    -- a plain run whose rows r are full at document d
-    pub plain-full : (m d : ℕ) (r total : List (Report (O .S))) (x : Report (O .S)) → scan O K h (suc m) d r ≡ total
-        → turnOf O K (h d) d r ≡ r ++ (x ∷ [])
-        → limited (length r) total ≡ record { code = 12; rows = r }
-    plain-full m d r total x e f =
-        let z = scan-longer m (suc d) (turnOf O K (h d) d r) in
-        full-rows (length r) total r (z .0) x refl (sym e ∙ z .1 ∙ ap (λ y. y ++ z .0) f)
-
-  -- ---- a skipping run
 
   module _ (W : Route (O .S)) (stays : Stays W) where
     after-longer : (r : List (Report (O .S))) (n m : ℕ) → Longer (after K W r n .state) (after K W r (n + m) .state)

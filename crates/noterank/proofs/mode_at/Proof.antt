@@ -1,6 +1,4 @@
 -- `mode_at` meets its contract: by the number.
-use mathlib.Core.Path.{_≡_, refl, ap, sym, _∙_}
-use Rattle.noterank.specs.Interface.{modeAt}
 use Rattle.noterank.proofs.Numbers.{past-one}
 use Rattle.noterank.proofs.mode_at.Statement.{statement}
 use Rattle.noterank.proofs.mode_at.Tie as tie

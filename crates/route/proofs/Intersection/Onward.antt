@@ -18,9 +18,10 @@ use Rattle.route.specs.Inner.Lists.{ListOk}
 use Rattle.route.specs.Inner.Intersections.{InWindow, InterKept, WfS}
 use Rattle.route.proofs.Cases.{by-test}
 use Rattle.route.proofs.ListLaws.{Scored}
+use Rattle.route.proofs.Order.{HasOf}
 use Rattle.route.proofs.Places.{docAt-in, docAt-lt}
 use Rattle.route.proofs.Cursor.{block-hits, find-below}
-use Rattle.route.proofs.Onward.{Goes, HasOf, Onward, Summed, Upward, due-goes, upward-from}
+use Rattle.route.proofs.Onward.{Goes, Onward, Summed, Upward, due-goes, upward-from}
 use Rattle.route.proofs.Union.Pivot.{leastLast-le}
 use Rattle.route.proofs.Intersection.Ends.{cands-by, cands-each, shallow-each, try-by, try-each, wf-shallow, window-by, window-wide}
 

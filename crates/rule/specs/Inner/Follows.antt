@@ -8,7 +8,7 @@ use lib.ListN.{length, getD, take, replicate}
 use lib.Ieee.{Float, nan}
 use Rattle.floats.specs.Inner.Maximum.{larger}
 use Rattle.route.specs.F32.{f32}
-use Rattle.route.specs.Rule.{insertDown, rankFrom, thresholdAfter, best}
+use Rattle.route.specs.Rule.{insertDown, rankFrom, thresholdAfter}
 use Rattle.rule.specs.Rules.{ruleOf, startOf}
 use Rattle.rule.specs.declared.Rule.{Rule}
 use Rattle.rule.specs.declared.Rule.the-variants.{Script, BestK}
