@@ -16,54 +16,52 @@ use Rattle.route.specs.Scorer.{Scorer, docOf, scorersFrom, sizeHint}
 use Rattle.route.specs.Intersection.{early, leaderRoute}
 use Rattle.route.specs.Plain.{intersection}
 use Rattle.route.specs.Skipping.{ofTwo, route}
-use Rattle.route.proofs.Lists.{Perm, all-perm, p-cons, p-nil, p-swap, p-trans}
+use Rattle.route.proofs.Lists.{Perm, all-imp, all-perm, p-cons, p-nil, p-swap, p-trans}
 use Rattle.route.proofs.Ordering.{sort-perm}
 use Rattle.ordering.proofs.Carried.{sort-map}
-use Rattle.ordering.proofs.Places.{all-at, all-first}
+use Rattle.ordering.proofs.Places.{all-at, all-drop, all-first}
 use Rattle.decoded.specs.Lists.{listOf}
 use Rattle.skip_reader.specs.Inner.Decoded.{doc-is}
 use Rattle.slot_rows.specs.Inner.Rows.{partIn}
 use Rattle.term_scorer.specs.Inner.Slots.{Held, cursorAt, listsFrom, partAt, slotsFrom}
+use Rattle.term_scorer.specs.Inner.Weights.{TopKept, topAt, TopRead}
 use Rattle.intersection_window.specs.Inner.Scorers.{InOrder, Query, SlotsIn, leaderIn, listIn, placeAt, scorerAt, secondariesIn, slotAt}
 use Rattle.intersection_window.specs.Inner.Sizes.{BySize, sizeIn}
 use Rattle.intersection_window.proofs.Parts.{part-first, part-none}
 use Rattle.intersection_window.proofs.Seats.{doc-here}
 use Rattle.block_wand_intersection.specs.Inner.Stands.{maxSum}
-use Rattle.block_wand_intersection.specs.Inner.Beginnings.{Begins, FreshSlots, Listed}
+use Rattle.block_wand_intersection.specs.Inner.Beginnings.{Begins, FreshSlots, topSum}
 use Rattle.block_wand_intersection.specs.declared.Intersection.{Intersection}
 use Rattle.block_wand_intersection.specs.declared.Stage.the-variants.{Early}
 
 -- ---- the list bounds
 
-module _ (x : Query) where
-  abbrev top : ℕ → Float
-  top q = listIn x q .top
-
+module _ (lists : List (List ℕ)) (n : ℕ) (order : List ℕ) where
   -- those before place i are summed
   pub record Adding (i : ℕ) (total : Float) : Type 0 where
     pub low : 1 ≤ i
-    pub high : i ≤ x .len
-    pub whole : sum f32 (map top (drop 1 (take (x .len) (x .order)))) ≡ sumFrom f32 total (map top (drop i (take (x .len) (x .order))))
+    pub high : i ≤ n
+    pub whole : sum f32 (map (topAt lists) (drop 1 (take n order))) ≡ sumFrom f32 total (map (topAt lists) (drop i (take n order)))
 
-  module _ (O : InOrder x) where
-    pub adding : Adding 1 (f32 .nil)
-    adding = record { low = omega arith; high = O .leader; whole = refl }
+  pub adding : 0 < n → Adding 1 (f32 .nil)
+  adding h = record { low = omega arith; high = omega arith; whole = refl }
 
-    long : x .len ≤ length (x .order)
-    long = let e = O .long in let f = O .few in omega arith
+  module _ {i : ℕ} {total : Float} (A : Adding i total) where
+    pub adds : n ≤ length order → i < n → {m : Float} → m ≡ topAt lists (getD order i 0) → Adding (i + 1) (f32 .add total m)
+    adds long h e = record {
+      low = omega arith;
+      high = omega arith;
+      whole = A .whole ∙ ap (sumFrom f32 total) (part-first order (topAt lists) i n h long) ∙ ap (λ (z : Float). sumFrom f32 (f32 .add total z) (map (topAt lists) (drop (suc i) (take n order)))) (sym e) ∙ rw add-one;
+    }
 
-    module _ {i : ℕ} {total : Float} (A : Adding i total) where
-      pub adds : i < x .len → {m : Float} → m ≡ top (slotAt x i) → Adding (i + 1) (f32 .add total m)
-      adds h e = record {
-        low = omega arith;
-        high = omega arith;
-        whole = A .whole ∙ ap (sumFrom f32 total) (part-first (x .order) top i (x .len) h long) ∙ ap (λ (z : Float). sumFrom f32 (f32 .add total z) (map top (drop (suc i) (take (x .len) (x .order))))) (sym e) ∙ rw add-one;
-      }
+    pub added : n ≤ i → {m : Float} → m ≡ topAt lists (getD order 0 0) → f32 .add m total ≡ topSum lists n order
+    added h e =
+        let z = part-none order (topAt lists) i n h in
+        ap (λ (m : Float). f32 .add m total) e ∙ ap (f32 .add (topAt lists (getD order 0 0))) (sym (A .whole ∙ rw z))
 
-      pub added : x .len ≤ i → {m : Float} → m ≡ top (slotAt x 0) → f32 .add m total ≡ maxSum x
-      added h e =
-          let z = part-none (x .order) top i (x .len) h in
-          ap (λ (m : Float). f32 .add m total) e ∙ ap (f32 .add (top (slotAt x 0))) (sym (A .whole ∙ rw z))
+same-map : {A B : Type 0} (f g : A → B) (l : List A) → All (λ x. f x ≡ g x) l → map f l ≡ map g l
+same-map f g [] a = refl
+same-map f g (x ∷ l) a = rw (a .0, same-map f g l (a .1))
 
 -- ---- the order
 
@@ -139,8 +137,19 @@ module _ {x₀ : Query} {h : Held} (F : FreshSlots x₀ h) {order : List ℕ} (S
     weighed = F .weighed;
   }
 
-  pub listed : Listed x
-  listed q hq = (F .slot q hq .part-row, F .slot q hq .list)
+  kept : All (TopKept (x₀ .scoring) (x₀ .file) (x₀ .lists)) (take n order)
+  kept = all-imp (λ r. r < n) (TopKept (x₀ .scoring) (x₀ .file) (x₀ .lists)) (take n order) (λ q hq. F .top q hq) (all-perm (λ r. r < n) perm (slots-below n 0 n (omega arith)))
+
+  pub tops-read : All (TopRead (x₀ .lists)) (take n order)
+  tops-read = all-imp (TopKept (x₀ .scoring) (x₀ .file) (x₀ .lists)) (TopRead (x₀ .lists)) (take n order) (λ _ k. k .read) kept
+
+  -- their sum is the lists'
+  sum-is : topSum (x₀ .lists) n order ≡ maxSum x
+  sum-is =
+      let Same : ℕ → Type 0 = λ q. topAt (x₀ .lists) q ≡ listIn x q .top in
+      let same : All Same (take n order) = all-imp (TopKept (x₀ .scoring) (x₀ .file) (x₀ .lists)) Same (take n order) (λ _ k. k .top-is) kept in
+      let first = all-first Same order n 0 0 (let t = F .two in omega arith) (let a = F .few in let b = S .long in omega arith) same in
+      rw (first, same-map (topAt (x₀ .lists)) (λ q. listIn x q .top) (drop 1 (take n order)) (all-drop Same 1 (take n order) same))
 
   pub seated : SlotsIn x h
   seated = record { sixteen = F .sixteen; slot = F .slot }
@@ -168,7 +177,7 @@ module _ {x₀ : Query} {h : Held} (F : FreshSlots x₀ h) {order : List ℕ} (S
       ∙ ap (sortBy sizeHint) (fresh-scorers 0 n (omega arith)))
       ∙ part-first order (scorerAt x (h .places)) 0 n (let t = F .two in omega arith) order-long
 
-  module _ {doc : ℕ} (ed : doc ≡ getD (getD (h .docs) (slotAt x 0) []) (getD (getD (h .places) (slotAt x 0) []) 6 0) 0) {total : Float} (em : total ≡ maxSum x) where
+  module _ {doc : ℕ} (ed : doc ≡ getD (getD (h .docs) (slotAt x 0) []) (getD (getD (h .places) (slotAt x 0) []) 6 0) 0) {total : Float} (em : total ≡ topSum (x₀ .lists) n order) where
     abbrev v : Intersection
     v = record { len = n; doc = doc; «max_sum» = total; stage = Early }
 
@@ -185,7 +194,7 @@ module _ {x₀ : Query} {h : Held} (F : FreshSlots x₀ h) {order : List ℕ} (S
         ready = record { seated = seated; kept = λ q hq k. absurd (let u = F .unknown q hq in omega arith); long = R .row 0 (omega arith) };
         rows = R;
         len-is = refl;
-        max-is = em;
+        max-is = em ∙ sum-is;
         stage = tt;
       };
       first-is = λ floats. ap (placeAt x (h .places) early) doc-of;

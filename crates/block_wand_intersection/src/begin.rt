@@ -7,36 +7,27 @@ use term_scorer::score;
 use term_scorer::score::Similarity;
 use term_scorer::slot;
 ghost use mathlib.Core.Path.{_≡_};
+ghost use Prim.Native.Nat.{_≤_, _<_};
+ghost use lib.ListN.{take};
+ghost use Rattle.arrays.specs.Every.{All};
 ghost use Rattle.arrays.specs.Lent.{before, after};
-ghost use Rattle.term_scorer.specs.Inner.Slots.{held};
-ghost use Rattle.intersection_window.specs.Inner.Scorers.{query, InOrder};
-ghost use Rattle.block_wand_intersection.specs.Inner.Stands.{maxSum};
-ghost use Rattle.block_wand_intersection.specs.Inner.Beginnings.{Begins, FreshSlots, Listed};
+ghost use Rattle.term_scorer.specs.Inner.Slots.{held, Sixteen};
+ghost use Rattle.term_scorer.specs.Inner.Weights.{TopRead};
+ghost use Rattle.intersection_window.specs.Inner.Scorers.{query};
+ghost use Rattle.block_wand_intersection.specs.Inner.Beginnings.{Begins, FreshSlots, topSum};
 
 // `leader_max_score + secondaries_global_max_sum`.
-fn max_score_sum(
-    file: &[u8],
-    similarity: Similarity,
-    lists: &[[usize; 8]; 16],
-    caches: &[[f32; 256]; 16],
-    n: usize,
-    order: &[usize; 16],
-) -> f32
-    requires { let asked = query similarity (now file) (now lists) (now caches) n (now order) in
-        ⌜ InOrder asked × Listed asked ⌝ }
-    ensures { λ r.
-        let asked = query similarity (before file) (before lists) (before caches) n (before order) in
-        ⌜ r ≡ maxSum asked ⌝ }
+fn max_score_sum(lists: &[[usize; 8]; 16], n: usize, order: &[usize; 16]) -> f32
+    requires { ⌜ (0 < n) × (n ≤ 16) × Sixteen (now order) × All (TopRead (now lists)) (take n (now order)) ⌝ }
+    ensures { λ r. ⌜ r ≡ topSum (before lists) n (before order) ⌝ }
 {
     let mut sum = 0.0f32;
     let mut i = 1usize;
     while i < n {
-        let q = order[i];
-        sum = sum + score::max_score(file, similarity, lists, caches, q);
+        sum = sum + score::max_score(lists, order[i]);
         i += 1;
     }
-    let leader = order[0];
-    score::max_score(file, similarity, lists, caches, leader) + sum
+    score::max_score(lists, order[0]) + sum
 }
 
 // `block_wand_intersection` up to its early exit, over n lists that are fresh in their slots: the rarest leads.
@@ -58,7 +49,7 @@ pub fn begin(
         ⌜ Begins asked (held (before places) (before docs) (before freqs)) r ⌝ }
 {
     by_size(n, lists, order);
-    let max_sum = max_score_sum(file, similarity, lists, caches, n, order);
+    let max_sum = max_score_sum(lists, n, order);
     let leader = order[0];
     let doc = slot::doc(leader, places, docs);
     Intersection {

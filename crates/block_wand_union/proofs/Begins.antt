@@ -22,7 +22,7 @@ use Rattle.ordering.proofs.OnRoute.{SameDoc, sorted-on-route}
 use Rattle.notefile.specs.Header.{documents}
 use Rattle.decoded.proofs.AcceptedLists.{list-ok}
 use Rattle.term_scorer.specs.Inner.Slots.{Held, SlotIn, cursorAt, listAt, partAt}
-use Rattle.term_scorer.specs.Inner.Weights.{FloatRows, Weighed}
+use Rattle.term_scorer.specs.Inner.Weights.{FloatRows, TopKept, Weighed}
 use Rattle.block_wand_union.specs.Inner.Seats.{Seat, Seated, Terms, onRoute, placeIn, scorerAt, termAt}
 use Rattle.block_wand_union.specs.Inner.Runs.{Begins, Stands, placeOf}
 use Rattle.block_wand_union.specs.declared.Stage.the-variants.{Looking}
@@ -37,6 +37,7 @@ module _ (file : List ℕ) (lists : List (List ℕ)) (T : Terms) (h : Held) wher
     pub slot : SlotIn file lists h (s .slot)
     pub first : cursorAt (h .places) (s .slot) ≡ fresh
     pub weighed : Weighed lists (T .caches) (s .slot)
+    pub top : TopKept (T .scoring) file lists (s .slot)
     pub unknown : getD (getD (h .places) (s .slot) []) 7 0 ≡ 0
     pub unscored : getD (getD (h .places) (s .slot) []) 8 0 ≡ 0
     pub scorer-is : s ≡ termAt file lists (T .scoring) (h .places) (s .slot)
@@ -51,6 +52,7 @@ module _ (file : List ℕ) (lists : List (List ℕ)) (T : Terms) (h : Held) wher
     bound = λ k. absurd (omega (arith, k, F .unknown));
     scores = λ k. absurd (omega (arith, k, F .unscored));
     max-is = sym (ap (λ (z : TermScorer). z .«max_score») (F .scorer-is));
+    top = F .top;
   }
 
   fresh-safe : (s : TermScorer) → Fresh s → SafeS 128 (documents file) (f s)

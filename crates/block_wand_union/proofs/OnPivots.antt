@@ -82,6 +82,7 @@ own-seat file lists T h s S = record {
   bound = S .bound;
   scores = S .scores;
   max-is = refl;
+  top = S .top;
 }
 
 module _ {file : List ℕ} {lists : List (List ℕ)} {T : Terms} {h : Held} {at : Span} (order : List ℕ) (n : ℕ)

@@ -15,7 +15,7 @@ use Rattle.arrays.specs.Every.{All}
 use Rattle.route.specs.Union.{UnionPlace, isOver, unionTurn}
 use Rattle.route.specs.Inner.Unions.{UnionKept}
 use Rattle.route.proofs.Cases.{on-test}
-use Rattle.route.proofs.Lists.{all-append, all-imp}
+use Rattle.route.proofs.Lists.{all-append, all-imp, all-zip}
 use Rattle.route.proofs.Union.Ends.{union-nears}
 use Rattle.bm25.specs.declared.Scoring.{Scoring}
 use Rattle.ordering.specs.Inner.Scorers.{slotOf}
@@ -24,8 +24,9 @@ use Rattle.notefile.specs.Header.{documents}
 use Rattle.reports.specs.Inner.Turns.{Went}
 use Rattle.reports.specs.declared.Event.the-variants as event
 use Rattle.reports.proofs.TurnLaws.{Quietly, at-end, at-pause, at-report, none-yet, one-more}
-use Rattle.term_scorer.specs.Inner.Slots.{Held, listAt, Sixteen}
-use Rattle.block_wand_union.specs.Inner.Seats.{Seat, Seated, Terms, TopIs, Topped, placeIn, scorerAt, slotScorer, stageOf, termAt, terms, termsOf}
+use Rattle.term_scorer.specs.Inner.Slots.{Held, Sixteen}
+use Rattle.term_scorer.specs.Inner.Weights.{TopKept, topAt, TopRead}
+use Rattle.block_wand_union.specs.Inner.Seats.{Seat, Seated, Terms, TopCopied, TopIs, placeIn, scorerAt, slotScorer, stageOf, termAt, terms, termsOf}
 use Rattle.block_wand_union.specs.Inner.Turns.{Turned, dueOf}
 use Rattle.block_wand_union.specs.Inner.Runs.{Stands, goneTo, placeOf, unionEnded}
 use Rattle.block_wand_union.specs.declared.Stage.{Stage}
@@ -60,29 +61,35 @@ module _ {file : List ℕ} {lists : List (List ℕ)} {T : Terms} {u : Union} {or
   pub kept-at : UnionKept 128 (documents file) f32 (placeIn file lists (T .scoring) (h .places) stage (termsOf file lists (T .scoring) (h .places) (take (u .len) order)))
   kept-at = rw (place-is file lists (T .scoring) (h .places) (record { len = u .len; stage = stage }) order) (stands-at .kept)
 
--- a run that stands: its list bounds can be worked out
-pub tops-known : {file : List ℕ} {lists : List (List ℕ)} {T : Terms} {u : Union} {order : List ℕ} {h : Held} → Stands file lists T u order h
-    → All (Topped file lists (T .caches)) (take (u .len) order)
-tops-known {file} {lists} {T} {u} {order} {h} S =
-    all-unmap (λ s. Topped file lists (T .caches) (s .slot)) (termAt file lists (T .scoring) (h .places)) (take (u .len) order)
-    (all-imp (Seat file lists T h) (λ s. Topped file lists (T .caches) (s .slot)) (termsOf file lists (T .scoring) (h .places) (take (u .len) order))
-    (λ _ s. record { slot-in = s .stand .slot-in; part-row = s .stand .slot .part-row; list = s .stand .slot .list; weighed = s .weighed }) (S .seated .seats))
+-- a run that stands has its list bounds
+module _ {file : List ℕ} {lists : List (List ℕ)} {T : Terms} {u : Union} {order : List ℕ} {h : Held} (S : Stands file lists T u order h) where
+  tops-kept : All (TopKept (T .scoring) file lists) (take (u .len) order)
+  tops-kept =
+      all-unmap (λ s. TopKept (T .scoring) file lists (s .slot)) (termAt file lists (T .scoring) (h .places)) (take (u .len) order)
+      (all-imp (Seat file lists T h) (λ s. TopKept (T .scoring) file lists (s .slot)) (termsOf file lists (T .scoring) (h .places) (take (u .len) order)) (λ _ s. s .top) (S .seated .seats))
+
+  pub tops-read : All (TopRead lists) (take (u .len) order)
+  tops-read = all-imp (TopKept (T .scoring) file lists) (TopRead lists) (take (u .len) order) (λ _ k. k .read) tops-kept
+
+  pub tops-are : (tops : List Float) → All (TopCopied lists tops) (take (u .len) order) → All (TopIs file lists (T .scoring) tops) (take (u .len) order)
+  tops-are tops a =
+      all-zip (TopCopied lists tops) (TopKept (T .scoring) file lists) (TopIs file lists (T .scoring) tops) (λ _ c k. c ∙ k .top-is) (take (u .len) order) a tops-kept
 
 -- one list bound more in a row: one that is written again is the same
-pub one-top-more : (file : List ℕ) (lists : List (List ℕ)) (s : Scoring) (tops : List Float) (order : List ℕ) (i : ℕ) → Sixteen tops → getD order i 0 < 16 → i < length order
-    → {v : Float} → v ≡ listAt s file lists (getD order i 0) .top → All (TopIs file lists s tops) (take i order)
-    → All (TopIs file lists s (set tops (getD order i 0) v)) (take (i + 1) order)
-one-top-more file lists s tops order i long small inside {v} e a =
+pub one-top-more : (lists : List (List ℕ)) (tops : List Float) (order : List ℕ) (i : ℕ) → Sixteen tops → getD order i 0 < 16 → i < length order
+    → {v : Float} → v ≡ topAt lists (getD order i 0) → All (TopCopied lists tops) (take i order)
+    → All (TopCopied lists (set tops (getD order i 0) v)) (take (i + 1) order)
+one-top-more lists tops order i long small inside {v} e a =
     let q = getD order i 0 in
-    let now : TopIs file lists s (set tops q v) q = getD-set-same tops q v nan (omega arith) ∙ e in
-    let still : (r : ℕ) → TopIs file lists s tops r → TopIs file lists s (set tops q v) r =
+    let now : TopCopied lists (set tops q v) q = getD-set-same tops q v nan (omega arith) ∙ e in
+    let still : (r : ℕ) → TopCopied lists tops r → TopCopied lists (set tops q v) r =
     λ r t.
     on-test (eqb r q)
     (λ b. let z = eqb-true r q b in rw z now)
     (λ b. getD-set-other tops q r v nan (eqb-false r q b) ∙ t) in
     rw (add-one, take-suc order i 0 inside)
-    (all-append (TopIs file lists s (set tops q v)) (take i order) (q ∷ [])
-    (all-imp (TopIs file lists s tops) (TopIs file lists s (set tops q v)) (take i order) still a) (now, tt))
+    (all-append (TopCopied lists (set tops q v)) (take i order) (q ∷ [])
+    (all-imp (TopCopied lists tops) (TopCopied lists (set tops q v)) (take i order) still a) (now, tt))
 
 -- seated scorers, whose slots are written back in their order
 module _ {file : List ℕ} {lists : List (List ℕ)} {T : Terms} {h : Held} {l : List TermScorer} (S : Seated file lists T h l) (stage : Stage) (n : ℕ) (order : List ℕ) (e : take n order ≡ map slotOf l) where

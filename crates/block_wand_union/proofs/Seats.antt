@@ -74,6 +74,7 @@ module _ (file : List ℕ) (lists : List (List ℕ)) where
         ∙ ap (λ (row : List ℕ). blockMax 128 f32 (listAt (T .scoring) file lists (s .slot)) (cursorIn row)) (sym (R .places));
     scores = λ k. rw (m, R .places) (S .scores (sym (ap (λ (row : List ℕ). getD row 8 0) (R .places)) ∙ k));
     max-is = S .max-is;
+    top = S .top;
   }
 
   -- ---- the scorer that moves
@@ -117,6 +118,7 @@ module _ (file : List ℕ) (lists : List (List ℕ)) where
           S .bound (w .0) ∙ same-bound (listAt (T .scoring) file lists (s .slot)) (cursorAt (h .places) (s .slot)) (cursorAt (h′ .places) (s .slot)) (w .1) (w .2);
       scores = λ k. let w = M .moved .scores-is k in rw (w .1) (S .scores (w .0));
       max-is = S .max-is;
+      top = S .top;
     }
 
     -- the route's scorer has moved
@@ -155,6 +157,7 @@ module _ (file : List ℕ) (lists : List (List ℕ)) where
           bound = Z .bound;
           scores = Z .scores;
           max-is = S .max-is;
+          top = S .top;
         }
 
     module _ (T : Terms) {places₂ : List (List ℕ)} {bounds₂ : List Float} {r : Float} (B : Bounded (T .scoring) file lists (s .slot) places₁ (getD (T .floats) 0 []) places₂ bounds₂ r)
@@ -213,6 +216,7 @@ module _ (file : List ℕ) (lists : List (List ℕ)) where
                 rw (scores-there (s .slot), ap (λ (c : Cursor). c .dec) cursor₂)
                 (Z .scores (sym (getD-set-other row₁ 7 8 (B .flag) 0 (λ z. omega (arith, z))) ∙ sym (ap (λ (z : List ℕ). getD z 8 0) row₂) ∙ k));
             max-is = Z .max-is;
+            top = Z .top;
           }
 
       -- the other slots

@@ -102,6 +102,7 @@ module _ (file : List ℕ) (lists : List (List ℕ)) (scoring : Scoring) (caches
               ∙ ap (blockMax 128 f32 (listAt scoring file lists (s .slot))) (sym c);
           scores = scores-kept (s .slot) (S .scores);
           max-is = S .max-is;
+          top = S .top;
         };
     rows = M .rows;
   }

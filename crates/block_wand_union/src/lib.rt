@@ -91,7 +91,7 @@ pub fn go(
         ⌜ Stands (before file) (before lists) T (r .union) (after order) slots
         × Went (unionTurn 128 f32) unionEnded threshold from turns (r .taken) to (r .event) ⌝ }
 {
-    let tops = list_bounds(file, similarity, lists, caches, union.len, order);
+    let tops = list_bounds(lists, union.len, order);
     let bar = Bar {
         similarity,
         threshold,

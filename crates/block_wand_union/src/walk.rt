@@ -8,7 +8,6 @@ use reports::Event;
 use slot_rows::place::Places;
 use term_scorer::Floats;
 use term_scorer::score;
-use term_scorer::score::Similarity;
 ghost use mathlib.Core.Path.{_≡_};
 ghost use Prim.Native.Nat.{_≤_};
 ghost use lib.ListN.{take};
@@ -19,26 +18,20 @@ ghost use Rattle.route.specs.Union.{isOver, unionTurn};
 ghost use Rattle.notefile.specs.Header.{normReader};
 ghost use Rattle.reports.specs.Inner.Turns.{Went};
 ghost use Rattle.term_scorer.specs.Inner.Slots.{held, Sixteen};
-ghost use Rattle.block_wand_union.specs.Inner.Seats.{TopIs, Topped, stageOf, terms};
+ghost use Rattle.term_scorer.specs.Inner.Weights.{TopRead};
+ghost use Rattle.block_wand_union.specs.Inner.Seats.{TopCopied, TopIs, stageOf, terms};
 ghost use Rattle.block_wand_union.specs.Inner.Runs.{Stands, goneTo, placeOf, unionEnded};
 
 // The list bounds of the scorers that are left, by slot.
-pub fn list_bounds(
-    file: &[u8],
-    similarity: Similarity,
-    lists: &[[usize; 8]; 16],
-    caches: &[[f32; 256]; 16],
-    n: usize,
-    order: &[usize; 16],
-) -> [f32; 16]
-    requires { ⌜ (n ≤ 16) × Sixteen (now order) × All (Topped (now file) (now lists) (now caches)) (take n (now order)) ⌝ }
-    ensures { λ r. ⌜ Sixteen r × All (TopIs (before file) (before lists) (similarity .scoring) r) (take n (before order)) ⌝ }
+pub fn list_bounds(lists: &[[usize; 8]; 16], n: usize, order: &[usize; 16]) -> [f32; 16]
+    requires { ⌜ (n ≤ 16) × Sixteen (now order) × All (TopRead (now lists)) (take n (now order)) ⌝ }
+    ensures { λ r. ⌜ Sixteen r × All (TopCopied (before lists) r) (take n (before order)) ⌝ }
 {
     let mut tops = [0.0f32; 16];
     let mut i = 0usize;
     while i < n {
         let q = order[i];
-        tops[q] = score::max_score(file, similarity, lists, caches, q);
+        tops[q] = score::max_score(lists, q);
         i += 1;
     }
     tops

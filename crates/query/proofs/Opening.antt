@@ -1,5 +1,6 @@
 -- A list that is opened in a slot leaves a fresh slot, and the others as they were.
 use mathlib.Core.Path.{_≡_, refl, sym, ap, _∙_, subst}
+use mathlib.Core.Bool.{not}
 use mathlib.Core.List.{List, [], _∷_, map}
 use mathlib.Core.Logic.{inl, inr}
 use Prim.Native.Nat.{ℕ, suc, _+_, _≤_, _<_}
@@ -7,31 +8,37 @@ use native.Mathlib.Nat.{add-zero, zero-add}
 use native.Mathlib.Omega.{arith}
 use lib.ListN.{length, getD, set, take, drop, length-set, getD-replicate, replicate}
 use lib.Seq.{drop-cons, getD-set-same, getD-set-other}
-use lib.Ieee.{Float}
+use lib.Dec.{T}
+use lib.Ieee.{Float, binary32, fits, isNan, nanBits, ofBits, toBits}
 use Rattle.arrays.proofs.Order.{lt-or-ge}
+use Rattle.floats.specs.Step.{within}
+use Rattle.floats.proofs.Pattern.{within-not-nan}
 use Rattle.route.specs.Cursor.{Cursor, fresh}
 use Rattle.route.specs.Scorer.{Scorer, scorersFrom}
 use Rattle.route.specs.Postings.{Postings}
 use Rattle.bm25.specs.Scoring.{scored}
 use Rattle.bm25.specs.Inner.Bound.{listBoundIn}
 use Rattle.bm25.specs.declared.Bm25Weight.{Bm25Weight}
+use Rattle.bm25.proofs.Bounds.{score-fits, scored-fits, scored-within}
 use Rattle.bm25.specs.declared.Scoring.{Scoring}
 use Rattle.bm25.specs.declared.Scoring.the-variants.{Unstepped}
 use Rattle.ordering.specs.Inner.Scorers.{noScorer}
 use Rattle.term_scorer.specs.declared.TermScorer.{TermScorer}
 use Rattle.notefile.specs.Header.{listCount}
+use Rattle.notefile.specs.Lists.{listBound, scoreFor}
 use Rattle.notefile.specs.Parts.{partOf}
 use Rattle.notefile.specs.Inner.Structs.{headerOf}
-use Rattle.notefile.specs.Inner.Given.{WeightIn}
+use Rattle.notefile.specs.Inner.Given.{Limits, WeightIn}
 use Rattle.notefile.specs.declared.header.Header.{Header}
 use Rattle.notefile.specs.declared.part.Part.{Part}
-use Rattle.notefile.proofs.Scores.{list-bound-by}
+use Rattle.notefile.proofs.Scores.{list-bound-by, list-bound-in}
 use Rattle.decoded.specs.Lists.{listOf, postingsOf, queried}
 use Rattle.skip_reader.specs.Inner.Decoded.{docIn, ListIn}
 use Rattle.slot_rows.specs.Inner.Rows.{partIn, partRow, PartRow}
 use Rattle.slot_rows.proofs.Rows.{part-back}
 use Rattle.term_scorer.specs.Inner.Slots.{Held, Sixteen, Opened, partAt, listAt, cursorAt, listsFrom}
 use Rattle.term_scorer.specs.Inner.Weights.{NormsIn, Weighed}
+use Rattle.term_scorer.proofs.Scores.{top-kept}
 use Rattle.query.specs.Inner.Openings.{Tables, Room, openedScorer, unopened, OpenSlot, OnlySlot, OneOpened, QueryOpened, Untouched}
 
 -- a list's number is below the header's
@@ -49,16 +56,33 @@ there xs q x d h l = getD-set-same xs q x d (omega (arith, h, l))
 put : {A : Type 0} (xs : List A) (q : ℕ) (x d : A) → q < 16 → Sixteen xs → set xs q x ≡ set xs q (getD (set xs q x) q d)
 put xs q x d h l = ap (set xs q) (sym (there xs q x d h l))
 
-module _ (scoring : Scoring) (file : List ℕ) (l q : ℕ) (h : q < 16) {x : Part} (part-is : x ≡ partOf file l) (L : ListIn file x) {w : Bm25Weight} (W : WeightIn x w) {max-score : Float} (max-known : max-score ≡ scored scoring (listBoundIn w))
-    (a : Tables) (R : Room a) {lists′ : List (List ℕ)} {held′ : Held} {doc : ℕ} (O : Opened file x q (a .lists) lists′ (a .held) held′ doc) where
+-- a list bound is a number
+module _ (scoring : Scoring) {x : Part} (K : Limits x) {w : Bm25Weight} (W : WeightIn x w) {max-score : Float} (max-known : max-score ≡ scored scoring (listBoundIn w)) where
+  max-by : max-score ≡ scored scoring (listBound x)
+  max-by = max-known ∙ ap (scored scoring) (list-bound-by x w W)
+
+  pub max-number : T (not (isNan max-score))
+  max-number = within-not-nan 1000 max-score (subst (λ (z : Float). T (within 1000 z)) (sym max-by) (scored-within scoring (listBound x) (list-bound-in x K)))
+
+  max-fits : T (fits binary32 max-score)
+  unfolding listBound scoreFor
+  max-fits =
+      subst (λ (z : Float). T (fits binary32 z)) (sym max-by)
+      (scored-fits scoring (listBound x) (score-fits (ofBits binary32 (x .weight)) (ofBits binary32 (x .average)) 255 2013265944))
+
+module _ (scoring : Scoring) (file : List ℕ) (l q : ℕ) (h : q < 16) {x : Part} (part-is : x ≡ partOf file l) (L : ListIn file x) (K : Limits x) {w : Bm25Weight} (W : WeightIn x w) {max-score : Float} (max-known : max-score ≡ scored scoring (listBoundIn w))
+    (a : Tables) (R : Room a) {lists′ : List (List ℕ)} {held′ : Held} {doc : ℕ} (O : Opened file x (toBits binary32 max-score) q (a .lists) lists′ (a .held) held′ doc) where
+  abbrev row : List ℕ
+  row = partRow x (toBits binary32 max-score)
+
   abbrev b : Tables
   b = record { lists = lists′; caches = set (a .caches) q (w .cache); held = held′ }
 
-  row-is : getD lists′ q [] ≡ partRow x
-  row-is = ap (λ (z : List (List ℕ)). getD z q []) (O .lists-only) ∙ there (a .lists) q (partRow x) [] h (R .lists)
+  row-is : getD lists′ q [] ≡ row
+  row-is = ap (λ (z : List (List ℕ)). getD z q []) (O .lists-only) ∙ there (a .lists) q row [] h (R .lists)
 
   part-there : partAt lists′ q ≡ x
-  part-there = ap partIn row-is ∙ part-back x
+  part-there = ap partIn row-is ∙ part-back x (toBits binary32 max-score)
 
   norms-there : Weighed lists′ (b .caches) q
   norms-there =
@@ -67,7 +91,7 @@ module _ (scoring : Scoring) (file : List ℕ) (l q : ℕ) (h : q < 16) {x : Par
 
   max-there : max-score ≡ listOf scoring file x .top
   unfolding listOf
-  max-there = max-known ∙ ap (scored scoring) (list-bound-by x w W)
+  max-there = max-by scoring K W max-known
 
   doc-there : doc ≡ docIn file (partOf file l) 0
   doc-there =
@@ -86,6 +110,7 @@ module _ (scoring : Scoring) (file : List ℕ) (l q : ℕ) (h : q < 16) {x : Par
       part-is = part-there ∙ part-is;
       cursor-is = O .opened .moved .cursor-is Unstepped;
       weighed = norms-there;
+      top = top-kept scoring file lists′ q max-score h (ap (λ (z : List ℕ). getD z 7 0) row-is) (max-fits scoring K W max-known) (max-number scoring K W max-known) part-there max-there;
       unknown = O .unknown;
       unscored = O .unscored;
     };
@@ -104,7 +129,7 @@ module _ (scoring : Scoring) (file : List ℕ) (l q : ℕ) (h : q < 16) {x : Par
 other : {A : Type 0} (xs : List A) (q n : ℕ) (x d : A) {ys : List A} → ys ≡ set xs n x → (q ≡ n → ⊥) → getD ys q d ≡ getD xs q d
 other xs q n x d e ne = ap (λ zs. getD zs q d) e ∙ getD-set-other xs n q x d ne
 
-module _ (file : List ℕ) (a b : Tables) (n : ℕ) (O : OnlySlot n a b) where
+module _ (scoring : Scoring) (file : List ℕ) (a b : Tables) (n : ℕ) (O : OnlySlot n a b) where
   -- the tables are as long as before
   room-stays : Room a → Room b
   room-stays R = record {
@@ -116,7 +141,7 @@ module _ (file : List ℕ) (a b : Tables) (n : ℕ) (O : OnlySlot n a b) where
   }
 
   -- another slot is as it was
-  slot-stays : (l q : ℕ) → (q ≡ n → ⊥) → Room b → OpenSlot file a l q → OpenSlot file b l q
+  slot-stays : (l q : ℕ) → (q ≡ n → ⊥) → Room b → OpenSlot scoring file a l q → OpenSlot scoring file b l q
   slot-stays l q ne R S =
       let el = other (a .lists) q n _ [] (O .lists) ne in
       let ec = other (a .caches) q n _ [] (O .caches) ne in
@@ -128,6 +153,10 @@ module _ (file : List ℕ) (a b : Tables) (n : ℕ) (O : OnlySlot n a b) where
         part-is = rw el (S .part-is);
         cursor-is = rw ep (S .cursor-is);
         weighed = rw (el, ec) (S .weighed);
+        top = record {
+          read = record { slot-in = S .top .read .slot-in; small = rw el (S .top .read .small); number = subst (λ (z : List ℕ). T (not (nanBits binary32 (getD z 7 0)))) (sym el) (S .top .read .number) };
+          top-is = rw el (S .top .top-is);
+        };
         unknown = rw ep (S .unknown);
         unscored = rw ep (S .unscored);
       }
@@ -167,12 +196,12 @@ module _ (scoring : Scoring) (file query : List ℕ) where
   pub one-more : (n : ℕ) (a b : Tables) (scorers : List TermScorer) {r : TermScorer} → n < 16 → QueryOpened scoring file query n a scorers → OneOpened scoring file (getD query n 0) n a b r
       → QueryOpened scoring file query (n + 1) b (set scorers n r)
   one-more n a b scorers {r} h Q O =
-      let R = room-stays file a b n (O .only) (Q .room) in
+      let R = room-stays scoring file a b n (O .only) (Q .room) in
       record {
         room = R;
         open-slots = λ q k. elim (lt-or-ge q n) [
-          | inl l ↦ slot-stays file a b n (O .only) (getD query q 0) q (λ e. omega (arith, e, l)) R (Q .open-slots q l)
-          | inr g ↦ subst (λ (z : ℕ). OpenSlot file b (getD query z 0) z) (only-n q n g k) (O .open-slot)
+          | inl l ↦ slot-stays scoring file a b n (O .only) (getD query q 0) q (λ e. omega (arith, e, l)) R (Q .open-slots q l)
+          | inr g ↦ subst (λ (z : ℕ). OpenSlot scoring file b (getD query z 0) z) (only-n q n g k) (O .open-slot)
         ];
         long = length-set scorers n _ ∙ Q .long;
         scorers-are = λ q k. elim (lt-or-ge q n) [

@@ -40,7 +40,8 @@ fn open_list(
     let max_score = w.max_score(scoring);
     let cache = w.cache;
     caches[q] = cache;
-    let doc = slot::open(file, x, q, lists, places, docs, freqs);
+    let top = f32::to_bits(max_score);
+    let doc = slot::open(file, x, top, q, lists, places, docs, freqs);
     TermScorer {
         doc,
         max_score,

@@ -110,6 +110,7 @@ module _ (similarity : Similarity) (file query : List ℕ) (norms-are : similari
     sixteen = (Q .room .places, Q .room .docs, Q .room .freqs);
     slot = λ q h. Q .open-slots q h .slot;
     weighed = λ q h. Q .open-slots q h .weighed;
+    top = λ q h. Q .open-slots q h .top;
     unknown = λ q h. Q .open-slots q h .unknown;
     first = λ q h. Q .open-slots q h .cursor-is;
   }
@@ -162,6 +163,7 @@ module _ (similarity : Similarity) (file query : List ℕ) (norms-are : similari
           slot = S .slot;
           first = S .cursor-is;
           weighed = S .weighed;
+          top = S .top;
           unknown = S .unknown;
           unscored = S .unscored;
           scorer-is = ap (λ (k : ℕ). record { doc = k; «max_score» = listOf scoring file (partOf file (getD query q 0)) .top; slot = q }) d

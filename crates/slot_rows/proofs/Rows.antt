@@ -32,9 +32,9 @@ flag-back : (b : Bool) → eqb (flag b) 1 ≡ b
 flag-back true = refl
 flag-back false = refl
 
-pub part-back : (x : Part) → partIn (partRow x) ≡ x
+pub part-back : (x : Part) (top : ℕ) → partIn (partRow x top) ≡ x
 unfolding partIn
-part-back x = refl
+part-back x top = refl
 
 module _ (file : List ℕ) (x : Part) where
   pub cursor-is : (row : List ℕ) → cursorOf (postingsIn file x row) ≡ cursorIn row

@@ -42,12 +42,14 @@ const UNMADE: usize = 0;
 
 pub const MADE: usize = 1;
 
-// Where a part's number of postings stands in its row.
+// Where a part's number of postings stands in its row, and its list bound.
 pub const COUNT: usize = 2;
 
-// A part's numbers, put into a row.
-pub fn keep_part(x: Part, list: &mut [usize; 8])
-    ensures { λ _. ⌜ (after list ≡ partRow x) × PartRow (after list) ⌝ }
+pub const MAX_SCORE: usize = 7;
+
+// A part's numbers and its list bound's bits, put into a row.
+pub fn keep_part(x: Part, max_score: u32, list: &mut [usize; 8])
+    ensures { λ _. ⌜ (after list ≡ partRow x «max_score») × PartRow (after list) ⌝ }
 {
     *list = [
         x.weight as usize,
@@ -57,7 +59,7 @@ pub fn keep_part(x: Part, list: &mut [usize; 8])
         x.skips,
         x.postings,
         x.end,
-        0,
+        max_score as usize,
     ];
 }
 

@@ -1,14 +1,15 @@
 -- Scores and bounds by slot are the route's.
 use mathlib.Core.Path.{_≡_, refl, sym, ap, _∙_, subst}
-use mathlib.Core.Bool.{Bool, true, false, false≢true, cond, _||_}
+use mathlib.Core.Bool.{Bool, true, false, false≢true, cond, not, _||_}
 use mathlib.Core.List.{List, []}
 use mathlib.Core.Logic.{inl, inr}
 use Prim.Native.Nat.{ℕ, _+_, _≤_, _<_}
 use native.Mathlib.Omega.{arith}
-use lib.Dec.{eqb, ltb}
+use lib.Dec.{T, eqb, ltb}
 use lib.ListN.{getD, set}
 use lib.Seq.{getD-set-other, getD-set-same, set-getD}
-use lib.Ieee.{Float, nan}
+use lib.Ieee.{Float, nan, binary32, fits, isNan, nanBits, ofBits, toBits}
+use lib.Ieee.Bits.{nanBits-is, ofBits-toBits, toBits-lt}
 use borrow.Author.Tests.{eqb-true, lt-ltb, le-ltb}
 use Rattle.arrays.proofs.Order.{lt-or-ge}
 use Rattle.fieldnorm.specs.Reader.{fieldnormId}
@@ -19,7 +20,6 @@ use Rattle.route.specs.Postings.{start}
 use Rattle.route.proofs.Cases.{by-test}
 use Rattle.bm25.specs.Scoring.{scored}
 use Rattle.bm25.specs.Inner.Weight.{scoreIn}
-use Rattle.bm25.specs.Inner.Bound.{listBoundIn}
 use Rattle.bm25.specs.declared.Bm25Weight.{Bm25Weight}
 use Rattle.bm25.specs.declared.Scoring.{Scoring}
 use Rattle.bm25_block.specs.Inner.Block.{Scored}
@@ -28,7 +28,7 @@ use Rattle.notefile.specs.Lists.{blockScore, fullBlocks}
 use Rattle.notefile.specs.Inner.Given.{weightOf, WeightIn}
 use Rattle.notefile.specs.declared.part.Part.{Part}
 use Rattle.notefile.proofs.Headers.{norm-code-small}
-use Rattle.notefile.proofs.Scores.{list-bound-by, score-by-code}
+use Rattle.notefile.proofs.Scores.{score-by-code}
 use Rattle.decoded.specs.Lists.{listOf}
 use Rattle.skip_reader.specs.Inner.Decoded.{docIn}
 use Rattle.postings.specs.Inner.Places.{cursorOf}
@@ -37,7 +37,7 @@ use Rattle.postings.proofs.BlockBounds.{score-at, score-is}
 use Rattle.slot_rows.specs.Inner.Rows.{cursorIn, partIn, postingsIn, PlaceIn}
 use Rattle.slot_rows.proofs.Rows.{cursor-is}
 use Rattle.term_scorer.specs.Inner.Slots.{listAt, partAt, cursorAt, Sixteen}
-use Rattle.term_scorer.specs.Inner.Weights.{blockMaxAt, BlockScores, BoundFound, Bounded, BoundKept, FloatRow, FloatRows, NormsIn, ScoresKept, ScoresMade}
+use Rattle.term_scorer.specs.Inner.Weights.{blockMaxAt, BlockScores, BoundFound, Bounded, BoundKept, FloatRow, FloatRows, NormsIn, ScoresKept, ScoresMade, TopKept}
 use Rattle.term_scorer.proofs.Floats.{rows-set}
 use Rattle.term_scorer.specs.declared.score.BlockMax.{BlockMax}
 use Rattle.term_scorer.specs.declared.score.BlockMax.the-variants.{Known, Unknown}
@@ -84,11 +84,6 @@ module _ (file : List ℕ) (x : Part) (w : Bm25Weight) (W : WeightIn x w) (scori
     pub block-scores : {scores : List Float} → Scored norms file w scoring docs freqs scores → BlockScores (listOf scoring file x) (cursorIn row .dec) scores
     unfolding listOf cursorIn postingsIn
     block-scores S = record { at = λ i h l. score-is file x w W bytes scoring en docs freqs S i h ∙ score-at scoring (P .placed .holds) i h l }
-
-  -- the list bound
-  pub max-by : {r : Float} → r ≡ scored scoring (listBoundIn w) → r ≡ listOf scoring file x .top
-  unfolding listOf
-  max-by er = er ∙ ap (scored scoring) (list-bound-by x w W)
 
 -- the score of the posting that the scorer stands on, by the scores of its block
 score-kept : (scoring : Scoring) (file : List ℕ) (x : Part) {row docs freqs : List ℕ} → PlaceIn file x row docs freqs → docIn file x (cursorIn row .at) < 2147483647
@@ -216,3 +211,20 @@ module _ (scoring : Scoring) (file list row : List ℕ) {y : Part} (part-is : y 
     score-is = bound-for;
     lasts-is = ap (λ (z : SegmentPostings). z .«block_loaded») place-is ∙ sym (rw (← part-is, le-ltb (getD row 0 0) (fullBlocks y) h));
   }
+
+-- a list bound whose bits stand in the slot's row
+pub top-kept : (scoring : Scoring) (file : List ℕ) (lists : List (List ℕ)) (q : ℕ) {x : Part} (top : Float) → q < 16 → getD (getD lists q []) 7 0 ≡ toBits binary32 top → T (fits binary32 top)
+    → T (not (isNan top)) → partAt lists q ≡ x → top ≡ listOf scoring file x .top → TopKept scoring file lists q
+top-kept scoring file lists q {x} top h e p n part-is top-is =
+    let b = toBits binary32 top in
+    let back : ofBits binary32 b ≡ top = ofBits-toBits binary32 top p in
+    let small : b < 4294967296 = toBits-lt binary32 top p in
+    let number : T (not (nanBits binary32 b)) = subst (λ (z : Bool). T (not z)) (sym (nanBits-is binary32 b ∙ ap isNan back)) n in
+    record {
+      read = record {
+        slot-in = h;
+        small = rw e small;
+        number = subst (λ (z : ℕ). T (not (nanBits binary32 z))) (sym e) number;
+      };
+      top-is = ap (ofBits binary32) e ∙ back ∙ top-is ∙ ap (λ (z : Part). listOf scoring file z .top) (sym part-is);
+    }

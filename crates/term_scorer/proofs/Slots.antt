@@ -44,19 +44,19 @@ pub stayed : (file : List ℕ) (lists : List (List ℕ)) (q : ℕ) {places : Lis
     → Shallowed file lists q (λ s. seekBlockIn (listAt s file lists q) 128 t (cursorAt places q)) places places
 stayed file lists q {places} S t h = record { only = sym (set-getD places q []); moved = stays-shallow file (getD lists q []) (getD places q []) (S .list) (S .standing) t h }
 
-module _ (file : List ℕ) (x : Part) (q : ℕ) (h : q < 16) (lists : List (List ℕ)) (l : Sixteen lists) where
-  part-there : partAt (set lists q (partRow x)) q ≡ x
-  part-there = ap partIn (same-row lists q (partRow x) h l) ∙ part-back x
+module _ (file : List ℕ) (x : Part) (top q : ℕ) (h : q < 16) (lists : List (List ℕ)) (l : Sixteen lists) where
+  part-there : partAt (set lists q (partRow x top)) q ≡ x
+  part-there = ap partIn (same-row lists q (partRow x top) h l) ∙ part-back x top
 
-  pub opened : {list : List ℕ} → (list ≡ partRow x) × PartRow list → {places docs freqs : List (List ℕ)} → Sixteen places × Sixteen docs × Sixteen freqs → {p d f : List ℕ} {doc : ℕ}
+  pub opened : {list : List ℕ} → (list ≡ partRow x top) × PartRow list → {places docs freqs : List (List ℕ)} → Sixteen places × Sixteen docs × Sixteen freqs → {p d f : List ℕ} {doc : ℕ}
       → MovedRow file x (λ _. fresh) (getD places q []) p d f doc × (getD p 7 0 ≡ 0) × (getD p 8 0 ≡ 0)
-      → Opened file x q lists (set lists q list) (held places docs freqs) (held (set places q p) (set docs q d) (set freqs q f)) doc
+      → Opened file x top q lists (set lists q list) (held places docs freqs) (held (set places q p) (set docs q d) (set freqs q f)) doc
   opened {list} (e, r) {places} {docs} {freqs} s {p} {d} {f} {doc} (M, u, v) =
-      subst (λ (z : List ℕ). Opened file x q lists (set lists q z) (held places docs freqs) (held (set places q p) (set docs q d) (set freqs q f)) doc) (sym e)
+      subst (λ (z : List ℕ). Opened file x top q lists (set lists q z) (held places docs freqs) (held (set places q p) (set docs q d) (set freqs q f)) doc) (sym e)
       (record {
         lists-only = refl;
         part-row = subst PartRow e r;
-        opened = moved-slot file (set lists q (partRow x)) q h (λ _. fresh) s
+        opened = moved-slot file (set lists q (partRow x top)) q h (λ _. fresh) s
             (subst (λ (z : Part). MovedRow file z (λ _. fresh) (getD places q []) p d f doc) (sym part-there) M);
         unknown = rw (same-row places q p h (s .0)) u;
         unscored = rw (same-row places q p h (s .0)) v;

@@ -10,6 +10,7 @@ use slot_rows::place::BOUND;
 use slot_rows::place::CUR;
 use slot_rows::place::KNOWN;
 use slot_rows::place::MADE;
+use slot_rows::place::MAX_SCORE;
 use slot_rows::place::Place;
 use slot_rows::place::Places;
 use slot_rows::place::SCORED;
@@ -27,7 +28,7 @@ ghost use Rattle.notefile.specs.Inner.Given.{Limits, WeightIn};
 ghost use Rattle.skip_reader.specs.Inner.Decoded.{docIn, ListIn};
 ghost use Rattle.slot_rows.specs.Inner.Rows.{partIn, PartRow, PlaceIn};
 ghost use Rattle.term_scorer.specs.Inner.Slots.{cursorAt, held, listAt, partAt, SlotIn};
-ghost use Rattle.term_scorer.specs.Inner.Weights.{blockMaxAt, BlockScores, BoundFound, Bounded, BoundKept, FloatRow, FloatRows, NormsIn, ScoresKept, ScoresMade, Weighed};
+ghost use Rattle.term_scorer.specs.Inner.Weights.{blockMaxAt, BlockScores, BoundFound, Bounded, BoundKept, FloatRow, FloatRows, NormsIn, ScoresKept, ScoresMade, topAt, TopRead, Weighed};
 
 // What every score of a run is made with: the file's norm codes, and stepped scores or unstepped ones.
 pub struct Similarity {
@@ -91,21 +92,12 @@ pub fn score(
     w.score(scoring, id, freq)
 }
 
-// The list bound of slot q: no posting of its list scores more.
-pub fn max_score(
-    file: &[u8],
-    similarity: Similarity,
-    lists: &[[usize; 8]; 16],
-    caches: &[[f32; 256]; 16],
-    q: usize,
-) -> f32
-    requires { ⌜ (q < 16) × PartRow (getD (now lists) q []) × ListIn (now file) (partAt (now lists) q)
-        × Weighed (now lists) (now caches) q ⌝ }
-    ensures { λ r. ⌜ r ≡ listAt (similarity .scoring) (before file) (before lists) q .top ⌝ }
+// The list bound of slot q, kept where the list was opened: no posting of its list scores more.
+pub fn max_score(lists: &[[usize; 8]; 16], q: usize) -> f32
+    requires { ⌜ TopRead (now lists) q ⌝ }
+    ensures { λ r. ⌜ r ≡ topAt (before lists) q ⌝ }
 {
-    let scoring = similarity.scoring;
-    let w = weight_in(lists, caches, q);
-    w.max_score(scoring)
+    f32::from_bits(lists[q][MAX_SCORE] as u32)
 }
 
 // The scores of the block that slot q decoded last, made at once.

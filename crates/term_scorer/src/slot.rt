@@ -22,10 +22,11 @@ ghost use Rattle.slot_rows.specs.Inner.Rows.{firstOf};
 ghost use Rattle.term_scorer.specs.Inner.Slots.{cursorAt, held, lastAt, listAt, partAt};
 ghost use Rattle.term_scorer.specs.Inner.Slots.{MovedSlot, Opened, Shallowed, SlotIn, StandingIn, Sixteen};
 
-// A list's scorer in slot q, on the list's first posting.
+// A list's scorer in slot q, on the list's first posting, and beside it the bits of its list bound.
 pub fn open(
     file: &[u8],
     x: Part,
+    max_score: u32,
     q: usize,
     lists: &mut [[usize; 8]; 16],
     places: &mut Places,
@@ -37,9 +38,9 @@ pub fn open(
     ensures { λ r.
         let old = held (before places) (before docs) (before freqs) in
         let new = held (after places) (after docs) (after freqs) in
-        ⌜ Opened (before file) x q (before lists) (after lists) old new r ⌝ }
+        ⌜ Opened (before file) x «max_score» q (before lists) (after lists) old new r ⌝ }
 {
-    keep_part(x, &mut lists[q]);
+    keep_part(x, max_score, &mut lists[q]);
     row::open(file, x, &mut places[q], &mut docs[q], &mut freqs[q])
 }
 

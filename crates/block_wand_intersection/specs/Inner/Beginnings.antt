@@ -1,28 +1,27 @@
 -- Where a run begins: what its slots hold, and the route's first place.
 use mathlib.Core.Path.{_≡_}
-use mathlib.Core.List.{List, [], _∷_}
+use mathlib.Core.List.{List, [], _∷_, map}
 use Prim.Native.Nat.{ℕ, _≤_, _<_}
-use lib.ListN.{getD}
+use lib.ListN.{drop, getD, take}
 use lib.Ieee.{Float}
 use Rattle.route.specs.F32.{f32}
 use Rattle.route.specs.Ordering.{sortBy}
+use Rattle.route.specs.Score.{sum}
 use Rattle.route.specs.Cursor.{fresh}
 use Rattle.route.specs.Scorer.{scorersFrom, sizeHint}
 use Rattle.route.specs.Intersection.{leaderRoute}
 use Rattle.notefile.specs.Header.{normReader}
-use Rattle.skip_reader.specs.Inner.Decoded.{ListIn}
-use Rattle.slot_rows.specs.Inner.Rows.{PartRow}
-use Rattle.term_scorer.specs.Inner.Slots.{Held, Sixteen, SlotIn, cursorAt, listsFrom, partAt}
-use Rattle.term_scorer.specs.Inner.Weights.{FloatRows, Weighed}
+use Rattle.term_scorer.specs.Inner.Slots.{Held, Sixteen, SlotIn, cursorAt, listsFrom}
+use Rattle.term_scorer.specs.Inner.Weights.{FloatRows, TopKept, topAt, Weighed}
 use Rattle.intersection_window.specs.Inner.Scorers.{Query, leaderIn, scorerAt, scorersBetween, secondariesIn, slotAt}
 use Rattle.block_wand_intersection.specs.Inner.Stands.{Stands, placeOf}
 use Rattle.block_wand_intersection.specs.declared.Intersection.{Intersection}
 
--- each slot has a list of an accepted file
-abbrev pub Listed : Query → Type 0
-Listed x = (q : ℕ) → q < x .len → PartRow (getD (x .lists) q []) × ListIn (x .file) (partAt (x .lists) q)
+-- the first slot's list bound, and the sum of the others' before it
+abbrev pub topSum : List (List ℕ) → ℕ → List ℕ → Float
+topSum lists n order = f32 .add (topAt lists (getD order 0 0)) (sum f32 (map (topAt lists) (drop 1 (take n order))))
 
--- each of the slots holds its list, on the first posting, with its norms and no block bound; the order is not yet made
+-- each of the slots holds its list, on the first posting, with its norms and its list bound, and no block bound; the order is not yet made
 pub record FreshSlots (x : Query) (h : Held) : Type 0 where
   pub two : 2 ≤ x .len
   pub few : x .len ≤ 16
@@ -31,6 +30,7 @@ pub record FreshSlots (x : Query) (h : Held) : Type 0 where
   pub sixteen : Sixteen (h .places) × Sixteen (h .docs) × Sixteen (h .freqs)
   pub slot : (q : ℕ) → q < x .len → SlotIn (x .file) (x .lists) h q
   pub weighed : (q : ℕ) → q < x .len → Weighed (x .lists) (x .caches) q
+  pub top : (q : ℕ) → q < x .len → TopKept (x .scoring) (x .file) (x .lists) q
   pub unknown : (q : ℕ) → q < x .len → getD (getD (h .places) q []) 7 0 ≡ 0
   pub first : (q : ℕ) → q < x .len → cursorAt (h .places) q ≡ fresh
 

@@ -12,10 +12,9 @@ use Rattle.ordering.specs.Inner.Scorers.{Apart}
 use Rattle.ordering.specs.declared.Scorers.{Scorers}
 use Rattle.term_scorer.specs.declared.TermScorer.{TermScorer}
 use Rattle.notefile.specs.Lists.{fullBlocks}
-use Rattle.skip_reader.specs.Inner.Decoded.{docIn, ListIn}
-use Rattle.slot_rows.specs.Inner.Rows.{PartRow}
+use Rattle.skip_reader.specs.Inner.Decoded.{docIn}
 use Rattle.term_scorer.specs.Inner.Slots.{cursorAt, Held, listAt, partAt, SlotIn}
-use Rattle.term_scorer.specs.Inner.Weights.{BoundKept, FloatRows, ScoresKept, Weighed}
+use Rattle.term_scorer.specs.Inner.Weights.{BoundKept, FloatRows, ScoresKept, TopKept, topAt, Weighed}
 use Rattle.block_wand_union.specs.declared.Stage as code
 use Rattle.block_wand_union.specs.declared.Stage.the-variants.{Called, Looking, Over}
 
@@ -37,6 +36,10 @@ abbrev pub stageOf : code.Stage → Stage
 stageOf Looking = looking
 stageOf (Called n) = called n
 stageOf Over = over
+
+-- a row has slot q's list bound, as it was kept
+abbrev pub TopCopied : List (List ℕ) → List Float → ℕ → Type 0
+TopCopied lists tops q = getD tops q nan ≡ topAt lists q
 
 -- slot q's skip reader has a block to stand on, so that its scorer can advance
 abbrev pub Inside : List (List ℕ) → Held → ℕ → Type 0
@@ -84,13 +87,6 @@ module _ (file : List ℕ) (lists : List (List ℕ)) where
   abbrev pub TopIs : Scoring → List Float → ℕ → Type 0
   TopIs scoring tops q = getD tops q nan ≡ listAt scoring file lists q .top
 
-  -- slot q's list bound can be worked out
-  pub record Topped (caches : List (List Float)) (q : ℕ) : Type 0 where
-    pub slot-in : q < 16
-    pub part-row : PartRow (getD lists q [])
-    pub list : ListIn file (partAt lists q)
-    pub weighed : Weighed lists caches q
-
   -- a scorer stands in its slot, with its list's norms and its list bound; a block bound that is known is right, and so are scores
   -- that are made
   pub record Seat (T : Terms) (h : Held) (s : TermScorer) : Type 0 where
@@ -99,6 +95,7 @@ module _ (file : List ℕ) (lists : List (List ℕ)) where
     pub bound : BoundKept (T .scoring) file lists (h .places) (getD (T .floats) 0 []) (s .slot)
     pub scores : ScoresKept (T .scoring) file lists (h .places) (T .floats) (s .slot)
     pub max-is : MaxScoreAt (T .scoring) s
+    pub top : TopKept (T .scoring) file lists (s .slot)
 
   -- slot q's scorer stands on a document: its posting can be scored, and it can advance
   pub record OnDocument (T : Terms) (h : Held) (q : ℕ) : Type 0 where

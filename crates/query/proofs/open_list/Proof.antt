@@ -6,7 +6,7 @@ use Rattle.notefile.specs.Inner.Given.{HeaderIn, Limits}
 use Rattle.notefile.proofs.Accepted.{header-inside, list-limits}
 use Rattle.skip_reader.specs.Inner.Decoded.{ListIn}
 use Rattle.skip_reader.proofs.AcceptedList.{list-in}
-use Rattle.query.proofs.Opening.{listed, one-opened}
+use Rattle.query.proofs.Opening.{listed, max-number, one-opened}
 use Rattle.query.proofs.open_list.Statement.{statement}
 use Rattle.query.proofs.open_list.Tie as tie
 
@@ -39,6 +39,13 @@ mul-cache c = search needs
 element-set-from-cache : tie.Need-element-set-from-cache
 element-set-from-cache c = search needs
 
+float-to-bits-top : tie.Need-float-to-bits-top
+float-to-bits-top c =
+    let m = c .before in
+    let n = m .before in
+    let r = n .before .before .before in
+    max-number (r .before .before .args .scoring) (limits-of r) (n .new .ensures) (m .max-score .ensures)
+
 open-requires : tie.Need-open-requires
 open-requires c κs =
     let m = c .before .before .before .before .before in
@@ -53,7 +60,7 @@ returns c =
     let n = m .before in
     let r = n .before .before .before in
     let a = r .before .before in
-    one-opened (a .args .scoring) (a .args .file .now) (a .args .l) (a .args .q) (a .pre .3) (r .read-part .ensures) (list-of r) (n .new .ensures) (m .max-score .ensures) _ (a .pre .4) (c .«open» .ensures)
+    one-opened (a .args .scoring) (a .args .file .now) (a .args .l) (a .args .q) (a .pre .3) (r .read-part .ensures) (list-of r) (limits-of r) (n .new .ensures) (m .max-score .ensures) _ (a .pre .4) (c .«open» .ensures)
 
 pub open-list-spec : {M : Type 1} → statement M
 open-list-spec =
@@ -66,5 +73,6 @@ open-list-spec =
     max-score-requires
     mul-cache
     element-set-from-cache
+    float-to-bits-top
     open-requires
     returns)

@@ -14,7 +14,7 @@ use Rattle.notefile.specs.Parts.{partOf}
 use Rattle.decoded.specs.Lists.{listOf}
 use Rattle.skip_reader.specs.Inner.Decoded.{docIn}
 use Rattle.term_scorer.specs.Inner.Slots.{Held, held, Sixteen, SlotIn, partAt, cursorAt, Blank}
-use Rattle.term_scorer.specs.Inner.Weights.{Weighed}
+use Rattle.term_scorer.specs.Inner.Weights.{TopKept, Weighed}
 
 -- the lent tables of a run's slots
 pub record Tables : Type 0 where
@@ -33,12 +33,13 @@ pub record Room (a : Tables) : Type 0 where
   pub docs : Sixteen (a .held .docs)
   pub freqs : Sixteen (a .held .freqs)
 
--- slot q has list l of the file, on its first posting, with its norms; no block bound is known, and no scores are made
-pub record OpenSlot (file : List ℕ) (a : Tables) (l q : ℕ) : Type 0 where
+-- slot q has list l of the file, on its first posting, with its norms and its list bound; no block bound is known, and no scores are made
+pub record OpenSlot (scoring : Scoring) (file : List ℕ) (a : Tables) (l q : ℕ) : Type 0 where
   pub slot : SlotIn file (a .lists) (a .held) q
   pub part-is : partAt (a .lists) q ≡ partOf file l
   pub cursor-is : cursorAt (a .held .places) q ≡ fresh
   pub weighed : Weighed (a .lists) (a .caches) q
+  pub top : TopKept scoring file (a .lists) q
   pub unknown : getD (getD (a .held .places) q []) 7 0 ≡ 0
   pub unscored : getD (getD (a .held .places) q []) 8 0 ≡ 0
 
@@ -72,14 +73,14 @@ pub record Untouched (n : ℕ) (a b : Tables) : Type 0 where
 
 -- list l has been opened in slot q
 pub record OneOpened (scoring : Scoring) (file : List ℕ) (l q : ℕ) (a b : Tables) (r : TermScorer) : Type 0 where
-  pub open-slot : OpenSlot file b l q
+  pub open-slot : OpenSlot scoring file b l q
   pub only : OnlySlot q a b
   pub scorer-is : r ≡ openedScorer scoring file l q
 
 -- the first n numbers of a query have been opened, each in its slot, with its scorer
 pub record QueryOpened (scoring : Scoring) (file query : List ℕ) (n : ℕ) (a : Tables) (scorers : List TermScorer) : Type 0 where
   pub room : Room a
-  pub open-slots : (q : ℕ) → q < n → OpenSlot file a (getD query q 0) q
+  pub open-slots : (q : ℕ) → q < n → OpenSlot scoring file a (getD query q 0) q
   pub long : length scorers ≡ 16
   pub scorers-are : (q : ℕ) → q < n → getD scorers q noScorer ≡ openedScorer scoring file (getD query q 0) q
   pub behind : Blank unopened n scorers

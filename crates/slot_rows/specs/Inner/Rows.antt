@@ -15,9 +15,9 @@ use Rattle.skip_reader.specs.Inner.Reader.{readerAt}
 use Rattle.postings.specs.Inner.Places.{Placed}
 use Rattle.postings.specs.declared.cursor.SegmentPostings.{SegmentPostings}
 
--- a part's numbers, in the order of its fields
-abbrev pub partRow : Part → List ℕ
-partRow x = x .weight ∷ x .average ∷ x .count ∷ x .«skip_entry_len» ∷ x .skips ∷ x .postings ∷ x .end ∷ 0 ∷ []
+-- a part's numbers, in the order of its fields, and the bits of its list bound
+abbrev pub partRow : Part → ℕ → List ℕ
+partRow x top = x .weight ∷ x .average ∷ x .count ∷ x .«skip_entry_len» ∷ x .skips ∷ x .postings ∷ x .end ∷ top ∷ []
 
 -- the part of a row
 unfoldable pub partIn : List ℕ → Part

@@ -79,10 +79,10 @@ module _ (file : List ℕ) (lists : List (List ℕ)) where
     pub only : after ≡ set before q (getD after q [])
     pub moved : ShallowRow file (partAt lists q) to (getD before q []) (getD after q [])
 
--- slot q has been given the list x
-pub record Opened (file : List ℕ) (x : Part) (q : ℕ) (lists lists′ : List (List ℕ)) (before after : Held) (doc : ℕ) : Type 0 where
-  pub lists-only : lists′ ≡ set lists q (partRow x)
-  pub part-row : PartRow (partRow x)
+-- slot q has been given the list x, whose bound has the bits top
+pub record Opened (file : List ℕ) (x : Part) (top q : ℕ) (lists lists′ : List (List ℕ)) (before after : Held) (doc : ℕ) : Type 0 where
+  pub lists-only : lists′ ≡ set lists q (partRow x top)
+  pub part-row : PartRow (partRow x top)
   pub opened : MovedSlot file lists′ q (λ _. fresh) before after doc
   pub unknown : getD (getD (after .places) q []) 7 0 ≡ 0
   pub unscored : getD (getD (after .places) q []) 8 0 ≡ 0

@@ -1,11 +1,11 @@
 -- The norms of the slots' lists, a block's scores, and block bounds that are kept.
 use mathlib.Core.Path.{_≡_}
-use mathlib.Core.Bool.{cond, _||_}
+use mathlib.Core.Bool.{cond, not, _||_}
 use mathlib.Core.List.{List, []}
 use Prim.Native.Nat.{ℕ, _+_, _<_}
-use lib.Dec.{eqb, ltb}
+use lib.Dec.{T, eqb, ltb}
 use lib.ListN.{getD, length, set}
-use lib.Ieee.{Float, nan, binary32, ofBits}
+use lib.Ieee.{Float, nan, binary32, nanBits, ofBits}
 use Rattle.route.specs.Cursor.{blockMax}
 use Rattle.route.specs.F32.{f32}
 use Rattle.route.specs.Postings.{Postings, start}
@@ -36,6 +36,21 @@ NormsIn x cache = NormsOf (ofBits binary32 (x .average)) cache
 -- slot q has its list's norms
 abbrev pub Weighed : List (List ℕ) → List (List Float) → ℕ → Type 0
 Weighed lists caches q = NormsIn (partAt lists q) (getD caches q [])
+
+-- slot q's list bound, as its row has it
+abbrev pub topAt : List (List ℕ) → ℕ → Float
+topAt lists q = ofBits binary32 (getD (getD lists q []) 7 0)
+
+-- it can be read: 32 bits, and not those of a NaN
+pub record TopRead (lists : List (List ℕ)) (q : ℕ) : Type 0 where
+  pub slot-in : q < 16
+  pub small : getD (getD lists q []) 7 0 < 4294967296
+  pub number : T (not (nanBits binary32 (getD (getD lists q []) 7 0)))
+
+-- and it is its list's
+pub record TopKept (scoring : Scoring) (file : List ℕ) (lists : List (List ℕ)) (q : ℕ) : Type 0 where
+  pub read : TopRead lists q
+  pub top-is : topAt lists q ≡ listAt scoring file lists q .top
 
 -- a row has the scores of block b of a list
 pub record BlockScores (l : Postings Float) (b : ℕ) (scores : List Float) : Type 0 where

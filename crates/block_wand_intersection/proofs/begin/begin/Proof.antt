@@ -1,7 +1,7 @@
 -- `begin` meets its contract: the slots by size, the list bounds summed along them, and the leader's document.
 use borrow.Author.Needs.{needs}
 use Rattle.intersection_window.proofs.Seats.{cur-small, slot-small}
-use Rattle.block_wand_intersection.proofs.Beginning.{begins, in-order, listed, seated}
+use Rattle.block_wand_intersection.proofs.Beginning.{begins, in-order, seated, tops-read}
 use Rattle.block_wand_intersection.proofs.begin.begin.Statement.{statement}
 use Rattle.block_wand_intersection.proofs.begin.begin.Tie as tie
 
@@ -15,7 +15,9 @@ by-size-requires c κs = search needs
 max-score-sum-requires : tie.Need-max-score-sum-requires
 max-score-sum-requires c κs =
     let s = c .before in
-    (in-order (start s .pre) (s .by-size .ensures), listed (start s .pre) (s .by-size .ensures))
+    let F = start s .pre in
+    let O = in-order F (s .by-size .ensures) in
+    (O .leader, O .few, O .long, tops-read F (s .by-size .ensures))
 
 element-copy-out-leader : tie.Need-element-copy-out-leader
 element-copy-out-leader c = search needs

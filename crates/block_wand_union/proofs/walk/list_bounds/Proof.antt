@@ -7,25 +7,25 @@ use borrow.Author.Needs.{needs}
 use Rattle.arrays.specs.Every.{All}
 use Rattle.ordering.proofs.Places.{all-first}
 use Rattle.term_scorer.specs.Inner.Slots.{Sixteen}
-use Rattle.block_wand_union.specs.Inner.Seats.{TopIs, Topped}
+use Rattle.term_scorer.specs.Inner.Weights.{TopRead}
+use Rattle.block_wand_union.specs.Inner.Seats.{TopCopied}
 use Rattle.block_wand_union.proofs.Runs.{one-top-more}
 use Rattle.block_wand_union.proofs.walk.list_bounds.Statement.{statement}
 use Rattle.block_wand_union.proofs.walk.list_bounds.Tie as tie
 
 abbrev Inv-loop : tie.InvT-loop
-Inv-loop file similarity lists caches n order tops₀ i₀ tops i =
-    (i ≤ n) × Sixteen tops × All (TopIs file lists (similarity .scoring) tops) (take i order)
+Inv-loop lists n order tops₀ i₀ tops i = (i ≤ n) × Sixteen tops × All (TopCopied lists tops) (take i order)
 
 abbrev μ-loop : tie.MeasureT-loop
-μ-loop file similarity lists caches n order tops₀ i₀ tops i = n - i
+μ-loop lists n order tops₀ i₀ tops i = n - i
 
 abbrev start : tie.At-loop Inv-loop μ-loop → tie.Start Inv-loop μ-loop
-start l = l .before .before
+start l = l .before
 
-known : (c : tie.In-loop Inv-loop μ-loop) → (let a = start (c .before) in Topped (a .args .file .now) (a .args .lists .now) (a .args .caches .now) (getD (a .args .order .now) (c .before .loop .i) 0))
+known : (c : tie.In-loop Inv-loop μ-loop) → (let a = start (c .before) in TopRead (a .args .lists .now) (getD (a .args .order .now) (c .before .loop .i) 0))
 known c =
     let a = start (c .before) in
-    all-first (Topped (a .args .file .now) (a .args .lists .now) (a .args .caches .now)) (a .args .order .now) (a .args .n) (c .before .loop .i) 0 (omega arith) (omega (arith, a .pre .1)) (a .pre .2)
+    all-first (TopRead (a .args .lists .now)) (a .args .order .now) (a .args .n) (c .before .loop .i) 0 (omega arith) (omega (arith, a .pre .1)) (a .pre .2)
 
 loop-holds : tie.Need-loop-holds Inv-loop μ-loop
 loop-holds c = (omega arith, search needs, tt)
@@ -37,7 +37,7 @@ element-copy-out-q : tie.Need-element-copy-out-q Inv-loop μ-loop
 element-copy-out-q c = search needs
 
 max-score-requires : tie.Need-max-score-requires Inv-loop μ-loop
-max-score-requires c κs = let R = known (c .before) in (R .slot-in, R .part-row, R .list, R .weighed)
+max-score-requires c κs = known (c .before)
 
 mul-tops : tie.Need-mul-tops Inv-loop μ-loop
 mul-tops c = omega (arith, known (c .before .before) .slot-in)
@@ -56,7 +56,7 @@ loop-again c =
     let b = c .before .before in
     let l = b .before in
     let a = start l in
-    (omega arith, length-set (l .loop .tops) (getD (a .args .order .now) (l .loop .i) 0) (c .max-score .result) ∙ l .loop .inv .1, one-top-more (a .args .file .now) (a .args .lists .now) (a .args .similarity .scoring) (l .loop .tops) (a .args .order .now) (l .loop .i) (l .loop .inv .1) (known b .slot-in) (omega (arith, a .pre .1)) (c .max-score .ensures) (l .loop .inv .2))
+    (omega arith, length-set (l .loop .tops) (getD (a .args .order .now) (l .loop .i) 0) (c .max-score .result) ∙ l .loop .inv .1, one-top-more (a .args .lists .now) (l .loop .tops) (a .args .order .now) (l .loop .i) (l .loop .inv .1) (known b .slot-in) (omega (arith, a .pre .1)) (c .max-score .ensures) (l .loop .inv .2))
 
 returns : tie.Need-returns Inv-loop μ-loop
 returns c =

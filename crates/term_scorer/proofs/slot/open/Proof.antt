@@ -38,7 +38,7 @@ returns : tie.Need-returns
 returns c =
     let k = c .before .before .before .before in
     let a = k .before .before .before in
-    opened (a .args .file .now) (a .args .x) (a .args .q) (a .pre .0) (a .args .lists .now) (a .pre .2) (k .keep-part .ensures) (a .pre .3, a .pre .4, a .pre .5) (c .«open» .ensures)
+    opened (a .args .file .now) (a .args .x) (a .args .max-score) (a .args .q) (a .pre .0) (a .args .lists .now) (a .pre .2) (k .keep-part .ensures) (a .pre .3, a .pre .4, a .pre .5) (c .«open» .ensures)
 
 pub open-spec : {M : Type 1} → statement M
 open-spec =
