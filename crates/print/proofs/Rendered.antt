@@ -27,7 +27,7 @@ use Rattle.request.proofs.Requests.{query-or, first-refused}
 use Rattle.ranking.specs.Answers.{answer, numberOf, countOf, plainList, Answered, RunIs}
 use Rattle.ranking.specs.Demand.{rowsIn, resultOf, Given}
 use Rattle.ranking.specs.declared.outcome.Outcome.{Outcome}
-use Rattle.ranking.proofs.Demand.{run-plain, given-of}
+use Rattle.ranking.proofs.Demand.{run-plain, given-of, rows-are}
 use Rattle.print.specs.Text.{text, numbersFrom, stepped, allLists, printed, firstLine, reportsWord, refusedWord, lines}
 use Rattle.print.specs.Inner.Putting.{Put, Ready, textOf}
 use Rattle.print.proofs.Scores.{answered-on, each-on}
@@ -72,10 +72,6 @@ pub record Drawn (file : List ℕ) (new : Rows) (number count : ℕ) : Type 0 wh
   pub ready : Ready count (new .documents) (new .scores)
   pub text-is : textOf number count (new .documents) (new .scores) ≡ printed file
 
-rows-there : (rs : List (Report Float)) (ds : List ℕ) (ss : List Float) → rowsIn (length rs) (docs rs ++ ds) (scores rs ++ ss) ≡ rs
-rows-there [] ds ss = refl
-rows-there (r ∷ rs) ds ss = ap (λ (xs : List (Report Float)). r ∷ xs) (rows-there rs ds ss)
-
 module _ (file : List ℕ) (bytes : Bytes file) (n : ℕ) (few : n ≤ 16) (right : fileRefusal file ≡ 0 → n ≡ listCount file) {zero-f : Float} (z : zero-f ≡ gridF 0)
     {old new : Rows} {r : Outcome} (long : rowsOf (old .documents) (old .scores) ≡ 4096)
     (R : RunIs (asked file (take n (numbersFrom 0 16)) Union Stepped (Script zero-f) []) old r new) where
@@ -111,20 +107,14 @@ module _ (file : List ℕ) (bytes : Bytes file) (n : ℕ) (few : n ≤ 16) (righ
             (each-on rs (drop (length rs) (old .scores)) (answered-on file (numbersFrom 0 n) bytes Union (Script (gridF 0)) [] 4096) k (omega arith));
       }
 
-  rows-are : rowsIn (countOf r) (new .documents) (new .scores) ≡ a .rows
-  rows-are =
-      let W = given .written in
-      ap (λ (k : ℕ). rowsIn k (new .documents) (new .scores)) (given .count-is)
-      ∙ ap (λ (ds : List ℕ). rowsIn (length (a .rows)) ds (new .scores)) (W .documents-are)
-      ∙ ap (rowsIn (length (a .rows)) (docs (a .rows) ++ drop (length (a .rows)) (old .documents))) (W .scores-are) ∙ rows-there (a .rows) _ _
-
   text-is : textOf (numberOf r) (countOf r) (new .documents) (new .scores) ≡ printed file
   unfolding printed text
   text-is =
       ap (λ (k : ℕ). textOf k (countOf r) (new .documents) (new .scores)) (given .number-is)
       ∙ ap (λ (k : ℕ). cond (eqb (a .code) 0) (firstLine reportsWord k ++ lines (rowsIn (countOf r) (new .documents) (new .scores))) (firstLine refusedWord (a .code)))
       (given .count-is)
-      ∙ ap (λ (rs : List (Report Float)). cond (eqb (a .code) 0) (firstLine reportsWord (length (a .rows)) ++ lines rs) (firstLine refusedWord (a .code))) rows-are
+      ∙ ap (λ (rs : List (Report Float)). cond (eqb (a .code) 0) (firstLine reportsWord (length (a .rows)) ++ lines rs) (firstLine refusedWord (a .code)))
+      (rows-are a old (resultOf r new) given)
       ∙ ap text (same-answer file n right)
 
   pub drawn : {number count : ℕ} → number ≡ numberOf r → count ≡ countOf r → Drawn file new number count
