@@ -94,9 +94,13 @@ pub made-rows : (z : Float) → FloatRows (replicate 18 (replicate 128 z))
 made-rows z = record { eighteen = refl; row = λ r h. ap length (getD-replicate 18 r (replicate 128 z) [] h) }
 
 -- a route that the machine runs, by another name
-lists-by : {W Z : Route Float} → Z ≡ W → {p : place.Place} → Runs Z p → (rule : Rule) (script : List Float) (list : List (Report Float))
+runs-by : {W Z : Route Float} → Z ≡ W → {p : place.Place} → Runs Z p → Runs W p
+runs-by e {p} R = subst (λ (Y : Route Float). Runs Y p) e R
+
+-- and its lists
+lists-by : {W : Route Float} {p : place.Place} → Runs W p → (rule : Rule) (script : List Float) (list : List (Report Float))
     → Ends (callbackOf rule script) W [] list → Ends (callbackOf rule script) (machineFrom p) [] list
-lists-by e R rule script list E = ends-in R (callbackOf rule script) [] list (subst (λ (Y : Route Float). Ends (callbackOf rule script) Y [] list) (sym e) E)
+lists-by R rule script list E = ends-in R (callbackOf rule script) [] list E
 
 module _ (similarity : Similarity) (file query : List ℕ) (norms-are : similarity .norms ≡ normReader file) (few : length query ≤ 16)
     (a : opening.Tables) (scorers : List TermScorer) (Q : QueryOpened (similarity .scoring) file query (length query) a scorers) where
@@ -200,11 +204,8 @@ module _ (similarity : Similarity) (file query : List ℕ) (norms-are : similari
         let z = single-begins norms-are (F .slot-in) (F .slot) (F .first) (F .unknown) (F .weighed) rows (O .doc-is) in
         let first : at (singleFrom s) ≡ place.single (onlyScorer file similarity (a .lists) (a .caches) (s .slot)) (W₁ .first) =
         ap (place.single (onlyScorer file similarity (a .lists) (a .caches) (s .slot))) (z .1 (s .slot)) in
-        record {
-          stands = z .0;
-          kept = (ok scoring file (a .lists) (s .slot) (F .slot), z .0 .kept);
-          list-is = lists-by e (subst (Runs W₁) (sym first) (runs-single (onlyScorer file similarity (a .lists) (a .caches) (s .slot))));
-        }
+        let R = runs-by e (subst (Runs W₁) (sym first) (runs-single (onlyScorer file similarity (a .lists) (a .caches) (s .slot)))) in
+        record { stands = z .0; kept = (ok scoring file (a .lists) (s .slot) (F .slot), z .0 .kept); runs-are = R; list-is = lists-by R }
 
   by-query : (qs : List ℕ) → length qs ≡ 1 → listAt scoring file (a .lists) 0 ≡ postingsOf scoring file (getD qs 0 0)
       → blockWandSingleScorer 128 f32 (onlyScorer file similarity (a .lists) (a .caches) 0) ≡ ofOne 128 f32 (scorersFrom 0 (queried scoring file qs))
@@ -254,11 +255,8 @@ module _ (similarity : Similarity) (file query : List ℕ) (norms-are : similari
         let k : length (map f (alive live)) ≡ live .len = map-long (alive live) ∙ length-take-le (live .len) (live .scorers) (omega (arith, L .few, L .long, few)) in
         let W : Route Float = pivotRoute 128 f32 (map f (alive live)) in
         let first : at (mode.Union u) ≡ place.union (W .first) = ap place.union (z .1) in
-        record {
-          stands = z .0;
-          kept = z .0 .kept;
-          list-is = lists-by (pivots (map f (alive live)) (λ e. ne (sym k ∙ e)) ∙ ap (blockWand 128 f32) left-are) (subst (Runs W) (sym first) (runs-union (map f (alive live))));
-        }
+        let R = runs-by (pivots (map f (alive live)) (λ e. ne (sym k ∙ e)) ∙ ap (blockWand 128 f32) left-are) (subst (Runs W) (sym first) (runs-union (map f (alive live)))) in
+        record { stands = z .0; kept = z .0 .kept; runs-are = R; list-is = lists-by R }
 
     abbrev only : TermScorer
     only = getD (live .scorers) 0 noScorer
@@ -299,11 +297,13 @@ module _ (similarity : Similarity) (file query : List ℕ) (norms-are : similari
       let S = B .stands floats rows in
       let first : at (mode.Intersection v) ≡ place.intersection (W .first) =
       ap (λ (k : ℕ). place.intersection (stands.placeOf (window.query similarity file (a .lists) (a .caches) k order) v (a .held .places) floats)) (B .len-is) ∙ ap place.intersection (B .first-is floats) in
+      let R = runs-by (sym (route-is B) ∙ ap (route 128 f32 plain.intersection) lists-named) (subst (Runs W) (sym first) (runs-intersection ld ss)) in
       record {
         stands = subst (λ (k : ℕ). stands.Stands (window.query similarity file (a .lists) (a .caches) k order) v (a .held) floats) (sym (B .len-is)) S;
         kept = subst (KeptIn (documents file)) (sym first)
             (intersection-nears 128 (documents file) f32 (listsFrom scoring file (a .lists) 0 n) (subst (All (ListOk 128 (documents file))) (sym lists-named) right) ld ss (B .sorted-is) .begins);
-        list-is = lists-by (sym (route-is B) ∙ ap (route 128 f32 plain.intersection) lists-named) (subst (Runs W) (sym first) (runs-intersection ld ss));
+        runs-are = R;
+        list-is = lists-by R;
       }
 
   -- ---- a plain scan
@@ -315,6 +315,7 @@ module _ (similarity : Similarity) (file query : List ℕ) (norms-are : similari
       record {
         stands = scan-begins scoring file query a scorers Q few all;
         kept = tt;
+        runs-are = tt;
         list-is = λ rule script list l.
             let K = callbackOf rule script in
             ends-in (runs-plain H) K [] list

@@ -7,7 +7,9 @@ use lib.ListN.{length, getD, take}
 use lib.Ieee.{Float}
 use Rattle.route.specs.Report.{Report}
 use Rattle.route.specs.Ordering.{retain}
-use Rattle.route.specs.Route.{Ends}
+use Rattle.route.specs.F32.{f32}
+use Rattle.route.specs.Route.{Ends, Route}
+use Rattle.route.specs.Skipping.{route}
 use Rattle.route.specs.Inner.Rules.{Takes}
 use Rattle.rule.specs.declared.Rule.{Rule}
 use Rattle.ordering.specs.Inner.Scorers.{byDoc, noScorer, Left}
@@ -15,6 +17,7 @@ use Rattle.ordering.specs.declared.Scorers.{Scorers}
 use Rattle.term_scorer.specs.declared.TermScorer.{TermScorer}
 use Rattle.notefile.specs.Header.{documents}
 use Rattle.notefile.specs.Refusal.{fileRefusal}
+use Rattle.decoded.specs.Lists.{queried}
 use Rattle.reports.specs.Inner.Runs.{callbackOf}
 use Rattle.term_scorer.specs.Inner.Weights.{FloatRows}
 use Rattle.term_scorer.specs.declared.score.Similarity.{Similarity}
@@ -25,7 +28,7 @@ use Rattle.block_wand_union.specs.Inner.Seats.{alive}
 use Rattle.block_wand_union.specs.Inner.Runs.{Begins}
 use Rattle.block_wand_union.specs.declared.Union.{Union}
 use Rattle.plain_scan.specs.Inner.Turns.{needsAll}
-use Rattle.machine.specs.Inner.Places.{machineFrom}
+use Rattle.machine.specs.Inner.Places.{machineFrom, Place, Runs}
 use Rattle.machine.specs.Inner.Kept.{KeptIn}
 use Rattle.machine.specs.Inner.Stands.{Tables, placeIn, StandsIn}
 use Rattle.machine.specs.declared.Machine.{Machine}
@@ -34,6 +37,7 @@ use Rattle.request.specs.Request.{asked, modeOf}
 use Rattle.request.specs.declared.Mode.{Mode}
 use Rattle.ranking.specs.Inner.Runs.{ListFor}
 use Rattle.ranking.specs.declared.begin.Way.{Way}
+use Rattle.ranking.specs.declared.begin.Way.the-variants.{Plain, Skipping}
 
 -- in an intersection a document must be in every list
 abbrev pub needsAllOf : Mode → Bool
@@ -65,10 +69,17 @@ pub data UnionBegun (scorers : List TermScorer) (n : ℕ) : Machine → List ℕ
 abbrev pub begunTables : opening.Tables → List ℕ → List (List Float) → Tables
 begunTables opened order floats = record { order = order; held = opened .held; floats = floats }
 
--- A RUN BEGINS AT ITS ROUTE'S FIRST PLACE: the machine stands, and from its place its list is the one that is asked for.
+-- a skipping run goes its mode's route turn by turn; a plain scan goes none
+abbrev pub RunsFor : Way → Route Float → Place → Type 0
+RunsFor Skipping W p = Runs W p
+RunsFor Plain W p = Unit {0}
+
+-- A RUN BEGINS AT ITS ROUTE'S FIRST PLACE: the machine stands, a skipping run goes the route of its mode and lists from there,
+-- and from its place its list is the one that is asked for.
 pub record BeganWith (way : Way) (similarity : Similarity) (file query : List ℕ) (m : Mode) (opened : opening.Tables) (h : Tables) (r : Machine) : Type 0 where
   pub stands : StandsIn file similarity (opened .lists) (opened .caches) h r
   pub kept : KeptIn (documents file) (placeIn file similarity (opened .lists) (opened .caches) h r)
+  pub runs-are : RunsFor way (route 128 f32 (modeOf m) (queried (similarity .scoring) file query)) (placeIn file similarity (opened .lists) (opened .caches) h r)
   pub list-is : (rule : Rule) (script : List Float) (list : List (Report Float)) → ListFor way (asked file query m (similarity .scoring) rule script) list
       → Ends (callbackOf rule script) (machineFrom (placeIn file similarity (opened .lists) (opened .caches) h r)) [] list
 
