@@ -176,7 +176,7 @@ impl Target {
         let asked =
             |limit: Option<f64>| limit.map_or(String::new(), |limit| format!(" (<= {limit})"));
         println!(
-            "{:<11} {:<7} mean {mean:.2}{}, worst {:.2}{}: {}",
+            "{:<12} {:<7} mean {mean:.2}{}, worst {:.2}{}: {}",
             self.name,
             if met { "met" } else { "NOT met" },
             asked(self.mean),
@@ -196,8 +196,12 @@ pub fn targets(checks: &[CheckRow], runs: &[RunRow]) {
         let rows = runs.iter().filter(|row| wanted(&row.shape));
         rows.map(|row| (row.shape.words().join(" "), ratio(&row.times))).collect::<Vec<_>>()
     };
-    let check = Target { name: "file check", mean: None, row: Some(0.8) };
+    let check = Target { name: "file check", mean: None, row: Some(0.7) };
     check.print(&checks.iter().map(by_check).collect::<Vec<_>>());
+    for (name, postings, limit) in [("check 10,000", 10_000, 0.85), ("check 1,000", 1_000, 1.2)] {
+        let of_size = |shape: &Shape| shape.small == Some(postings);
+        Target { name, mean: None, row: Some(limit) }.print(&by_run(&of_size, Times::check_ratio));
+    }
     let best = |shape: &Shape| shape.small.is_none() && shape.best.is_some();
     let ranking = Target { name: "ranking", mean: Some(1.05), row: Some(1.4) };
     ranking.print(&by_run(&best, Times::ranking_ratio));
@@ -207,7 +211,7 @@ pub fn targets(checks: &[CheckRow], runs: &[RunRow]) {
     }
     let every = Target { name: "every match", mean: None, row: Some(1.6) };
     every.print(&by_run(&|shape| shape.best.is_none(), Times::ranking_ratio));
-    let whole = Target { name: "whole run", mean: None, row: Some(1.2) };
+    let whole = Target { name: "whole run", mean: Some(0.85), row: Some(1.0) };
     whole.print(&by_run(&best, Times::whole_ratio));
     let small = Target { name: "small files", mean: None, row: Some(1.3) };
     small.print(&by_run(&|shape| shape.small.is_some(), Times::whole_ratio));
