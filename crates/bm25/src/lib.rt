@@ -1,10 +1,13 @@
 // BM25 over ready weights: norms, scores and bounds, unstepped or stepped.
+mod lengths;
 mod limits;
 
 pub use limits::average_ok;
 pub use limits::weight_ok;
 ghost use mathlib.Core.Path.{_≡_};
+ghost use Prim.Native.Nat.{ℕ};
 ghost use lib.Ieee.{binary32, add, mul, div};
+ghost use Rattle.floats.specs.Whole.{wholeF32};
 ghost use Rattle.bm25.specs.Score.{normOf};
 ghost use Rattle.bm25.specs.Scoring.{scored};
 ghost use Rattle.bm25.specs.Bound.{maxTf};
@@ -34,22 +37,22 @@ pub struct Bm25Weight {
     pub cache: [f32; 256],
 }
 
-// The norm of a length.
-pub fn cached_tf_component(fieldnorm: u32, average: f32) -> f32
-    ensures { λ r. ⌜ r ≡ normOf fieldnorm average ⌝ }
+// The norm of a length, which comes as f32.
+fn cached_tf_component(fieldnorm: f32, average: f32) -> f32
+    ensures { λ r. ⌜ ((n : ℕ) → fieldnorm ≡ wholeF32 n → r ≡ normOf n average) ⌝ }
 {
-    K1 * ((1.0 - B) + (B * floats::u32_to_f32(fieldnorm)) / average)
+    K1 * ((1.0 - B) + (B * fieldnorm) / average)
 }
 
 // The norms of all codes.
 fn compute_tf_cache(average: f32) -> [f32; 256]
     ensures { λ r. ⌜ NormsOf average r ⌝ }
 {
+    let lengths = lengths::field_lengths();
     let mut cache = [0.0f32; 256];
     let mut i = 0usize;
     while i < 256 {
-        let fieldnorm = fieldnorm::id_to_fieldnorm(i as u8);
-        cache[i] = cached_tf_component(fieldnorm, average);
+        cache[i] = cached_tf_component(lengths[i], average);
         i += 1;
     }
     cache

@@ -1,16 +1,12 @@
 -- `bm25::cached_tf_component` meets its contract: the code's operations are the definition's, and its literals are K1, B and 1.
 use lib.Ieee.{ofBits, round}
-use borrow.Author.Needs.{needs}
 use Rattle.bm25.specs.Score.{normOf}
 use Rattle.bm25.proofs.cached_tf_component.Statement.{statement}
 use Rattle.bm25.proofs.cached_tf_component.Tie as tie
 
-u32-to-f32-requires : tie.Need-u32-to-f32-requires
-u32-to-f32-requires c κs = search needs
-
 returns : tie.Need-returns
 unfolding normOf ofBits round
-returns c = rw (c .u32-to-f32 .ensures)
+returns c = λ n e. rw e
 
 pub cached-tf-component-spec : {M : Type 1} → statement M
-cached-tf-component-spec = tie.close (tie.spec u32-to-f32-requires returns)
+cached-tf-component-spec = tie.close (tie.spec returns)

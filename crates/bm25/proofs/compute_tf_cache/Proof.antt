@@ -1,6 +1,6 @@
 -- `bm25::compute_tf_cache` meets its contract: each turn puts one code's norm.
-use mathlib.Core.Path.{refl, ap, _∙_}
-use Prim.Native.Nat.{ℕ, _-_, _≤_}
+use mathlib.Core.Path.{refl}
+use Prim.Native.Nat.{_-_, _≤_}
 use native.Mathlib.Omega.{arith}
 use lib.Ieee.{nan}
 use borrow.Author.Needs.{needs}
@@ -11,19 +11,22 @@ use Rattle.bm25.proofs.compute_tf_cache.Statement.{statement}
 use Rattle.bm25.proofs.compute_tf_cache.Tie as tie
 
 abbrev Inv-loop : tie.InvT-loop
-Inv-loop average cache₀ i₀ cache i = (i ≤ 256) × Filling nan 256 (λ k. normOf (fieldnorm k) average) cache₀ i cache
+Inv-loop average lengths cache₀ i₀ cache i = (i ≤ 256) × Filling nan 256 (λ k. normOf (fieldnorm k) average) cache₀ i cache
 
 abbrev μ-loop : tie.MeasureT-loop
-μ-loop average cache₀ i₀ cache i = 256 - i
+μ-loop average lengths cache₀ i₀ cache i = 256 - i
+
+field-lengths-requires : tie.Need-field-lengths-requires Inv-loop μ-loop
+field-lengths-requires c κs = search needs
 
 loop-holds : tie.Need-loop-holds Inv-loop μ-loop
 loop-holds c = (search needs, begun nan 256 _ _ refl)
 
-cast-id-to-fieldnorm : tie.Need-cast-id-to-fieldnorm Inv-loop μ-loop
-cast-id-to-fieldnorm c = search needs
+mul-cached-tf-component : tie.Need-mul-cached-tf-component Inv-loop μ-loop
+mul-cached-tf-component c = search needs
 
-id-to-fieldnorm-requires : tie.Need-id-to-fieldnorm-requires Inv-loop μ-loop
-id-to-fieldnorm-requires c κs = search needs
+array-read-cached-tf-component : tie.Need-array-read-cached-tf-component Inv-loop μ-loop
+array-read-cached-tf-component c = search needs
 
 cached-tf-component-requires : tie.Need-cached-tf-component-requires Inv-loop μ-loop
 cached-tf-component-requires c κs = search needs
@@ -42,11 +45,9 @@ loop-less c = search needs
 
 loop-again : tie.Need-loop-again Inv-loop μ-loop
 loop-again c =
-    let a = c .before .before .before in (
-      omega arith,
-      goes-on nan 256 _ _ (a .loop .i) (a .loop .cache) _ (omega arith)
-          (c .cached-tf-component .ensures ∙ ap (λ (z : ℕ). normOf z (a .before .args .average)) (c .before .id-to-fieldnorm .ensures)) (a .loop .inv .1),
-    )
+    let a = c .before .before in
+    let l = a .loop in
+    (omega arith, goes-on nan 256 _ _ (l .i) (l .cache) _ (omega arith) (c .cached-tf-component .ensures (fieldnorm (l .i)) (a .before .field-lengths .ensures (l .i) (omega arith))) (l .inv .1))
 
 returns : tie.Need-returns Inv-loop μ-loop
 returns c = let l = c .before .loop in ended nan 256 _ _ (l .i) (l .cache) (omega arith) (l .inv .1) .at
@@ -57,9 +58,10 @@ compute-tf-cache-spec =
     (tie.spec
     Inv-loop
     μ-loop
+    field-lengths-requires
     loop-holds
-    cast-id-to-fieldnorm
-    id-to-fieldnorm-requires
+    mul-cached-tf-component
+    array-read-cached-tf-component
     cached-tf-component-requires
     mul-cache
     array-write-cache

@@ -4,9 +4,14 @@ use mathlib.Core.List.{List}
 use Prim.Native.Nat.{ℕ, _<_}
 use lib.ListN.{getD}
 use lib.Ieee.{Float, nan}
+use Rattle.floats.specs.Whole.{wholeF32}
 use Rattle.fieldnorm.specs.Code.{fieldnorm}
 use Rattle.bm25.specs.Score.{normOf, scoreAt}
 use Rattle.bm25.specs.declared.Bm25Weight.{Bm25Weight}
+
+-- each of the 256 entries is its code's length, the nearest f32
+abbrev pub LengthsOf : List Float → Type 0
+LengthsOf lengths = (i : ℕ) → i < 256 → getD lengths i nan ≡ wholeF32 (fieldnorm i)
 
 -- each of the 256 entries is its code's norm
 abbrev pub NormsOf : Float → List Float → Type 0
