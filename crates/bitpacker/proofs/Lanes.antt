@@ -136,9 +136,9 @@ pub high-lt : (x shift : ℕ) → x < 4294967296 → shift < 32 → x / 2 ^ shif
 high-lt x shift h l = shr-lt (32 - shift) shift (subst (λ (k : ℕ). x < 2 ^ k) (parts shift 32 (omega arith)) h)
 
 -- a value fits 32 bits
-pub packed-fits : (s : List ℕ) (p w i : ℕ) → w ≤ 32 → packedAt s p w i < 4294967296
+pub packed-fits : (s : List ℕ) (p w i k : ℕ) → w ≤ k → packedAt s p w i < 2 ^ k
 unfolding packedAt
-packed-fits s p w i h = lt-of-lt-of-le (mod-lt (laneAt w s (p + 4 * (i % 4)) / 2 ^ (i / 4 * w)) (pow-pos w)) (pow-mono {j = 32} h)
+packed-fits s p w i k h = lt-of-lt-of-le (mod-lt (laneAt w s (p + 4 * (i % 4)) / 2 ^ (i / 4 * w)) (pow-pos w)) (pow-mono {j = k} h)
 
 -- a value of no bits
 pub none : (v w : ℕ) → w ≡ 0 → 0 ≡ v % 2 ^ w

@@ -1,2 +1,3 @@
 -- Laws of a block that belong to no one function.
 pub mod BlockScores
+pub mod BoundTests

@@ -1,4 +1,6 @@
 // The scores of a block's postings: each posting's norm is read first, and the float work is a loop of its own.
+pub mod bound;
+
 use bm25::Bm25Weight;
 use bm25::Scoring;
 use fieldnorm::FieldNormReader;

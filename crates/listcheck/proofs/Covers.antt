@@ -1,26 +1,29 @@
--- Bounds and scores: what the loops over a block's scores find of a list's scores.
+-- Bounds and scores: what a test of a block's scores finds of a list's scores.
 use mathlib.Core.Path.{_≡_, refl, sym, ap, _∙_}
 use mathlib.Core.Bool.{Bool, true, false, _&&_, not}
 use mathlib.Core.List.{List}
 use mathlib.Core.Logic.{_⊎_, inl, inr}
 use Prim.Native.Nat.{ℕ, _≤_, _<_}
-use native.Mathlib.Omega.{arith}
 use lib.Dec.{T}
 use lib.ListN.{getD}
-use lib.Ieee.{Float, nan, lt, le}
+use lib.Ieee.{Float, lt, le}
+use borrow.Author.Tests.{le-leb}
 use Rattle.arrays.proofs.Every.{each, all}
 use Rattle.floats.specs.Step.{within}
 use Rattle.floats.proofs.Order.{not-above, below-le, lower-below}
 use Rattle.fieldnorm.specs.declared.FieldNormReader.{FieldNormReader}
+use Rattle.bm25.specs.Inner.Bound.{allCovered}
 use Rattle.bm25.specs.declared.Bm25Weight.{Bm25Weight}
-use Rattle.bm25.specs.declared.Scoring.the-variants.{Unstepped}
-use Rattle.bm25_block.specs.Inner.Block.{Scored}
+use Rattle.bm25_block.specs.Inner.Block.{allExact, exactAt, postingScore}
+use Rattle.bm25_block.proofs.BoundTests.{covered-same}
 use Rattle.notefile.specs.Header.{normReader}
-use Rattle.notefile.specs.Inner.Given.{WeightIn}
-use Rattle.notefile.specs.Inner.Reads.{allCovered, scoreAmong}
+use Rattle.notefile.specs.Inner.Structs.{skipEntryOf}
+use Rattle.notefile.specs.Inner.Given.{PackedIn, WeightIn}
+use Rattle.notefile.specs.Inner.Reads.{FreqsRead, scoreAmong}
 use Rattle.notefile.specs.declared.part.Part.{Part}
+use Rattle.notefile.specs.declared.skip.SkipEntry.{SkipEntry}
 use Rattle.notefile.proofs.Scores.{score-of-doc}
-use Rattle.notefile.proofs.Decoded.{every-same}
+use Rattle.notefile.proofs.FullBlocks.{freqs-narrow}
 
 first-both : (a b : Bool) → (a ≡ true → b ≡ true) → a ≡ a && b
 first-both true b f = sym (f refl)
@@ -51,10 +54,14 @@ module _ (maxScore own : Float) (t : T (within 1000 maxScore)) (b : T (within 10
   low-both (inl (e, f)) = rw f (own-lower e)
   low-both (inr (e, f)) = rw f (max-score-lower e)
 
-module _ (file : List ℕ) (x : Part) (w : Bm25Weight) (W : WeightIn x w) (bytes : (k : ℕ) → getD file k 0 < 256) (reader : FieldNormReader) (er : reader ≡ normReader file)
-    (docs freqs : List ℕ) (scores : List Float) (S : Scored reader file w Unstepped docs freqs scores) where
-  score-is : (i : ℕ) → i < 128 → getD scores i nan ≡ scoreAmong file x docs freqs i
-  score-is i h = S .at i h ∙ score-of-doc x w W file bytes er (getD docs i 0) (getD freqs i 0)
+-- the scores that the list's struct gives are the list's
+pub scores-are : (file : List ℕ) (x : Part) (w : Bm25Weight) → WeightIn x w → ((k : ℕ) → getD file k 0 < 256) → (reader : FieldNormReader) → reader ≡ normReader file
+    → (docs freqs : List ℕ) (bound : Float) (n : ℕ) → allCovered bound n (postingScore reader file w docs freqs) ≡ allCovered bound n (scoreAmong file x docs freqs)
+scores-are file x w W bytes reader er docs freqs bound n =
+    covered-same bound (postingScore reader file w docs freqs) (scoreAmong file x docs freqs) n (λ i l. score-of-doc x w W file bytes er (getD docs i 0) (getD freqs i 0))
 
-  pub covered-is : (n : ℕ) → n ≤ 128 → (bound : Float) → allCovered bound n (λ i. getD scores i nan) ≡ allCovered bound n (scoreAmong file x docs freqs)
-  covered-is n h bound = every-same _ _ n (λ i l. ap (λ (z : Float). not (lt bound z)) (score-is i (omega arith)))
+-- f32 holds the frequencies of a full block whose width is at most 24
+pub narrow-exact : {file : List ℕ} {x : Part} {b at : ℕ} → PackedIn file x b at → (e : SkipEntry) → e ≡ skipEntryOf file x b → {r : Bool} {freqs : List ℕ} → FreqsRead file x b r freqs
+    → r ≡ true → e .«freq_bits» ≤ 24 → allExact freqs ≡ true
+unfolding allExact
+narrow-exact P e ee {r} {freqs} F t n = all (exactAt freqs) 128 (λ i h. le-leb (getD freqs i 0) 16777216 (freqs-narrow P e ee F t n i h))

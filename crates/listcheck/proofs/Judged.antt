@@ -13,14 +13,14 @@ use borrow.Author.Tests.{lt-ltb, le-ltb}
 use Rattle.arrays.specs.Every.{every}
 use Rattle.arrays.proofs.Every.{fails, one-more}
 use Rattle.floats.specs.Step.{within}
-use Rattle.bm25.specs.Inner.Bound.{blockBoundIn}
+use Rattle.bm25.specs.Inner.Bound.{allCovered, blockBoundIn}
 use Rattle.bm25.specs.declared.Bm25Weight.{Bm25Weight}
 use Rattle.notefile.specs.Lists.{fullBlocks, blockSize, blockAt, blockScore, blockBound, listBound}
 use Rattle.notefile.specs.Conditions.{blockDocsRight, blockFreqsRight, covers, boundsRight}
 use Rattle.notefile.specs.Inner.Order.{firstOf, blocksRefusal}
 use Rattle.notefile.specs.Inner.Structs.{skipEntryOf}
 use Rattle.notefile.specs.Inner.Given.{Limits, WeightIn}
-use Rattle.notefile.specs.Inner.Reads.{DocsRead, FreqsRead, allCovered, scoreAmong, blockRefusal, lower}
+use Rattle.notefile.specs.Inner.Reads.{DocsRead, FreqsRead, scoreAmong, blockRefusal, lower}
 use Rattle.notefile.specs.declared.part.Part.{Part}
 use Rattle.notefile.specs.declared.skip.SkipEntry.{SkipEntry}
 use Rattle.notefile.proofs.Decoded.{every-same}

@@ -50,7 +50,9 @@ fn check_block(
     }
     let own = w.block_max_score(Scoring::Unstepped, e.norm_code, e.freq_code);
     let low = if own < max_score { own } else { max_score };
-    if !scores_covered(file, reader, x, w, 128, low, &docs, &freqs) {
+    // Of at most 24 bits, and the 1 of a strict block: f32 holds every whole number up to 2^24.
+    let small = e.freq_bits <= 24;
+    if !scores_covered(file, reader, x, w, small, 128, low, &docs, &freqs) {
         return 9;
     }
     0
@@ -81,7 +83,7 @@ fn check_tail(
     if !frequencies(freqs, n, false) {
         return 8;
     }
-    if !scores_covered(file, reader, x, w, n, max_score, docs, freqs) {
+    if !scores_covered(file, reader, x, w, false, n, max_score, docs, freqs) {
         return 9;
     }
     0

@@ -10,13 +10,15 @@ use borrow.Author.Tests.{lt-ltb, leb-true, eqb-true}
 use Rattle.arrays.specs.Every.{every}
 use Rattle.arrays.proofs.Every.{second-true, each}
 use Rattle.arrays.proofs.Order.{climbs}
+use Rattle.bitpacker.specs.Packed.{packedAt}
 use Rattle.bitpacker.specs.Inner.Rows.{Unpacked}
 use Rattle.bitpacker.proofs.Lanes.{packed-fits}
 use Rattle.compression.specs.Inner.Sums.{Summed, Checked}
 use Rattle.compression.specs.Inner.Counts.{Counted}
+use Rattle.compression.proofs.Differences.{gap-small}
 use Rattle.notefile.specs.Header.{documents}
 use Rattle.notefile.specs.Skips.{lastDoc, docWidth, strictBlock, freqWidth, widthByte}
-use Rattle.notefile.specs.Lists.{fullBlocks, tailSize, isFull, blockSize, docValue, freqValue, strictIn, previousDoc, blockDoc, blockAt}
+use Rattle.notefile.specs.Lists.{fullBlocks, tailSize, isFull, blockSize, docValue, freqValue, strictIn, previousDoc, blockDoc, blockFreq, blockAt, freqsAt}
 use Rattle.notefile.specs.Conditions.{docsRise, lastRight, blockDocsRight, skipRight}
 use Rattle.notefile.specs.Inner.Structs.{skipEntryOf, lastBefore}
 use Rattle.notefile.specs.Inner.Given.{PackedIn, BlockRight, BlocksIn}
@@ -84,7 +86,7 @@ module _ {file : List ℕ} {x : Part} {b at : ℕ} (P : PackedIn file x b at) (e
 
   -- a packed value is below 2 to its width
   pub small : {p w : ℕ} {vs : List ℕ} → w ≤ 32 → Unpacked file p w vs → (k : ℕ) → k < 128 → getD vs k 0 < 4294967296
-  small {p} {w} h U k l = rw (U .values k l) (packed-fits file p w k h)
+  small {p} {w} h U k l = rw (U .values k l) (packed-fits file p w k 32 h)
 
   module _ {vs : List ℕ} (U : Unpacked file at (e .«doc_bits») vs) where
     doc-values : (i : ℕ) → i < 128 → getD vs i 0 ≡ docValue file x b i
@@ -114,6 +116,15 @@ module _ {file : List ℕ} {x : Part} {b at : ℕ} (P : PackedIn file x b at) (e
     where
       values : (i : ℕ) → i < 128 → getD vs i 0 ≡ freqValue file x b i
       values i h = U .values i h ∙ rw (P .place, width-is, freqs-is, is-full)
+
+  -- frequencies of at most 24 bits are at most 2 ^ 24, with the 1 of a strict block
+  pub freqs-narrow : {r : Bool} {freqs : List ℕ} → FreqsRead file x b r freqs → r ≡ true → e .«freq_bits» ≤ 24 → (i : ℕ) → i < 128 → getD freqs i 0 ≤ 16777216
+  unfolding blockFreq freqValue
+  freqs-narrow F t n i h =
+      let v = freqValue file x b i in
+      let p : v ≡ packedAt file (freqsAt file x b) (freqWidth file x b) i = rw is-full in
+      let f = packed-fits file (freqsAt file x b) (freqWidth file x b) i 24 (omega (arith, freqs-is)) in
+      omega (arith, F .at t i (omega (arith, size-full)), p, f, gap-small (strictIn file x b))
 
   -- a full block has nothing past its end
   pub packed-loaded : {vs docs freqs : List ℕ} {r : Bool} {previous : ℕ} → Unpacked file at (e .«doc_bits») vs → Summed vs (e .strict) (eqb b 0) previous docs → FreqsRead file x b r freqs → BlockRight file x b previous → Loaded file x b docs freqs

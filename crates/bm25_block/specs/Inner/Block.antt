@@ -28,14 +28,19 @@ unfoldable pub allExact : List ℕ → Bool
 allExact freqs = every 128 (exactAt freqs)
 
 -- each posting's score, at its norm
+abbrev pub weighedAt : Float → List ℕ → List Float → ℕ → Float
+weighedAt weight freqs norms i = scoreAt weight (getD norms i nan) (getD freqs i 0)
+
 abbrev pub Weighed : Float → List ℕ → List Float → List Float → Type 0
-Weighed weight freqs norms out = Holds nan 128 (λ i. scoreAt weight (getD norms i nan) (getD freqs i 0)) out
+Weighed weight freqs norms out = Holds nan 128 (weighedAt weight freqs norms) out
 
 -- each score cut down to the grid
 abbrev pub CutDown : List Float → List Float → Type 0
 CutDown xs out = Holds nan 128 (λ i. stepDown (getD xs i nan)) out
 
--- each posting's score, by its list's struct
+-- posting i's score, by its list's struct
+abbrev pub postingScore : FieldNormReader → List ℕ → Bm25Weight → List ℕ → List ℕ → ℕ → Float
+postingScore reader file w docs freqs i = scoreIn w (fieldnormId reader file (getD docs i 0)) (getD freqs i 0)
+
 abbrev pub Scored : FieldNormReader → List ℕ → Bm25Weight → Scoring → List ℕ → List ℕ → List Float → Type 0
-Scored reader file w scoring docs freqs out =
-    Holds nan 128 (λ i. scored scoring (scoreIn w (fieldnormId reader file (getD docs i 0)) (getD freqs i 0))) out
+Scored reader file w scoring docs freqs out = Holds nan 128 (λ i. scored scoring (postingScore reader file w docs freqs i)) out

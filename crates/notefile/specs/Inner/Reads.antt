@@ -1,21 +1,16 @@
 -- What the functions that read a file leave and answer.
 use mathlib.Core.Path.{_≡_}
-use mathlib.Core.Bool.{Bool, true, not, cond}
+use mathlib.Core.Bool.{Bool, true, cond}
 use mathlib.Core.List.{List}
 use Prim.Native.Nat.{ℕ, _≤_, _<_}
 use lib.Dec.{eqb, ltb}
 use lib.ListN.{length, getD}
-use lib.Ieee.{Float, lt}
-use Rattle.arrays.specs.Every.{every}
+use lib.Ieee.{Float}
 use Rattle.notefile.specs.Header.{normCodeOf}
 use Rattle.notefile.specs.Lists.{fullBlocks, tailSize, blockSize, docValue, freqValue, blockDoc, blockFreq, scoreFor}
 use Rattle.notefile.specs.Conditions.{postingsRight, blockDocsRight, blockFreqsRight, boundsRight}
 use Rattle.notefile.specs.Inner.Order.{firstOf}
 use Rattle.notefile.specs.declared.part.Part.{Part}
-
--- whether a bound lies below none of n scores
-abbrev pub allCovered : Float → ℕ → (ℕ → Float) → Bool
-allCovered bound n score = every n (λ i. not (lt bound (score i)))
 
 -- the scores of a list's postings, by their documents and frequencies
 abbrev pub scoreAmong : List ℕ → Part → List ℕ → List ℕ → ℕ → Float

@@ -3,11 +3,13 @@ use mathlib.Core.Path.{_≡_, _∙_}
 use mathlib.Core.Bool.{true, false}
 use mathlib.Core.Logic.{inl, inr, ⊎-elim}
 use Prim.Native.Nat.{ℕ}
+use native.Mathlib.Omega.{arith}
 use borrow.Author.Needs.{needs}
-use borrow.Author.Tests.{not-true, not-false}
+use borrow.Author.Tests.{not-true, not-false, leb-true}
 use Rattle.notefile.specs.Lists.{blockBound}
 use Rattle.notefile.specs.Inner.Reads.{blockRefusal}
 use Rattle.notefile.proofs.FullBlocks.{full-size}
+use Rattle.listcheck.proofs.Covers.{narrow-exact}
 use Rattle.listcheck.proofs.Judged.{docs-wrong, freqs-wrong, full-bounds, bounds-wrong, all-right, bound-is, max-score-in, bound-in}
 use Rattle.listcheck.proofs.list.check_block.Statement.{statement}
 use Rattle.listcheck.proofs.list.check_block.Tie as tie
@@ -61,11 +63,16 @@ own-is c =
     bound-is (a .args .file .now) (a .args .x) (a .args .b) (λ i. begun e .shared-slice-known .given i .fits) (a .args .w) (a .pre .0 .weighed) (r .result) (r .ensures) (c .block-max-score .ensures)
 
 scores-covered-requires : tie.Need-scores-covered-requires
-scores-covered-requires c κs = let a = start (c .before .before .before) in (a .pre .0 .reader-is, a .pre .0 .weighed, search needs)
+scores-covered-requires c κs =
+    let m = c .before .before .before .before in
+    let a = start m in
+    let e2 = freqs-read m in
+    let r = docs-read e2 .before .before .before .before .read-skip-entry in
+    (a .pre .0 .reader-is, a .pre .0 .weighed, search needs, λ s. narrow-exact (a .pre .1) (r .result) (r .ensures) (e2 .before .packed-freqs .ensures) (not-false _ (e2 .if2 .left)) (omega (arith, leb-true)))
 
 -- what the bounds' test says of the block
 abbrev bounded : tie.After-scores-covered → tie.Joined3
-bounded c = c .before .before .before
+bounded c = c .before .before .before .before
 
 abbrev refusal-of : tie.After-scores-covered → ℕ
 refusal-of c = let a = start (bounded c .before) in blockRefusal (a .args .file .now) (a .args .x) (a .args .b)

@@ -1,6 +1,6 @@
 -- `list::check_tail` meets its contract: the tail is a block of its own, which only the list's bound covers.
-use mathlib.Core.Path.{_≡_, _∙_}
-use mathlib.Core.Bool.{true, false}
+use mathlib.Core.Path.{_≡_, sym, _∙_}
+use mathlib.Core.Bool.{true, false, true≢false}
 use Prim.Native.Nat.{ℕ}
 use native.Mathlib.Omega.{arith}
 use borrow.Author.Needs.{needs}
@@ -54,7 +54,7 @@ docs-right c = c .before .before .before
 scores-covered-requires : tie.Need-scores-covered-requires
 scores-covered-requires c κs =
     let a = start (docs-right (freqs-right c) .before .before) in
-    (a .pre .0 .reader-is, a .pre .0 .weighed, search needs)
+    (a .pre .0 .reader-is, a .pre .0 .weighed, search needs, λ s. absurd (true≢false (sym s)))
 
 judged : (c : tie.After-scores-covered)
     → (c .scores-covered .result ≡ false → 9 ≡ refusal-of (docs-right (freqs-right (c .before)) .before)) × (c .scores-covered .result ≡ true → 0 ≡ refusal-of (docs-right (freqs-right (c .before)) .before))
