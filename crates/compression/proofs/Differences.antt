@@ -18,7 +18,7 @@ use Rattle.arrays.proofs.Every.{and-true, first-true, second-true, same-test, e
 use Rattle.arrays.proofs.Filling.{Filling, begun as filling, goes-on4}
 use Rattle.bitpacker.specs.declared.Four.{Four}
 use Rattle.compression.specs.Documents.{gapOf, startOf, baseAt, docAt, aboveLast, rises, docsRight}
-use Rattle.compression.specs.Inner.Sums.{FourSums, Summed}
+use Rattle.compression.specs.Inner.Sums.{FourSums, Summed, Narrow}
 
 -- a sum in 32 bits of sums in 32 bits
 pub wrapped : {x y r : ℕ} (a b : ℕ) → x ≡ a % 4294967296 → y ≡ b % 4294967296 → r ≡ (x + y) % 4294967296 → r ≡ (a + b) % 4294967296
@@ -143,6 +143,10 @@ no-wrap-first strict false previous v h k (inl e) = absurd (true≢false (sym e)
 no-wrap-first strict false previous v h k (inr l) =
     rw add-assoc (no-wrap previous (gapOf strict + v) h (omega (arith, gap-small strict)) (rw add-assoc at l))
 
+start-low : (strict first : Bool) (previous : ℕ) → startOf strict previous first ≤ previous + 1
+start-low strict true previous = omega arith
+start-low strict false previous = omega (arith, gap-small strict)
+
 not-true : (b : Bool) → (b ≡ true → ⊥) → false ≡ b
 not-true true f = absurd (f refl)
 not-true false f = refl
@@ -171,13 +175,17 @@ module _ {vs out : List ℕ} {strict first : Bool} {previous : ℕ} (n limit : �
   abbrev right : ℕ → Bool
   right i = rises v strict first previous i && ltb (d i) limit
 
+  -- a document that fits is its sum in 32 bits
+  word-at : (i : ℕ) → i < n → d i < 4294967296 → getD out i 0 ≡ d i
+  word-at i h f = S .docs i (omega arith) ∙ mod-eq-of-lt f
+
   -- right documents fit
   module _ (r : docsRight v strict first previous n limit ≡ true) (i : ℕ) (h : i < n) where
     pub right-below : d i < limit
     right-below = ltb-true (d i) limit (second-true (rises v strict first previous i) (ltb (d i) limit) (each right n i r h))
 
     pub right-word : getD out i 0 ≡ d i
-    right-word = S .docs i (omega arith) ∙ mod-eq-of-lt (omega (arith, right-below))
+    right-word = word-at i h (omega (arith, right-below))
 
     right-rises : rises v strict first previous i ≡ true
     right-rises = first-true (rises v strict first previous i) (ltb (d i) limit) (each right n i r h)
@@ -195,29 +203,43 @@ module _ {vs out : List ℕ} {strict first : Bool} {previous : ℕ} (n limit : �
     abbrev up : ℕ → Bool
     up i = ltb (getD out i 0) (getD out (i + 1) 0)
 
-    module _ (small : (k : ℕ) → k < n → v k < 4294967296) (prev : previous < 4294967296) (above : (first ≡ true) ⊎ (previous < getD out 0 0)) (below : getD out (n - 1) 0 < limit) where
-      module _ (e : every (n - 1) up ≡ true) where
-        rose : (k : ℕ) → suc k < n → getD out k 0 < getD out (suc k) 0
-        rose k h = rw add-one at (ltb-true (getD out k 0) (getD out (k + 1) 0) (each up (n - 1) k e (omega arith)))
-
-        fits-at : (k : ℕ) → k < n → d k < 4294967296
-        unfolding docAt baseAt
-        fits-at zero h = no-wrap-first strict first previous (v 0) prev (small 0 h) (⊎-elim inl (λ l. inr (subst (λ (x : ℕ). previous < x) (S .docs 0 (omega arith)) l)) above)
-        fits-at (suc k) h =
-            let q : d k < 4294967296 = fits-at k (omega arith) in
-            let w : getD out k 0 ≡ d k = S .docs k (omega arith) ∙ mod-eq-of-lt q in
-            let u : d k < d (suc k) % 4294967296 = subst (λ (x : ℕ). d k < x) (S .docs (suc k) (omega arith)) (subst (λ (x : ℕ). x < getD out (suc k) 0) w (rose k h)) in
-            rw (doc-next v strict first previous k) (no-wrap (d k) (gapOf strict + v (suc k)) q (omega (arith, gap-small strict, small (suc k) h)) (rw (doc-next v strict first previous k) at u))
-
-        word-at : (k : ℕ) → k < n → getD out k 0 ≡ d k
-        word-at k h = S .docs k (omega arith) ∙ mod-eq-of-lt (fits-at k h)
-
+    module _ (above : (first ≡ true) ⊎ (previous < getD out 0 0)) (below : getD out (n - 1) 0 < limit) where
+      -- documents that fit, each above the one before it
+      module _ (fits : (k : ℕ) → k < n → d k < 4294967296) (rose : (k : ℕ) → suc k < n → d k < d (suc k)) where
         rises-at : (i : ℕ) → i < n → rises v strict first previous i ≡ true
-        rises-at zero h = above-last v strict first previous first (⊎-elim inl (λ l. inr (lt-ltb previous (d 0) (omega (arith, word-at 0 h)))) above)
-        rises-at (suc i) h = lt-ltb (d i) (d (suc i)) (omega (arith, rose i h, word-at i (omega arith), word-at (suc i) h))
+        rises-at zero h = above-last v strict first previous first (⊎-elim inl (λ l. inr (lt-ltb previous (d 0) (omega (arith, word-at 0 h (fits 0 h))))) above)
+        rises-at (suc i) h = lt-ltb (d i) (d (suc i)) (rose i h)
 
-        all-right : docsRight v strict first previous n limit ≡ true
-        all-right = all right n (λ i h. and-true (rises v strict first previous i) (ltb (d i) limit) (rises-at i h) (lt-ltb (d i) limit (omega (arith, docs-rise v strict first previous i (n - 1) (omega arith), word-at (n - 1) (omega arith)))))
+        fit-right : docsRight v strict first previous n limit ≡ true
+        fit-right = all right n (λ i h. and-true (rises v strict first previous i) (ltb (d i) limit) (rises-at i h) (lt-ltb (d i) limit (omega (arith, docs-rise v strict first previous i (n - 1) (omega arith), word-at (n - 1) (omega arith) (fits (n - 1) (omega arith))))))
 
-      pub rising-right : {r : Bool} → r ≡ every (n - 1) up → r ≡ docsRight v strict first previous n limit
-      rising-right e = e ∙ same-test (every (n - 1) up) (docsRight v strict first previous n limit) all-right (λ r. all up (n - 1) (λ i h. lt-ltb (getD out i 0) (getD out (i + 1) 0) (rw add-one (omega (arith, ltb-true (d i) (d (suc i)) (right-rises r (suc i) (omega arith)), right-word r i (omega arith), right-word r (suc i) (omega arith))))))
+      -- sums that rise in 32 bits did not leave them
+      module _ (small : (k : ℕ) → k < n → v k < 4294967296) (prev : previous < 4294967296) where
+        module _ (e : every (n - 1) up ≡ true) where
+          word-rose : (k : ℕ) → suc k < n → getD out k 0 < getD out (suc k) 0
+          word-rose k h = rw add-one at (ltb-true (getD out k 0) (getD out (k + 1) 0) (each up (n - 1) k e (omega arith)))
+
+          fits-at : (k : ℕ) → k < n → d k < 4294967296
+          unfolding docAt baseAt
+          fits-at zero h = no-wrap-first strict first previous (v 0) prev (small 0 h) (⊎-elim inl (λ l. inr (subst (λ (x : ℕ). previous < x) (S .docs 0 (omega arith)) l)) above)
+          fits-at (suc k) h =
+              let q : d k < 4294967296 = fits-at k (omega arith) in
+              let w : getD out k 0 ≡ d k = word-at k (omega arith) q in
+              let u : d k < d (suc k) % 4294967296 = subst (λ (x : ℕ). d k < x) (S .docs (suc k) (omega arith)) (subst (λ (x : ℕ). x < getD out (suc k) 0) w (word-rose k h)) in
+              rw (doc-next v strict first previous k) (no-wrap (d k) (gapOf strict + v (suc k)) q (omega (arith, gap-small strict, small (suc k) h)) (rw (doc-next v strict first previous k) at u))
+
+          all-right : docsRight v strict first previous n limit ≡ true
+          all-right = fit-right fits-at (λ k h. omega (arith, word-rose k h, word-at k (omega arith) (fits-at k (omega arith)), word-at (suc k) h (fits-at (suc k) h)))
+
+        pub rising-right : {r : Bool} → r ≡ every (n - 1) up → r ≡ docsRight v strict first previous n limit
+        rising-right e = e ∙ same-test (every (n - 1) up) (docsRight v strict first previous n limit) all-right (λ r. all up (n - 1) (λ i h. lt-ltb (getD out i 0) (getD out (i + 1) 0) (rw add-one (omega (arith, ltb-true (d i) (d (suc i)) (right-rises r (suc i) (omega arith)), right-word r i (omega arith), right-word r (suc i) (omega arith))))))
+
+      -- those of a narrow block cannot, and strict documents rise
+      module _ (N : Narrow vs n strict previous) where
+        low-at : (k : ℕ) → k < n → d k ≤ previous + suc k * 16777216
+        unfolding docAt baseAt
+        low-at zero h = omega (arith, start-low strict first previous, N .small 0 h)
+        low-at (suc k) h = rw (doc-next v strict first previous k) (omega (arith, low-at k (omega arith), N .small (suc k) h, gap-small strict))
+
+        pub narrow-right : true ≡ docsRight v strict first previous n limit
+        narrow-right = sym (fit-right (λ k h. omega (arith, low-at k h, N .low)) (λ k h. rw (doc-next v strict first previous k) (omega (arith, ap gapOf (N .strict-is)))))

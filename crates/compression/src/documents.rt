@@ -2,13 +2,14 @@
 use bitpacker::Four;
 use std::num::wrapping_add_u32;
 ghost use mathlib.Core.Path.{_≡_};
+ghost use mathlib.Core.Bool.{true};
 ghost use Prim.Native.Nat.{ℕ, _+_, _-_, _%_, _≤_, _<_};
 ghost use lib.ListN.{length, getD};
 ghost use lib.Dec.{ltb};
 ghost use Rattle.arrays.specs.Lent.{before, after};
 ghost use Rattle.arrays.specs.Every.{every};
 ghost use Rattle.compression.specs.Documents.{gapOf, startOf};
-ghost use Rattle.compression.specs.Inner.Sums.{FourSums, Summed, Checked};
+ghost use Rattle.compression.specs.Inner.Sums.{FourSums, Summed, Narrow, Checked};
 
 // What a strict block adds.
 pub fn gap(strict: bool) -> u32
@@ -86,7 +87,8 @@ fn rising(docs: &[u32; 128], n: usize) -> bool
     right
 }
 
-// The same as `sums`, and whether the first n documents are right. A sum that leaves 32 bits falls, so these tests see it.
+// The same as `sums`, and whether the first n documents are right. A sum that leaves 32 bits falls, so these tests see it. `narrow` says
+// that none can leave them; then strict documents rise.
 pub fn documents(
     values: &mut [u32; 128],
     n: usize,
@@ -94,8 +96,10 @@ pub fn documents(
     first: bool,
     previous: u32,
     limit: u32,
+    narrow: bool,
 ) -> bool
-    requires { ⌜ (n ≤ 128) × (length (now values) ≡ 128) × ((k : ℕ) → k < n → getD (now values) k 0 < 4294967296) ⌝ }
+    requires { ⌜ (n ≤ 128) × (length (now values) ≡ 128) × ((k : ℕ) → k < n → getD (now values) k 0 < 4294967296)
+        × (narrow ≡ true → Narrow (now values) n strict previous) ⌝ }
     ensures { λ r. ⌜ Checked (before values) n strict first previous limit r (after values) ⌝ }
 {
     sums(values, strict, first, previous);
@@ -111,6 +115,9 @@ pub fn documents(
     let last = values[n - 1];
     if limit <= last {
         return false;
+    }
+    if narrow {
+        return true;
     }
     rising(values, n)
 }

@@ -35,7 +35,7 @@ fn check_block(
     at: usize,
 ) -> u32
     requires { ⌜ Against (now file) x limit reader w «max_score» × PackedIn (now file) x b at
-        × (lastBefore (now file) x b ≡ previousDoc (now file) x b) ⌝ }
+        × (lastBefore (now file) x b ≡ previousDoc (now file) x b) × (lastBefore (now file) x b ≤ 1048576) ⌝ }
     ensures { λ r. ⌜ r ≡ blockRefusal (before file) x b ⌝ }
 {
     let e = read_skip_entry(file, x, b);
@@ -77,7 +77,7 @@ fn check_tail(
     let b = x.count / 128;
     let n = x.count % 128;
     let previous = last_before(file, x, b);
-    if !documents(docs, n, false, b == 0, previous, limit) {
+    if !documents(docs, n, false, b == 0, previous, limit, false) {
         return 7;
     }
     if !frequencies(freqs, n, false) {

@@ -6,9 +6,9 @@ use Prim.Native.Nat.{ℕ, zero, suc, _+_, _≤_, _<_}
 use native.Mathlib.Omega.{arith}
 use lib.Dec.{eqb, ltb}
 use lib.ListN.{getD}
-use borrow.Author.Tests.{ne-eqb}
+use borrow.Author.Tests.{ltb-true, ne-eqb}
 use Rattle.arrays.specs.Every.{every}
-use Rattle.arrays.proofs.Every.{first-true}
+use Rattle.arrays.proofs.Every.{first-true, second-true, each}
 use Rattle.compression.specs.Documents.{gapOf, baseAt, docAt, aboveLast, rises, docsRight}
 use Rattle.compression.specs.Frequencies.{freqRight}
 use Rattle.compression.specs.Inner.Sums.{Summed, Checked}
@@ -64,6 +64,14 @@ module _ (file : List ℕ) (x : Part) (b : ℕ) where
       go : (b i : ℕ) → blockDoc file x b i ≡ docAt (docValue file x b) (strictIn file x b) (isFirst b) (previousDoc file x b) i
       go zero i = refl
       go (suc b) i = refl
+
+  -- a right block's documents lie below the header's number
+  pub doc-low : blockDocsRight file x b ≡ true → (i : ℕ) → i < blockSize x b → blockDoc file x b i < documents file
+  unfolding blockDocsRight docsRise
+  doc-low e i h =
+      let d = docAt (docValue file x b) (strictIn file x b) (isFirst b) (previousDoc file x b) i in
+      let r = rises (docValue file x b) (strictIn file x b) (isFirst b) (previousDoc file x b) i in
+      rw (doc-is i) (ltb-true d (documents file) (second-true r (ltb d (documents file)) (each _ (blockSize x b) i (first-true (docsRise file x b) (lastRight file x b) e) h)))
 
   -- summed values that are the block's
   module _ {vs out : List ℕ} {n : ℕ} {strict r : Bool} {previous limit : ℕ} (C : Checked vs n strict (eqb b 0) previous limit r out) (top : n ≤ 128) (size : n ≡ blockSize x b)

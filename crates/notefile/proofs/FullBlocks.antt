@@ -1,10 +1,12 @@
 -- Full blocks: they lie in the file, unpacked values are the block's, and what the readers leave of them.
-use mathlib.Core.Path.{_≡_, refl, sym, ap, _∙_}
+use mathlib.Core.Path.{_≡_, refl, sym, ap, _∙_, subst}
 use mathlib.Core.Bool.{Bool, true, false, _&&_, cond, true≢false}
 use mathlib.Core.List.{List}
-use Prim.Native.Nat.{ℕ, zero, suc, _+_, _*_, _/_, _%_, _≤_, _<_}
+use mathlib.Core.Logic.{_⊎_, inl, inr}
+use Prim.Native.Nat.{ℕ, zero, suc, _+_, _*_, _/_, _%_, _^_, _≤_, _<_}
+use native.Mathlib.Nat.{le-of-lt}
 use native.Mathlib.Omega.{arith}
-use lib.Dec.{eqb, leb}
+use lib.Dec.{eqb, leb, lit<}
 use lib.ListN.{length, getD}
 use borrow.Author.Tests.{lt-ltb, leb-true, eqb-true}
 use Rattle.arrays.specs.Every.{every}
@@ -13,7 +15,7 @@ use Rattle.arrays.proofs.Order.{climbs}
 use Rattle.bitpacker.specs.Packed.{packedAt}
 use Rattle.bitpacker.specs.Inner.Rows.{Unpacked}
 use Rattle.bitpacker.proofs.Lanes.{packed-fits}
-use Rattle.compression.specs.Inner.Sums.{Summed, Checked}
+use Rattle.compression.specs.Inner.Sums.{Summed, Narrow, Checked}
 use Rattle.compression.specs.Inner.Counts.{Counted}
 use Rattle.compression.proofs.Differences.{gap-small}
 use Rattle.notefile.specs.Header.{documents}
@@ -25,7 +27,7 @@ use Rattle.notefile.specs.Inner.Given.{PackedIn, BlockRight, BlocksIn}
 use Rattle.notefile.specs.Inner.Reads.{DocsRead, FreqsRead, Loaded}
 use Rattle.notefile.specs.declared.part.Part.{Part}
 use Rattle.notefile.specs.declared.skip.SkipEntry.{SkipEntry}
-use Rattle.notefile.proofs.Decoded.{rise-is, docs-are, docs-loaded, freqs-are}
+use Rattle.notefile.proofs.Decoded.{doc-low, rise-is, docs-are, docs-loaded, freqs-are}
 
 pub full-size : (x : Part) (b : ℕ) → b < fullBlocks x → 128 ≡ blockSize x b
 full-size x b h = sym (ap (λ (z : Bool). cond z 128 (tailSize x)) (lt-ltb b (fullBlocks x) h))
@@ -38,6 +40,11 @@ module _ (file : List ℕ) (x : Part) where
   previous-same (suc b) h e =
       let l : lastRight file x b ≡ true = second-true (docsRise file x b) (lastRight file x b) (second-true (every b (blockDocsRight file x)) (blockDocsRight file x b) e) in
       sym (eqb-true (blockDoc file x b 127) (lastDoc file x b) (rw (lt-ltb b (fullBlocks x) h) at l))
+
+  -- which lies below the header's number, or is 0
+  pub previous-low : (b : ℕ) → b ≤ fullBlocks x → every b (blockDocsRight file x) ≡ true → previousDoc file x b ≤ documents file
+  previous-low zero h e = omega arith
+  previous-low (suc b) h e = le-of-lt (doc-low file x b (second-true (every b (blockDocsRight file x)) (blockDocsRight file x b) e) 127 (subst (λ (n : ℕ). 127 < n) (full-size x b h) (lit< tt)))
 
   -- a full block lies in the file
   block-step : (b : ℕ) → blockAt file x b ≤ blockAt file x (suc b)
@@ -85,8 +92,14 @@ module _ {file : List ℕ} {x : Part} {b at : ℕ} (P : PackedIn file x b at) (e
   freqs-in = (omega (arith, freqs-is, P .narrow), omega (arith, width-is, freqs-is, P .inside))
 
   -- a packed value is below 2 to its width
-  pub small : {p w : ℕ} {vs : List ℕ} → w ≤ 32 → Unpacked file p w vs → (k : ℕ) → k < 128 → getD vs k 0 < 4294967296
-  small {p} {w} h U k l = rw (U .values k l) (packed-fits file p w k 32 h)
+  pub small : {p w : ℕ} {vs : List ℕ} (m : ℕ) → w ≤ m → Unpacked file p w vs → (k : ℕ) → k < 128 → getD vs k 0 < 2 ^ m
+  small {p} {w} m h U k l = rw (U .values k l) (packed-fits file p w k m h)
+
+  -- a strict block of at most 24 bits
+  pub narrow-block : {vs : List ℕ} {narrow : Bool} {previous : ℕ} → Unpacked file at (e .«doc_bits») vs → previous ≤ 1048576
+      → ((e .strict ≡ true) × (narrow ≡ true → e .«doc_bits» ≤ 24)) ⊎ (narrow ≡ false) → narrow ≡ true → Narrow vs 128 (e .strict) previous
+  narrow-block U h (inl (s, n)) t = record { strict-is = s; low = omega arith; small = small 24 (n t) U }
+  narrow-block U h (inr n) t = absurd (true≢false (sym t ∙ n))
 
   module _ {vs : List ℕ} (U : Unpacked file at (e .«doc_bits») vs) where
     doc-values : (i : ℕ) → i < 128 → getD vs i 0 ≡ docValue file x b i

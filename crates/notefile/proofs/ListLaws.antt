@@ -21,7 +21,7 @@ use Rattle.notefile.specs.Conditions.{docsRise, lastRight, blockDocsRigh
 use Rattle.notefile.specs.Inner.Structs.{listFreq}
 use Rattle.notefile.specs.Inner.Given.{ListRight}
 use Rattle.notefile.specs.declared.part.Part.{Part}
-use Rattle.notefile.proofs.Decoded.{doc-is}
+use Rattle.notefile.proofs.Decoded.{doc-is, doc-low}
 use Rattle.notefile.proofs.FullBlocks.{full-size}
 
 module _ (file : List ℕ) (x : Part) (R : ListRight file x) where
@@ -34,7 +34,7 @@ module _ (file : List ℕ) (x : Part) (R : ListRight file x) where
     one i k = each _ (blockSize x b) i (first-true (docsRise file x b) (lastRight file x b) (R .docs b h)) k
 
     pub doc-below : (i : ℕ) → i < blockSize x b → blockDoc file x b i < documents file
-    doc-below i k = rw (doc-is file x b i) (ltb-true (doc i) (documents file) (second-true (rises (docValue file x b) (strictIn file x b) (isFirst b) (previousDoc file x b) i) (ltb (doc i) (documents file)) (one i k)))
+    doc-below = doc-low file x b (R .docs b h)
 
     -- above the document before it, in its block or as the last of the block before
     pub doc-rises : (i : ℕ) → suc i < blockSize x b → blockDoc file x b i < blockDoc file x b (suc i)

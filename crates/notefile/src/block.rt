@@ -35,11 +35,13 @@ pub fn packed_docs(
     docs: &mut [u32; 128],
 ) -> bool
     requires { ⌜ PackedIn (now file) x b at × (e ≡ skipEntryOf (now file) x b) × (previous ≡ previousDoc (now file) x b)
-        × (limit ≡ documents (now file)) × (limit ≤ 1048576) × (length (now docs) ≡ 128) ⌝ }
+        × (limit ≡ documents (now file)) × (limit ≤ 1048576) × (length (now docs) ≡ 128) × (previous ≤ 1048576) ⌝ }
     ensures { λ r. ⌜ DocsRead (before file) x b r (after docs) ⌝ }
 {
     unpack(file, at, e.doc_bits, docs);
-    if documents(docs, 128, e.strict, b == 0, previous, limit) {
+    // 128 values of at most 24 bits, each with its 1, add up to at most 2^31.
+    let narrow = if e.strict { e.doc_bits <= 24 } else { false };
+    if documents(docs, 128, e.strict, b == 0, previous, limit, narrow) {
         let last = docs[127];
         return last == e.last;
     }

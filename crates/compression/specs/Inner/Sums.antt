@@ -1,7 +1,7 @@
 -- What summing differences leaves, each document in 32 bits.
 use mathlib.Core.Path.{_≡_}
 use mathlib.Core.List.{List}
-use mathlib.Core.Bool.{Bool}
+use mathlib.Core.Bool.{Bool, true}
 use Prim.Native.Nat.{ℕ, _+_, _%_, _^_, _<_}
 use lib.ListN.{length, getD}
 use Rattle.bitpacker.specs.declared.Four.{Four}
@@ -18,6 +18,12 @@ pub record FourSums (p gap x y z w : ℕ) (r : Four) : Type 0 where
 pub record Summed (values : List ℕ) (strict first : Bool) (previous : ℕ) (out : List ℕ) : Type 0 where
   pub long : length out ≡ 128
   pub docs : (i : ℕ) → i < 128 → getD out i 0 ≡ docAt (λ k. getD values k 0) strict first previous i % 2 ^ 32
+
+-- a strict block whose sums cannot leave 32 bits: 128 values of 24 bits, each with its 1, are at most 2 ^ 31
+pub record Narrow (values : List ℕ) (n : ℕ) (strict : Bool) (previous : ℕ) : Type 0 where
+  pub strict-is : strict ≡ true
+  pub low : previous < 2 ^ 31
+  pub small : (i : ℕ) → i < n → getD values i 0 < 2 ^ 24
 
 -- with the answer whether the first n are right
 pub record Checked (values : List ℕ) (n : ℕ) (strict first : Bool) (previous limit : ℕ) (r : Bool) (out : List ℕ) : Type 0 where

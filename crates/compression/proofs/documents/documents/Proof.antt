@@ -1,10 +1,10 @@
 -- `compression::documents::documents` meets its contract. Right documents fit 32 bits; and where the sums rise and end below the limit none of
--- them left 32 bits (`rising-right`), so each test is one of the documents.
+-- them left 32 bits (`rising-right`), nor do those of a narrow block (`narrow-right`), so each test is one of the documents.
 use mathlib.Core.Logic.{inl, inr, ⊎-elim}
 use native.Mathlib.Omega.{arith}
 use borrow.Author.Tests.{not-true, not-false}
 use borrow.Author.Needs.{needs}
-use Rattle.compression.proofs.Differences.{none-right, first-low, last-high, rising-right}
+use Rattle.compression.proofs.Differences.{none-right, first-low, last-high, narrow-right, rising-right}
 use Rattle.compression.proofs.documents.documents.Statement.{statement}
 use Rattle.compression.proofs.documents.documents.Tie as tie
 
@@ -43,17 +43,32 @@ returns-3 c =
     let s = m .sums .ensures in
     record { summed = s; same = last-high (e .args .n) (e .args .limit) s (e .pre .0) (e .fits .limit .fits) (omega arith) (c .if4 .taken) }
 
-rising-requires : tie.Need-rising-requires
-rising-requires c κs = search needs
+-- the places behind the first document's test, and of the sums
+abbrev tested : tie.Else4 → tie.Joined2
+tested c = c .before .before
+
+abbrev summed : tie.Else4 → tie.After-sums
+summed c = tested c .before .before .before
 
 returns-4 : tie.Need-returns-4
 returns-4 c =
-    let h = c .before .before .before .before in
-    let m = h .before .before .before in
+    let m = summed (c .before) in
     let e = m .before .before in
     let s = m .sums .ensures in
-    let above = ⊎-elim (λ w. inr (w .1 .left)) (λ w. inl (not-false (e .args .first) (w .left))) (h .if2 .came) in
-    record { summed = s; same = rising-right (e .args .n) (e .args .limit) s (e .pre .0) (e .fits .limit .fits) (omega arith) (e .pre .2) (e .fits .previous .fits) above (c .before .before .if4 .left) (c .rising .ensures) }
+    let above = ⊎-elim (λ w. inr (w .1 .left)) (λ w. inl (not-false (e .args .first) (w .left))) (tested (c .before) .if2 .came) in
+    record { summed = s; same = narrow-right (e .args .n) (e .args .limit) s (e .pre .0) (e .fits .limit .fits) (omega arith) above (c .before .if4 .left) (e .pre .3 (c .if5 .taken)) }
+
+rising-requires : tie.Need-rising-requires
+rising-requires c κs = search needs
+
+returns-5 : tie.Need-returns-5
+returns-5 c =
+    let t = c .before .before .before in
+    let m = summed t in
+    let e = m .before .before in
+    let s = m .sums .ensures in
+    let above = ⊎-elim (λ w. inr (w .1 .left)) (λ w. inl (not-false (e .args .first) (w .left))) (tested t .if2 .came) in
+    record { summed = s; same = rising-right (e .args .n) (e .args .limit) s (e .pre .0) (e .fits .limit .fits) (omega arith) above (t .if4 .left) (e .pre .2) (e .fits .previous .fits) (c .rising .ensures) }
 
 pub documents-spec : {M : Type 1} → statement M
 documents-spec =
@@ -67,5 +82,6 @@ documents-spec =
     mul-last
     element-copy-out-last
     returns-3
+    returns-4
     rising-requires
-    returns-4)
+    returns-5)

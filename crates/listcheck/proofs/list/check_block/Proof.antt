@@ -21,7 +21,7 @@ last-before-requires : tie.Need-last-before-requires
 last-before-requires c κs = search needs
 
 packed-docs-requires : tie.Need-packed-docs-requires
-packed-docs-requires c κs = let a = c .before .before .before .before in (a .pre .1, c .before .before .read-skip-entry .ensures, c .before .last-before .ensures ∙ a .pre .2, a .pre .0 .limit-is, a .pre .0 .few, search needs)
+packed-docs-requires c κs = let a = c .before .before .before .before in (a .pre .1, c .before .before .read-skip-entry .ensures, c .before .last-before .ensures ∙ a .pre .2, a .pre .0 .limit-is, a .pre .0 .few, search needs, rw (c .before .last-before .ensures) (a .pre .3))
 
 returns : tie.Need-returns
 returns c =

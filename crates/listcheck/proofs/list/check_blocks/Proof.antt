@@ -2,7 +2,7 @@
 use Prim.Native.Nat.{_-_}
 use native.Mathlib.Omega.{arith}
 use borrow.Author.Needs.{needs}
-use Rattle.notefile.proofs.FullBlocks.{docs-in, freqs-in, previous-same, packed-in}
+use Rattle.notefile.proofs.FullBlocks.{docs-in, freqs-in, previous-same, previous-low, packed-in}
 use Rattle.listcheck.proofs.Judged.{Judging, judging-begun, all-judged, seven-found, one-judged}
 use Rattle.listcheck.proofs.list.check_blocks.Statement.{statement}
 use Rattle.listcheck.proofs.list.check_blocks.Tie as tie
@@ -22,7 +22,9 @@ check-block-requires c κs =
     let a = l .before .before .before in
     let s = a .args .file .now in
     let x = a .args .x in
-    (a .pre .0, packed-in s x (a .pre .1) (c .loop-test .taken) (l .loop .inv .place), previous-same s x (l .loop .b) (l .loop .inv .within) (l .loop .inv .right))
+    let same = previous-same s x (l .loop .b) (l .loop .inv .within) (l .loop .inv .right) in
+    let low = previous-low s x (l .loop .b) (l .loop .inv .within) (l .loop .inv .right) in
+    (a .pre .0, packed-in s x (a .pre .1) (c .loop-test .taken) (l .loop .inv .place), same, omega (arith, same, low, a .pre .0 .limit-is, a .pre .0 .few))
 
 returns : tie.Need-returns Inv-loop μ-loop
 returns c =

@@ -24,7 +24,7 @@ last-before-requires : tie.Need-last-before-requires
 last-before-requires c κs = search needs
 
 documents-requires : tie.Need-documents-requires
-documents-requires c κs = let a = start c in (omega arith, a .pre .2 .long-docs, λ k l. docs-small (a .pre .2) k (omega arith))
+documents-requires c κs = let a = start c in (omega arith, a .pre .2 .long-docs, λ k l. docs-small (a .pre .2) k (omega arith), λ n. absurd (true≢false (sym n)))
 
 returns : tie.Need-returns
 returns c =

@@ -18,7 +18,7 @@ unpack-requires : tie.Need-unpack-requires
 unpack-requires c κs = let a = c .before .before .before in let i = freqs-in (a .pre .0) (a .args .e) (a .pre .1) in (i .0, i .1, a .pre .2)
 
 frequencies-requires : tie.Need-frequencies-requires
-frequencies-requires c κs = let u = c .before in let a = u .before .before .before .before in (omega arith, u .unpack .ensures .long, λ k l. small (a .pre .0) (a .args .e) (a .pre .1) (freqs-in (a .pre .0) (a .args .e) (a .pre .1) .0) (u .unpack .ensures) k (omega arith))
+frequencies-requires c κs = let u = c .before in let a = u .before .before .before .before in (omega arith, u .unpack .ensures .long, λ k l. small (a .pre .0) (a .args .e) (a .pre .1) 32 (freqs-in (a .pre .0) (a .args .e) (a .pre .1) .0) (u .unpack .ensures) k (omega arith))
 
 returns : tie.Need-returns
 returns c = let u = c .before .before in let a = u .before .before .before .before in freqs-counted (a .pre .0) (a .args .e) (a .pre .1) (u .unpack .ensures) (c .frequencies .ensures)
