@@ -23,6 +23,16 @@ Inv-loop file lists n before-pivot-len pivot-doc order₀ places₀ docs₀ freq
 abbrev μ-loop : tie.MeasureT-loop
 μ-loop file lists n before-pivot-len pivot-doc order₀ places₀ docs₀ freqs₀ i₀ order places docs freqs i = i
 
+-- the places that the answers look back to
+abbrev read-in : tie.After-doc-arg2 Inv-loop μ-loop → tie.In-loop Inv-loop μ-loop
+read-in c = c .before .before .before
+
+abbrev after-doc : tie.After-seek-arg3 Inv-loop μ-loop → tie.After-doc Inv-loop μ-loop
+after-doc c = c .before .before .before
+
+abbrev then-of : tie.After-put-back-arg3 Inv-loop μ-loop → tie.Then1 Inv-loop μ-loop
+then-of c = c .before .before .before
+
 abbrev start : tie.At-loop Inv-loop μ-loop → tie.Start Inv-loop μ-loop
 start l = l .before .before
 
@@ -71,25 +81,25 @@ element-copy-out-q c = let a = start (c .before) in omega (arith, sixteen (c .be
 
 doc-requires : tie.Need-doc-requires Inv-loop μ-loop
 doc-requires c κs =
-    let b = c .before .before .before in let R = readable _ _ Unstepped (now b) _ (stand-in b) in (R .slot-in, R .inside)
+    let b = read-in c in let R = readable _ _ Unstepped (now b) _ (stand-in b) in (R .slot-in, R .inside)
 
 seek-requires : tie.Need-seek-requires Inv-loop μ-loop
 seek-requires c κs =
-    let d = c .before .before .before in
-    let b = d .before .before .before .before in
+    let d = after-doc c in
+    let b = read-in (d .before) in
     let S = stand-in b in
     (S .slot-in, S .slot, d .doc .ensures ∙ sym (doc-read _ _ Unstepped (now b) _ S), start (b .before) .pre .2)
 
 put-back-requires : tie.Need-put-back-requires Inv-loop μ-loop
 put-back-requires c κs =
-    let k = c .before .before .before .before in
+    let k = then-of c .before in
     let b = in-loop k in
     let a = start (b .before) in
     (omega arith, a .pre .1, sixteen (b .before), still-readable _ _ _ Unstepped (first a) (slots (b .before)) _ (lined (b .before)) (inside (b .before)) (b .before .loop .inv .2 Unstepped) (omega arith) _ (here b) (k .seek .ensures))
 
 returns : tie.Need-returns Inv-loop μ-loop
 returns c =
-    let t = c .before .before .before .before in
+    let t = then-of (c .before) in
     let k = t .before in
     let b = in-loop k in
     let l = b .before in

@@ -25,6 +25,13 @@ Inv-loop file similarity lists caches pivot-len pivot-doc order places₀ docs f
 abbrev μ-loop : tie.MeasureT-loop
 μ-loop file similarity lists caches pivot-len pivot-doc order places₀ docs freqs floats₀ sum₀ i₀ places floats sum i = pivot-len - i
 
+-- the places that the answers look back to
+abbrev in-loop : tie.After-block-max-arg2 Inv-loop μ-loop → tie.In-loop Inv-loop μ-loop
+in-loop c = c .before .before .before .before .before
+
+abbrev after-shallow-seek : tie.After-block-max Inv-loop μ-loop → tie.After-shallow-seek Inv-loop μ-loop
+after-shallow-seek c = c .before .before .before
+
 abbrev start : tie.At-loop Inv-loop μ-loop → tie.Start Inv-loop μ-loop
 start l = l .before .before
 
@@ -76,7 +83,7 @@ index-1-block-max c = search needs
 
 block-max-requires : tie.Need-block-max-requires Inv-loop μ-loop
 block-max-requires c κs =
-    let b = c .before .before .before .before .before in
+    let b = in-loop c in
     let a = start (b .before) in
     let S = seat-in b in
     let q = getD (a .args .order .now) (b .before .loop .i) 0 in
@@ -93,12 +100,12 @@ loop-less c = search needs
 
 loop-again : tie.Need-loop-again Inv-loop μ-loop
 loop-again c =
-    let b = c .before .before .before .before .before .before in
+    let b = in-loop (c .before) in
     let a = start (b .before) in (
       omega arith,
       λ n k S.
           bounds-next (a .args .file .now) (a .args .lists .now) _ _ (a .args .docs .now) (a .args .freqs .now) (a .args .pivot-doc) (scorers a n) (b .before .loop .inv .1 n k S) (in-scorers b n k) (S .apart)
-          (getD (a .args .order .now) (b .before .loop .i) 0) (ap (λ (t : TermScorer). t .slot) (here b n k)) (c .before .before .before .shallow-seek .ensures) (c .block-max .ensures),
+          (getD (a .args .order .now) (b .before .loop .i) 0) (ap (λ (t : TermScorer). t .slot) (here b n k)) (after-shallow-seek c .shallow-seek .ensures) (c .block-max .ensures),
     )
 
 returns : tie.Need-returns Inv-loop μ-loop

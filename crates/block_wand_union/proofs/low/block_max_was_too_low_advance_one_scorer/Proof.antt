@@ -24,11 +24,24 @@ use Rattle.block_wand_union.proofs.Slots.{all-unmap, doc-read, first-of
 use Rattle.block_wand_union.proofs.low.block_max_was_too_low_advance_one_scorer.Statement.{statement}
 use Rattle.block_wand_union.proofs.low.block_max_was_too_low_advance_one_scorer.Tie as tie
 
-abbrev start : tie.After-least-last-doc → tie.Start
-start d = d .before .before .before .before
+-- the places that the answers look back to
+abbrev after-seek : tie.After-in-order-arg3 → tie.After-seek
+after-seek c = c .before .before .before
+
+abbrev after-behind : tie.After-least-doc-arg3 → tie.After-behind
+after-behind c = c .before .before
+
+abbrev after-scorer-to-seek : tie.After-doc-arg2 → tie.After-scorer-to-seek
+after-scorer-to-seek c = c .before .before .before
+
+abbrev after-doc : tie.After-seek-arg3 → tie.After-doc
+after-doc c = c .before .before .before
+
+abbrev start : tie.After-least-last-doc-arg2 → tie.Start
+start d = d .before .before .before
 
 abbrev begin : tie.After-least-doc → tie.Start
-begin e = start (e .before .before .before .before .before)
+begin e = start (e .before .before .before .before .before .before)
 
 abbrev first : tie.After-scorer-to-seek → tie.Start
 first f = begin (f .before .before)
@@ -74,24 +87,24 @@ stand-in f =
 
 target-low : (e : tie.After-least-doc) → e .least-doc .result ≤ 2147483647
 target-low e =
-    let b = e .before .before .before in
+    let b = after-behind (e .before) in
     let d = b .before .before in
-    let a = start d in
+    let a = start (d .before) in
     let low = lowest-low (a .args .places .now) 2147483647 (take (a .args .pivot-len) (a .args .order .now)) in
     let last : d .least-last-doc .result ≤ 2147483647 = omega (arith, d .least-last-doc .ensures, low) in
     omega (arith, e .least-doc .ensures (a .args .tops .now), b .behind .ensures, behind-is (d .least-last-doc .result) last .0, least-low (b .behind .result) (drop (a .args .pivot-len) (take (a .args .n) (terms-in a))))
 
 least-last-doc-requires : tie.Need-least-last-doc-requires
 least-last-doc-requires c κs =
-    let a = c .before .before .before in (omega arith, a .pre .4, first-of (LastRead (a .args .places .now)) (a .args .n) (a .args .pivot-len) (a .args .order .now) (a .pre .1) (last-reads _ _ (now a) _ (a .pre .5)))
+    let a = start c in (omega arith, a .pre .4, first-of (LastRead (a .args .places .now)) (a .args .n) (a .args .pivot-len) (a .args .order .now) (a .pre .1) (last-reads _ _ (now a) _ (a .pre .5)))
 
 behind-requires : tie.Need-behind-requires
 behind-requires c κs =
-    let d = c .before in let a = start d in omega (arith, d .least-last-doc .ensures, lowest-low (a .args .places .now) 2147483647 (take (a .args .pivot-len) (a .args .order .now)))
+    let d = c .before in let a = start (d .before) in omega (arith, d .least-last-doc .ensures, lowest-low (a .args .places .now) 2147483647 (take (a .args .pivot-len) (a .args .order .now)))
 
 least-doc-requires : tie.Need-least-doc-requires
 least-doc-requires c κs =
-    let a = start (c .before .before .before .before) in (a .pre .1, a .pre .2, a .pre .4, read a)
+    let d = after-behind c .before .before in let a = start (d .before) in (a .pre .1, a .pre .2, a .pre .4, read a)
 
 scorer-to-seek-requires : tie.Need-scorer-to-seek-requires
 scorer-to-seek-requires c κs =
@@ -106,28 +119,28 @@ element-copy-out-q c = let a = first c in omega (arith, at-in c, a .pre .4)
 
 doc-requires : tie.Need-doc-requires
 doc-requires c κs =
-    let f = c .before .before .before in
+    let f = after-scorer-to-seek c in
     let a = first f in
     let R = all-first (Readable (a .args .places .now)) (a .args .order .now) (a .args .n) (f .scorer-to-seek .result) 0 (omega (arith, at-in f)) (omega (arith, a .pre .4)) (read a) in
     (R .slot-in, R .inside)
 
 seek-requires : tie.Need-seek-requires
 seek-requires c κs =
-    let d = c .before .before .before in
-    let f = d .before .before .before .before in
+    let d = after-doc c in
+    let f = after-scorer-to-seek (d .before) in
     let S = stand-in f in
     (S .slot-in, S .slot, d .doc .ensures ∙ sym (doc-read _ _ Unstepped (now (first f)) _ S), target-low (f .before .before))
 
 in-order-requires : tie.Need-in-order-requires
 in-order-requires c κs =
-    let k = c .before .before .before in
+    let k = after-seek c in
     let f = from-seek k in
     let a = first f in
     (a .pre .2, a .pre .4, a .pre .3, moved-readable _ _ Unstepped (slots a) (f .scorer-to-seek .result) _ _ (a .pre .5) (in-slots f) _ (here f) (k .seek .ensures))
 
 restored-requires : tie.Need-restored-requires
 restored-requires c κs =
-    let k = c .before .before .before .before in
+    let k = after-seek (c .before) in
     let f = from-seek k in
     let a = first f in
     let e = c .in-order .ensures .0 in
@@ -137,17 +150,17 @@ keep-order-requires : tie.Need-keep-order-requires
 keep-order-requires c κs =
     let r = c .before in
     let i = r .before in
-    let a = first (from-seek (i .before .before .before .before)) in
+    let a = first (from-seek (after-seek (i .before))) in
     (omega (arith, r .restored .ensures .0, i .in-order .ensures .0), a .pre .4)
 
 returns : tie.Need-returns
 returns c =
     let r = c .before .before in
     let i = r .before in
-    let k = i .before .before .before .before in
+    let k = after-seek (i .before) in
     let f = from-seek k in
     let e = f .before .before in
-    let b = e .before .before .before in
+    let b = after-behind (e .before) in
     let d = b .before .before in
     let a = first f in
     let R = r .restored .ensures in

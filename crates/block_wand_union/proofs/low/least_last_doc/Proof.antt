@@ -17,6 +17,10 @@ Inv-loop order pivot-len places least₀ i₀ least i =
 abbrev μ-loop : tie.MeasureT-loop
 μ-loop order pivot-len places least₀ i₀ least i = pivot-len - i
 
+-- the places that the answers look back to
+abbrev in-loop : tie.After-last-doc-in-block Inv-loop μ-loop → tie.In-loop Inv-loop μ-loop
+in-loop c = c .before .before
+
 long : (c : tie.In-loop Inv-loop μ-loop) → c .before .before .args .pivot-len ≤ length (c .before .before .args .order .now)
 long c = let a = c .before .before in omega (arith, a .pre .1)
 
@@ -43,14 +47,14 @@ loop-less c = search needs
 
 loop-again : tie.Need-loop-again Inv-loop μ-loop
 loop-again c =
-    let b = c .before .before .before in lowers _ _ _ _ (long b) (b .before .loop .inv) (omega arith) (omega (arith, c .before .last-doc-in-block .ensures))
+    let b = in-loop (c .before) in lowers _ _ _ _ (long b) (b .before .loop .inv) (omega arith) (omega (arith, c .before .last-doc-in-block .ensures))
 
 loop-less-2 : tie.Need-loop-less-2 Inv-loop μ-loop
 loop-less-2 c = search needs
 
 loop-again-2 : tie.Need-loop-again-2 Inv-loop μ-loop
 loop-again-2 c =
-    let b = c .before .before .before in lowers _ _ _ _ (long b) (b .before .loop .inv) (omega arith) (omega (arith, c .before .last-doc-in-block .ensures))
+    let b = in-loop (c .before) in lowers _ _ _ _ (long b) (b .before .loop .inv) (omega arith) (omega (arith, c .before .last-doc-in-block .ensures))
 
 returns : tie.Need-returns Inv-loop μ-loop
 returns c =

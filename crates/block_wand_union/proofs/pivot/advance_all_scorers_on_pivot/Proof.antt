@@ -27,6 +27,16 @@ Inv-loop file lists n pivot-len order places₀ docs₀ freqs₀ i₀ places doc
 abbrev μ-loop : tie.MeasureT-loop
 μ-loop file lists n pivot-len order places₀ docs₀ freqs₀ i₀ places docs freqs i = pivot-len - i
 
+-- the places that the answers look back to
+abbrev loop-of : tie.After-sweep-arg3 Inv-loop μ-loop → tie.At-loop Inv-loop μ-loop
+loop-of c = c .before .before .before .before
+
+abbrev in-loop : tie.After-advance-arg4 Inv-loop μ-loop → tie.In-loop Inv-loop μ-loop
+in-loop c = c .before .before .before .before
+
+abbrev after-sweep : tie.After-sort-by-doc-arg3 Inv-loop μ-loop → tie.After-sweep Inv-loop μ-loop
+after-sweep c = c .before .before .before
+
 abbrev start : tie.At-loop Inv-loop μ-loop → tie.Start Inv-loop μ-loop
 start l = l .before .before
 
@@ -68,7 +78,7 @@ element-copy-out-advance c = search needs
 
 advance-requires : tie.Need-advance-requires Inv-loop μ-loop
 advance-requires c κs =
-    let b = c .before .before .before .before in
+    let b = in-loop c in
     let l = b .before in
     let a = start l in
     let S = l .loop .inv .1 Unstepped in
@@ -83,27 +93,27 @@ loop-less c = search needs
 
 loop-again : tie.Need-loop-again Inv-loop μ-loop
 loop-again c =
-    let b = c .before .before .before .before .before in
+    let b = in-loop (c .before) in
     let l = b .before in
     let a = start l in
     (omega arith, λ s. advances _ _ s (first a) (slots a) (a .pre .3) (l .loop .inv .1 s) (in-slots b) _ (here b) (c .advance .ensures))
 
 sweep-requires : tie.Need-sweep-requires Inv-loop μ-loop
 sweep-requires c κs =
-    let l = c .before .before .before .before in let a = start l in (a .pre .1, a .pre .2, read l)
+    let l = loop-of c in let a = start l in (a .pre .1, a .pre .2, read l)
 
 sort-by-doc-requires : tie.Need-sort-by-doc-requires Inv-loop μ-loop
 sort-by-doc-requires c κs =
-    let w = c .before .before .before in
-    let l = w .before .before .before .before .before in
+    let w = after-sweep c in
+    let l = loop-of (w .before) in
     let a = start l in
     let D = w .sweep .ensures in
     (omega (arith, D .few), D .long, rw (D .are) (kept-all (Readable (l .loop .places)) (sweep-kept (key l) (a .args .n) (slots a)) (read l)))
 
 returns : tie.Need-returns Inv-loop μ-loop
 returns c =
-    let w = c .before .before .before .before in
-    let l = w .before .before .before .before .before in
+    let w = after-sweep (c .before) in
+    let l = loop-of (w .before) in
     let a = start l in
     let D = w .sweep .ensures in
     let E = c .sort-by-doc .ensures in

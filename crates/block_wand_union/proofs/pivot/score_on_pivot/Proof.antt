@@ -27,6 +27,10 @@ Inv-loop file similarity lists caches pivot-len order places₀ docs freqs float
 abbrev μ-loop : tie.MeasureT-loop
 μ-loop file similarity lists caches pivot-len order places₀ docs freqs floats₀ sum₀ i₀ places floats acc i = pivot-len - i
 
+-- the places that the answers look back to
+abbrev in-loop : tie.After-kept-score-arg2 Inv-loop μ-loop → tie.In-loop Inv-loop μ-loop
+in-loop c = c .before .before .before
+
 abbrev start : tie.At-loop Inv-loop μ-loop → tie.Start Inv-loop μ-loop
 start l = l .before .before
 
@@ -60,7 +64,7 @@ element-copy-out-q c = search needs
 
 kept-score-requires : tie.Need-kept-score-requires Inv-loop μ-loop
 kept-score-requires c κs =
-    let b = c .before .before .before in
+    let b = in-loop c in
     let a = start (b .before) in
     let S = seat-in b in
     let U = b .before .loop .inv .2 in
@@ -75,7 +79,7 @@ loop-less c = search needs
 
 loop-again : tie.Need-loop-again Inv-loop μ-loop
 loop-again c =
-    let b = c .before .before .before .before in
+    let b = in-loop (c .before) in
     let a = start (b .before) in
     let S = seat-in b in
     let U = b .before .loop .inv .2 in

@@ -11,8 +11,12 @@ use Rattle.block_wand_union.proofs.Steps.{stands}
 use Rattle.block_wand_union.proofs.turn.hit.Statement.{statement}
 use Rattle.block_wand_union.proofs.turn.hit.Tie as tie
 
-abbrev start : tie.After-score-on-pivot → tie.Start
-start s = s .before .before .before .before .before .before .before
+-- the places that the answers look back to
+abbrev else-of : tie.After-advance-all-scorers-on-pivot-arg4 → tie.Else1
+else-of c = c .before .before .before .before
+
+abbrev start : tie.After-score-on-pivot-arg5 → tie.Start
+start s = s .before .before .before .before .before .before
 
 abbrev now : tie.Start → Held
 now a = held (a .args .places .now) (a .args .docs .now) (a .args .freqs .now)
@@ -22,20 +26,20 @@ terms₀ a = terms (a .args .bar .similarity .scoring) (a .args .caches .now) (a
 
 score-on-pivot-requires : tie.Need-score-on-pivot-requires
 score-on-pivot-requires c κs =
-    let a = c .before .before .before .before .before .before in (omega arith, a .pre .2, a .pre .3, a .pre .4 .rows, a .pre .5)
+    let a = start c in (omega arith, a .pre .2, a .pre .3, a .pre .4 .rows, a .pre .5)
 
 returns : tie.Need-returns
 returns c =
     let s = c .before .before in
-    let a = start s in
+    let a = start (s .before) in
     let E = s .score-on-pivot .ensures in
     hit-due (a .args .file .now) (a .args .lists .now) (terms₀ a) (a .args .bar .threshold) (now a) (a .args .order .now) (a .args .n) (a .args .span .«pivot_len») (a .args .span .«pivot_doc») (a .pre .0)
     (E .0) (E .1) (a .pre .4) (c .if1 .taken) (a .pre .1) (a .pre .3)
 
 advance-all-scorers-on-pivot-requires : tie.Need-advance-all-scorers-on-pivot-requires
 advance-all-scorers-on-pivot-requires c κs =
-    let s = c .before .before .before .before .before .before in
-    let a = start s in
+    let s = else-of c .before .before in
+    let a = start (s .before) in
     let E = s .score-on-pivot .ensures in
     let S = seated₁ (a .args .file .now) (a .args .lists .now) (terms₀ a) (a .args .bar .threshold) (now a) (a .args .order .now) (a .args .n) (a .args .span .«pivot_len») (a .args .span .«pivot_doc») (a .pre .0) (E .0) (E .1) (a .pre .4) in
     (a .pre .0, a .pre .1, a .pre .3, lined (a .args .file .now) (a .args .lists .now) (a .args .bar .similarity .scoring) _ (take (a .args .n) (a .args .order .now)) (stands S) (S .apart), inside-unmoved (E .1) (take (a .args .span .«pivot_len») (a .args .order .now)) (a .pre .5))
@@ -45,9 +49,9 @@ quiet-requires c κs = search needs
 
 returns-2 : tie.Need-returns-2
 returns-2 c =
-    let e = c .before .before .before .before .before .before in
+    let e = else-of (c .before .before) in
     let s = e .before .before in
-    let a = start s in
+    let a = start (s .before) in
     let E = s .score-on-pivot .ensures in
     rw (c .quiet .ensures)
     (hit-quiet (a .args .file .now) (a .args .lists .now) (terms₀ a) (a .args .bar .threshold) (now a) (a .args .order .now) (a .args .n) (a .args .span .«pivot_len») (a .args .span .«pivot_doc») (a .pre .0)

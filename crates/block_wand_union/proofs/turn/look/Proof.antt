@@ -12,23 +12,27 @@ use Rattle.block_wand_union.proofs.Steps.{nowhere, stands}
 use Rattle.block_wand_union.proofs.turn.look.Statement.{statement}
 use Rattle.block_wand_union.proofs.turn.look.Tie as tie
 
-abbrev start : tie.After-find-pivot-doc → tie.Start
-start p = p .before .before .before .before .before
+-- the places that the answers look back to
+abbrev found-of : tie.After-to-pivot-arg5 → tie.After-pivot
+found-of c = c .before .before .before .before .before .before
+
+abbrev start : tie.After-find-pivot-doc-arg3 → tie.Start
+start p = p .before .before .before .before
 
 abbrev now : tie.Start → Held
 now a = held (a .args .places .now) (a .args .docs .now) (a .args .freqs .now)
 
 -- the scorers that were read are those of the slots
-pivot-is : (p : tie.After-find-pivot-doc) → (let a = start p in
+pivot-is : (p : tie.After-find-pivot-doc) → (let a = start (p .before) in
     p .find-pivot-doc .result ≡ pivotOf (a .args .bar .threshold) (termsOf (a .args .file .now) (a .args .lists .now) (a .args .bar .similarity .scoring) (a .args .places .now) (take (a .args .n) (a .args .order .now))))
 pivot-is p =
-    let a = start p in
+    let a = start (p .before) in
     p .find-pivot-doc .ensures
     ∙ ap (pivotOf (a .args .bar .threshold)) (scorers-read (a .args .file .now) (a .args .lists .now) (a .args .bar .similarity .scoring) (now a) (a .args .tops .now) (a .args .n) (a .args .order .now) (stands (a .pre .3 .seated)) (a .pre .2))
 
 find-pivot-doc-requires : tie.Need-find-pivot-doc-requires
 find-pivot-doc-requires c κs =
-    let a = c .before .before .before .before in
+    let a = start c in
     let S = a .pre .3 in
     (S .few, S .room, a .pre .1, readables (a .args .file .now) (a .args .lists .now) (a .args .bar .similarity .scoring) (now a) (take (a .args .n) (a .args .order .now)) (stands (S .seated)))
 
@@ -43,18 +47,19 @@ enum-known-pivot c = search needs
 
 to-pivot-requires : tie.Need-to-pivot-requires
 to-pivot-requires c κs =
-    let k = c .before .before .before .before .before in
-    let p = k .before .before .before in
-    let a = start p in
+    let k = found-of c in
+    let p = k .before .before in
+    let a = start (p .before) in
     let S = a .pre .3 in
-    (a .pre .0, a .pre .1, record { few = S .few; long = S .room; topped = a .pre .2; found = sym (k .before .pivot .given .1) ∙ pivot-is p; seated = S .seated; kept = rw (place-is (a .args .file .now) (a .args .lists .now) (a .args .bar .similarity .scoring) (a .args .places .now) (record { len = a .args .n; stage = Looking }) (a .args .order .now)) (S .kept) })
+    (a .pre .0, a .pre .1, record { few = S .few; long = S .room; topped = a .pre .2; found = sym (k .pivot .given .1) ∙ pivot-is p; seated = S .seated; kept = rw (place-is (a .args .file .now) (a .args .lists .now) (a .args .bar .similarity .scoring) (a .args .places .now) (record { len = a .args .n; stage = Looking }) (a .args .order .now)) (S .kept) })
 
 returns : tie.Need-returns
 returns c =
-    let p = c .before .before .before in
-    let a = start p in
+    let e = c .before in
+    let p = e .before .before in
+    let a = start (p .before) in
     let S = a .pre .3 in
-    rw (c .quiet .ensures) (nowhere (a .args .bar .threshold) (a .args .order .now) (a .args .n) (S .room) (S .seated) (sym (c .before .enum-told .given .1) ∙ pivot-is p))
+    rw (c .quiet .ensures) (nowhere (a .args .bar .threshold) (a .args .order .now) (a .args .n) (S .room) (S .seated) (sym (e .enum-told .given .1) ∙ pivot-is p))
 
 returns-2 : tie.Need-returns-2
 returns-2 c = c .to-pivot .ensures

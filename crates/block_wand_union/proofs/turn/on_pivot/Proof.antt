@@ -12,8 +12,12 @@ use Rattle.term_scorer.specs.Inner.Slots.{held, Held}
 use Rattle.block_wand_union.proofs.turn.on_pivot.Statement.{statement}
 use Rattle.block_wand_union.proofs.turn.on_pivot.Tie as tie
 
-abbrev start : tie.After-align-scorers → tie.Start
-start b = b .before .before .before .before .before .before
+-- the places that the answers look back to
+abbrev then-of : tie.After-hit-arg5 → tie.Then1
+then-of c = c .before .before .before .before .before
+
+abbrev start : tie.After-align-scorers-arg4 → tie.Start
+start b = b .before .before .before .before .before
 
 abbrev now : tie.Start → Held
 now a = held (a .args .places .now) (a .args .docs .now) (a .args .freqs .now)
@@ -27,16 +31,16 @@ at-len a =
 
 align-scorers-requires : tie.Need-align-scorers-requires
 align-scorers-requires c κs =
-    let a = c .before .before .before .before .before in
+    let a = start c in
     let A = a .pre .3 in
     let low = pivot-low (a .args .order .now) (a .args .n) A in
     (at-len a .0, a .pre .0, omega arith, a .pre .2, lined (a .args .file .now) (a .args .lists .now) (a .args .bar .similarity .scoring) (now a) (take (a .args .n) (a .args .order .now)) (stands-at (a .args .order .now) (a .args .n) A) (A .seated .apart))
 
 hit-requires : tie.Need-hit-requires
 hit-requires c κs =
-    let t = c .before .before .before .before .before in
+    let t = then-of c in
     let b = t .before in
-    let a = start b in
+    let a = start (b .before) in
     let A = a .pre .3 in
     let E = b .align-scorers .ensures in
     let O = came-to E (a .args .bar .similarity .scoring) (t .if1 .taken) in
@@ -44,9 +48,9 @@ hit-requires c κs =
 
 returns : tie.Need-returns
 returns c =
-    let t = c .before .before .before .before .before .before in
+    let t = then-of (c .before) in
     let b = t .before in
-    let a = start b in
+    let a = start (b .before) in
     on-hit (a .args .order .now) (a .args .n) (a .pre .3) _ (came-to (b .align-scorers .ensures) (a .args .bar .similarity .scoring) (t .if1 .taken)) (c .hit .ensures)
 
 quiet-requires : tie.Need-quiet-requires
@@ -55,7 +59,7 @@ quiet-requires c κs = search needs
 returns-2 : tie.Need-returns-2
 returns-2 c =
     let b = c .before .before in
-    let a = start b in
+    let a = start (b .before) in
     let E = b .align-scorers .ensures in
     rw (c .quiet .ensures) (miss (a .args .order .now) (a .args .n) (a .pre .3) (a .args .bar .threshold) _ (went-past E (a .args .bar .similarity .scoring) (c .before .if1 .left)) (E .few) (E .long))
 

@@ -5,35 +5,42 @@ use Rattle.block_wand_union.proofs.Steps.{at-pivot, few, first-seated, 
 use Rattle.block_wand_union.proofs.turn.to_pivot.Statement.{statement}
 use Rattle.block_wand_union.proofs.turn.to_pivot.Tie as tie
 
-abbrev start : tie.After-seek-blocks → tie.Start
-start b = b .before .before .before .before .before .before .before
+-- the places that the answers look back to
+abbrev then-of : tie.After-on-pivot-arg5 → tie.Then1
+then-of c = c .before .before .before .before .before
+
+abbrev else-of : tie.After-block-max-was-too-low-advance-one-scorer-arg4 → tie.Else1
+else-of c = c .before .before .before .before
+
+abbrev start : tie.After-seek-blocks-arg5 → tie.Start
+start b = b .before .before .before .before .before .before
 
 seek-blocks-requires : tie.Need-seek-blocks-requires
 seek-blocks-requires c κs =
-    let a = c .before .before .before .before .before .before in
+    let a = start c in
     let P = a .pre .2 in
     (omega (arith, few P, P .few), a .pre .0, P .long, first-seated P)
 
 on-pivot-requires : tie.Need-on-pivot-requires
 on-pivot-requires c κs =
-    let b = c .before .before .before .before .before .before .before in
-    let a = start b in
+    let b = then-of c .before .before in
+    let a = start (b .before) in
     let P = a .pre .2 in
     (P .few, a .pre .0, P .long, at-pivot P (b .seek-blocks .ensures (a .args .n) (few P) (P .seated)))
 
 returns : tie.Need-returns
 returns c =
-    let t = c .before .before .before .before .before .before in
+    let t = then-of (c .before) in
     let b = t .before .before in
-    let a = start b in
+    let a = start (b .before) in
     let P = a .pre .2 in
     high P (b .seek-blocks .ensures (a .args .n) (few P) (P .seated)) (t .if1 .taken) (c .on-pivot .ensures)
 
 block-max-was-too-low-advance-one-scorer-requires :
     tie.Need-block-max-was-too-low-advance-one-scorer-requires
 block-max-was-too-low-advance-one-scorer-requires c κs =
-    let b = c .before .before .before .before .before .before in
-    let a = start b in
+    let b = else-of c .before .before in
+    let a = start (b .before) in
     let P = a .pre .2 in
     (omega (arith, found P .first), few P, P .few, a .pre .1, P .long, lined′ P (b .seek-blocks .ensures (a .args .n) (few P) (P .seated)))
 
@@ -42,9 +49,9 @@ quiet-requires c κs = search needs
 
 returns-2 : tie.Need-returns-2
 returns-2 c =
-    let e = c .before .before .before .before .before .before in
+    let e = else-of (c .before .before) in
     let b = e .before .before in
-    let a = start b in
+    let a = start (b .before) in
     let P = a .pre .2 in
     rw (c .quiet .ensures) (low P (b .seek-blocks .ensures (a .args .n) (few P) (P .seated)) (e .if1 .left) (c .before .block-max-was-too-low-advance-one-scorer .ensures))
 

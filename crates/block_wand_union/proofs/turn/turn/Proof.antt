@@ -9,6 +9,16 @@ use Rattle.block_wand_union.proofs.Steps.{goes-on, on-report, stands, s
 use Rattle.block_wand_union.proofs.turn.turn.Statement.{statement}
 use Rattle.block_wand_union.proofs.turn.turn.Tie as tie
 
+-- the places that the answers look back to
+abbrev start : tie.After-shared-slice-known → tie.Start
+start s = s .before
+
+abbrev looking : tie.After-look-arg5 → tie.After-enum-told
+looking c = c .before .before .before .before .before
+
+abbrev reporting : tie.After-advance-all-scorers-on-pivot-arg4 → tie.After-stage
+reporting c = c .before .before .before .before .before
+
 abbrev now : tie.Start → Held
 now a = held (a .args .places .now) (a .args .docs .now) (a .args .freqs .now)
 
@@ -17,8 +27,8 @@ enum-told c = search needs
 
 look-requires : tie.Need-look-requires
 look-requires c κs =
-    let m = c .before .before .before .before .before in
-    let a = m .before .before .before in
+    let m = looking c in
+    let a = start (m .before .before) in
     (a .pre .0, a .pre .1, a .pre .2, stands-at (a .pre .3) (m .enum-told .given .1))
 
 enum-known-stage : tie.Need-enum-known-stage
@@ -26,10 +36,10 @@ enum-known-stage c = search needs
 
 advance-all-scorers-on-pivot-requires : tie.Need-advance-all-scorers-on-pivot-requires
 advance-all-scorers-on-pivot-requires c κs =
-    let m = c .before .before .before .before in
-    let a = m .before .before .before .before in
+    let m = reporting c in
+    let a = start (m .before .before) in
     let S = a .pre .3 in
-    let R = on-report (a .args .file .now) (a .args .lists .now) (a .args .bar .similarity .scoring) (now a) (a .args .order .now) (a .args .union .len) (kept-at S (m .before .stage .given .1)) in
+    let R = on-report (a .args .file .now) (a .args .lists .now) (a .args .bar .similarity .scoring) (now a) (a .args .order .now) (a .args .union .len) (kept-at S (m .stage .given .1)) in
     (R .0, S .few, S .room, lined (a .args .file .now) (a .args .lists .now) (a .args .bar .similarity .scoring) (now a) (take (a .args .union .len) (a .args .order .now)) (stands (S .seated)) (S .seated .apart), R .1)
 
 quiet-requires : tie.Need-quiet-requires
@@ -43,19 +53,19 @@ quiet-requires-2 c κs = search needs
 
 returns : tie.Need-returns
 returns c =
-    let m = c .before .before .before .before .before .before in rw (m .enum-told .given .1) (c .look .ensures)
+    let m = looking (c .before) in rw (m .enum-told .given .1) (c .look .ensures)
 
 returns-2 : tie.Need-returns-2
 returns-2 c =
-    let m = c .before .before .before .before .before .before in
-    let a = m .before .before .before .before in
+    let m = reporting (c .before .before) in
+    let a = start (m .before .before) in
     let S = a .pre .3 in
-    rw (m .before .stage .given .1, c .quiet .ensures) (goes-on (a .args .bar .threshold) (a .args .order .now) (a .args .union .len) (S .room) (S .seated) (c .before .advance-all-scorers-on-pivot .ensures))
+    rw (m .stage .given .1, c .quiet .ensures) (goes-on (a .args .bar .threshold) (a .args .order .now) (a .args .union .len) (S .room) (S .seated) (c .before .advance-all-scorers-on-pivot .ensures))
 
 returns-3 : tie.Need-returns-3
 returns-3 c =
     let m = c .before in
-    let a = m .before .before .before in
+    let a = start (m .before .before) in
     let S = a .pre .3 in
     rw (m .enum-told2 .given .1, c .quiet2 .ensures) (stays (a .args .bar .threshold) (a .args .order .now) (a .args .union .len) (S .room) (S .seated))
 

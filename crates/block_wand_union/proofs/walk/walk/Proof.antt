@@ -20,14 +20,15 @@ Inv-loop file bar lists caches turns tops order₀ places₀ docs₀ freqs₀ fl
 abbrev μ-loop : tie.MeasureT-loop
 μ-loop file bar lists caches turns tops order₀ places₀ docs₀ freqs₀ floats₀ now₀ taken₀ order places docs freqs floats now taken = turns - taken
 
+-- the places that the answers look back to
 abbrev at-loop : tie.Then1 Inv-loop μ-loop → tie.At-loop Inv-loop μ-loop
 at-loop t = t .before .before
 
 abbrev start : tie.At-loop Inv-loop μ-loop → tie.Start Inv-loop μ-loop
 start l = l .before .before
 
-abbrev else-of : tie.After-turn Inv-loop μ-loop → tie.Else2 Inv-loop μ-loop
-else-of k = k .before .before .before .before .before .before
+abbrev else-of : tie.After-turn-arg5 Inv-loop μ-loop → tie.Else2 Inv-loop μ-loop
+else-of k = k .before .before .before .before .before
 
 -- the route has not ended
 on : (t : tie.Then1 Inv-loop μ-loop) → isOver (stageOf (at-loop t .loop .now .stage)) ≡ false
@@ -54,14 +55,14 @@ returns c =
 
 turn-requires : tie.Need-turn-requires Inv-loop μ-loop
 turn-requires c κs =
-    let e = c .before .before .before .before .before in
+    let e = else-of c in
     let l = at-loop (e .before) in
     let S = l .loop .inv in
     (start l .pre .0, start l .pre .1, S .topped, S .stands)
 
 add-taken : tie.Need-add-taken Inv-loop μ-loop
 add-taken c =
-    let e = else-of (c .before) in omega (arith, room e, start (at-loop (e .before)) .fits .turns)
+    let e = else-of (c .before .before) in omega (arith, room e, start (at-loop (e .before)) .fits .turns)
 
 stopped-requires-2 : tie.Need-stopped-requires-2 Inv-loop μ-loop
 stopped-requires-2 c κs = search needs
@@ -70,17 +71,17 @@ returns-2 : tie.Need-returns-2 Inv-loop μ-loop
 returns-2 c =
     let n = c .before .before in
     let k = n .before in
-    let e = else-of k in
+    let e = else-of (k .before) in
     let S = at-loop (e .before) .loop .inv in
     rw (c .stopped2 .ensures) (stands-on S (on (e .before)) (room e) (k .turn .ensures), reports S (on (e .before)) (room e) (k .turn .ensures) (c .before .if3 .taken))
 
 loop-less : tie.Need-loop-less Inv-loop μ-loop
-loop-less c = omega (arith, room (else-of (c .before .before)))
+loop-less c = let k = c .before .before in omega (arith, room (else-of (k .before)))
 
 loop-again : tie.Need-loop-again Inv-loop μ-loop
 loop-again c =
     let k = c .before .before in
-    let e = else-of k in
+    let e = else-of (k .before) in
     quiet-turn (at-loop (e .before) .loop .inv) (on (e .before)) (room e) (k .turn .ensures) (c .if3 .left)
 
 stopped-requires-3 : tie.Need-stopped-requires-3 Inv-loop μ-loop
