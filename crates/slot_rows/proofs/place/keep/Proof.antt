@@ -8,6 +8,10 @@ use Rattle.slot_rows.specs.Inner.Rows.{flag}
 use Rattle.slot_rows.proofs.place.keep.Statement.{statement}
 use Rattle.slot_rows.proofs.place.keep.Tie as tie
 
+-- the place that the answers look back to
+abbrev joined : tie.After-place → tie.Joined1
+joined c = c .before .before .before
+
 cast-t6 : tie.Need-cast-t6
 cast-t6 c = omega (arith, c .struct-known .given)
 
@@ -19,7 +23,7 @@ loaded-is c = ⊎-elim (λ w. w .1 ∙ ap flag (sym (w .0 .taken))) (λ w. w .1 
 
 returns : tie.Need-returns
 returns c =
-    let j = c .before .before .before in
+    let j = joined c in
     let p = j .before .before .args .p in (
       ap (λ (n : ℕ). p .«skip_reader» .block ∷ p .«skip_reader» .«byte_offset» ∷ p .«skip_reader» .«last_doc_in_previous_block»
           ∷ p .«skip_reader» .«last_doc_in_block» ∷ n ∷ p .decoded ∷ p .cur ∷ 0 ∷ 0 ∷ [])

@@ -10,6 +10,13 @@ use Rattle.slot_rows.proofs.Rows.{previous-small, offset-is, previous-i
 use Rattle.slot_rows.proofs.place.postings_of.Statement.{statement}
 use Rattle.slot_rows.proofs.place.postings_of.Tie as tie
 
+-- the places that the answers look back to
+abbrev start : tie.After-on-arg2 → tie.Start
+start c = c .before .before .before .before
+
+abbrev after-on : tie.After-t21 → tie.After-on
+after-on c = c .before .before .before
+
 element-copy-out-previous : tie.Need-element-copy-out-previous
 element-copy-out-previous c = search needs
 
@@ -24,7 +31,7 @@ element-copy-out-on-2 c = search needs
 
 on-requires : tie.Need-on-requires
 on-requires c κs =
-    let a = c .before .before .before .before in
+    let a = start c in
     let file = a .args .file .now in
     let x = a .args .x in
     let row = a .args .place .now in (
@@ -46,8 +53,8 @@ element-copy-out-t21 c = search needs
 returns : tie.Need-returns
 unfolding postingsIn
 returns c =
-    let o = c .before .before .before in
-    let row = o .before .before .before .before .before .args .place .now in
+    let o = after-on c in
+    let row = start (o .before) .args .place .now in
     ap (λ (r : SkipReader). record { «skip_reader» = r; «block_loaded» = eqb (getD row 4 0) 1; decoded = getD row 5 0; cur = getD row 6 0 }) (o .on .ensures)
 
 pub postings-of-spec : {M : Type 1} → statement M

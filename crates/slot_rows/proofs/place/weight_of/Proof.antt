@@ -7,6 +7,10 @@ use Rattle.slot_rows.specs.Inner.Rows.{partIn}
 use Rattle.slot_rows.proofs.place.weight_of.Statement.{statement}
 use Rattle.slot_rows.proofs.place.weight_of.Tie as tie
 
+-- the place that the answers look back to
+abbrev start : tie.After-t11 → tie.Start
+start c = c .before .before .before
+
 element-copy-out-t6 : tie.Need-element-copy-out-t6
 element-copy-out-t6 c = search needs
 
@@ -25,7 +29,7 @@ cast-t12 c = search needs
 
 float-from-bits-t13 : tie.Need-float-from-bits-t13
 unfolding partIn
-float-from-bits-t13 c = let a = c .before .before .before in average-number (getD (a .args .list .now) 1 0) (a .pre .1 .average)
+float-from-bits-t13 c = let a = start c in average-number (getD (a .args .list .now) 1 0) (a .pre .1 .average)
 
 returns : tie.Need-returns
 unfolding partIn

@@ -9,12 +9,19 @@ use Rattle.slot_rows.proofs.Rows.{cur-inside, advances-in}
 use Rattle.slot_rows.proofs.row.advance.Statement.{statement}
 use Rattle.slot_rows.proofs.row.advance.Tie as tie
 
+-- the places that the answers look back to
+abbrev start : tie.Then1 → tie.Start
+start c = c .before .before .before
+
+abbrev start-of-far : tie.After-advance-far-arg3 → tie.Start
+start-of-far c = c .before .before .before .before .before .before
+
 element-copy-out-cur : tie.Need-element-copy-out-cur
 element-copy-out-cur c = search needs
 
-next-inside : (c : tie.Then1) → getD (c .before .before .before .args .place .now) 6 0 + 1 < 128
+next-inside : (c : tie.Then1) → getD (start c .args .place .now) 6 0 + 1 < 128
 next-inside c =
-    let a = c .before .before .before in
+    let a = start c in
     let k = cur-inside (a .args .file .now) (a .args .list .now) (a .args .place .now) (a .pre .1) (a .pre .2) in
     elim (lt-or-ge (getD (a .args .place .now) 6 0) 127) [
       | inl h ↦ omega arith
@@ -38,11 +45,11 @@ element-copy-out-result c = next-inside c
 
 returns : tie.Need-returns
 returns c =
-    let a = c .before .before .before .before in
+    let a = start (c .before) in
     advances-in (a .args .file .now) (a .args .list .now) (a .args .place .now) (a .pre .1) (a .pre .2) (c .before .if1 .taken)
 
 advance-far-requires : tie.Need-advance-far-requires
-advance-far-requires c κs = c .before .before .before .before .before .before .pre
+advance-far-requires c κs = start-of-far c .pre
 
 returns-2 : tie.Need-returns-2
 returns-2 c = c .advance-far .ensures

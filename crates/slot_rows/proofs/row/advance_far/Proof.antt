@@ -6,6 +6,13 @@ use Rattle.slot_rows.proofs.Rows.{list-for, standing-for, placed-for, b
 use Rattle.slot_rows.proofs.row.advance_far.Statement.{statement}
 use Rattle.slot_rows.proofs.row.advance_far.Tie as tie
 
+-- the places that the answers look back to
+abbrev after-advance : tie.After-doc-arg → tie.After-advance
+after-advance c = c .before .before .before
+
+abbrev after-postings-of : tie.After-advance → tie.After-postings-of
+after-postings-of c = c .before .before .before
+
 part-of-requires : tie.Need-part-of-requires
 part-of-requires c κs = c .before .pre .0
 
@@ -30,13 +37,13 @@ keep-requires : tie.Need-keep-requires
 keep-requires c κs = search needs
 
 doc-requires : tie.Need-doc-requires
-doc-requires c κs = c .before .before .before .advance .ensures .placed .inside
+doc-requires c κs = after-advance c .advance .ensures .placed .inside
 
 returns : tie.Need-returns
 returns c =
     let k = c .before .before in
     let m = k .before .before in
-    let q = m .before .before .before in
+    let q = after-postings-of m in
     let e = q .before .before in
     let a = e .before .before in
     moves (a .args .file .now) (a .args .list .now) (a .args .place .now) (λ l k. advanceIn l 128 k) (e .part-of .ensures) (q .postings-of .ensures) (m .advance .result) (m .advance .ensures) (k .keep .ensures) (c .doc .ensures)

@@ -4,6 +4,13 @@ use Rattle.slot_rows.proofs.Rows.{list-for, standing-for, stands-for, f
 use Rattle.slot_rows.proofs.row.load.Statement.{statement}
 use Rattle.slot_rows.proofs.row.load.Tie as tie
 
+-- the places that the answers look back to
+abbrev start : tie.After-if12 → tie.Start
+start c = c .before .before
+
+abbrev after-postings-of : tie.After-load-block-arg2 → tie.After-postings-of
+after-postings-of c = c .before .before .before
+
 element-copy-out-if1 : tie.Need-element-copy-out-if1
 element-copy-out-if1 c = search needs
 
@@ -15,7 +22,7 @@ element-copy-out-result c = search needs
 
 returns : tie.Need-returns
 returns c =
-    let a = c .before .before .before .before in
+    let a = start (c .before .before) in
     first-in (a .args .file .now) (a .args .list .now) (a .args .place .now) (a .pre .2) (c .before .if1 .taken)
 
 part-of-requires : tie.Need-part-of-requires
@@ -24,14 +31,14 @@ part-of-requires c κs = search needs
 postings-of-requires : tie.Need-postings-of-requires
 postings-of-requires c κs =
     let e = c .before in
-    let a = e .before .before .before .before in
+    let a = start (e .before .before) in
     (list-for (a .args .file .now) (a .args .list .now) (e .part-of .ensures) (a .pre .1) .blocks, standing-for (a .args .file .now) (a .args .list .now) (e .part-of .ensures) (a .args .place .now) (a .pre .2 .standing))
 
 load-block-requires : tie.Need-load-block-requires
 load-block-requires c κs =
-    let q = c .before .before .before in
+    let q = after-postings-of c in
     let e = q .before .before in
-    let a = e .before .before .before .before in
+    let a = start (e .before .before) in
     let file = a .args .file .now in
     (list-for file (a .args .list .now) (e .part-of .ensures) (a .pre .1), stands-for file (a .args .list .now) (a .args .place .now) (λ l k. k) (e .part-of .ensures) (q .postings-of .ensures))
 
@@ -45,9 +52,9 @@ returns-2 : tie.Need-returns-2
 returns-2 c =
     let k = c .before in
     let l = k .before .before in
-    let q = l .before .before .before .before in
+    let q = after-postings-of (l .before) in
     let e = q .before .before in
-    let a = e .before .before .before .before in
+    let a = start (e .before .before) in
     first-loaded (a .args .file .now) (a .args .list .now) (a .args .place .now) (e .part-of .ensures) (q .postings-of .ensures) (a .pre .2) (l .load-block .ensures) (k .keep .ensures)
 
 pub load-spec : {M : Type 1} → statement M

@@ -8,6 +8,13 @@ use Rattle.slot_rows.proofs.Rows.{moved-row}
 use Rattle.slot_rows.proofs.row.open.Statement.{statement}
 use Rattle.slot_rows.proofs.row.open.Tie as tie
 
+-- the places that the answers look back to
+abbrev after-open : tie.After-doc-arg → tie.After-open
+after-open c = c .before .before .before
+
+abbrev start : tie.After-open → tie.Start
+start c = c .before .before .before .before
+
 open-requires : tie.Need-open-requires
 open-requires c κs = search needs
 
@@ -15,13 +22,13 @@ keep-requires : tie.Need-keep-requires
 keep-requires c κs = search needs
 
 doc-requires : tie.Need-doc-requires
-doc-requires c κs = c .before .before .before .«open» .ensures .placed .inside
+doc-requires c κs = after-open c .«open» .ensures .placed .inside
 
 returns : tie.Need-returns
 returns c =
     let k = c .before .before in
     let o = k .before .before in
-    let a = o .before .before .before .before in (
+    let a = start o in (
       moved-row (a .args .file .now) (a .args .x) (o .«open» .result) (k .keep .ensures .1) _ (o .«open» .ensures) (k .keep .ensures .0) (c .doc .ensures),
       ap (λ (z : List ℕ). getD z 7 0) (k .keep .ensures .0),
       ap (λ (z : List ℕ). getD z 8 0) (k .keep .ensures .0),

@@ -7,6 +7,16 @@ use Rattle.slot_rows.proofs.Rows.{cur-inside, seeks-here, seeks-next, s
 use Rattle.slot_rows.proofs.row.seek.Statement.{statement}
 use Rattle.slot_rows.proofs.row.seek.Tie as tie
 
+-- the places that the answers look back to
+abbrev start : tie.After-next-place-arg → tie.Start
+start c = c .before .before .before
+
+abbrev start-of-search : tie.After-search-block-arg → tie.Start
+start-of-search c = c .before .before .before .before .before .before .before .before .before .before .before
+
+abbrev start-of-far : tie.After-seek-far-arg3 → tie.Start
+start-of-far c = c .before .before .before .before .before .before .before .before .before .before .before
+
 returns : tie.Need-returns
 returns c =
     let a = c .before .before in
@@ -17,7 +27,7 @@ element-copy-out-next-place c = search needs
 
 next-place-requires : tie.Need-next-place-requires
 next-place-requires c κs =
-    let a = c .before .before .before in
+    let a = start c in
     cur-inside (a .args .file .now) (a .args .list .now) (a .args .place .now) (a .pre .1) (a .pre .2)
 
 mul-next-doc : tie.Need-mul-next-doc
@@ -32,7 +42,7 @@ element-write-place c = search needs
 returns-2 : tie.Need-returns-2
 returns-2 c =
     let n = c .before .before in
-    let a = n .before .before .before .before in
+    let a = start (n .before) in
     seeks-next (a .args .file .now) (a .args .list .now) (a .args .place .now) (a .pre .1) (a .pre .2) (a .args .target) (a .pre .3) (n .before .before .if1 .left) (n .next-place .ensures) (c .if2 .taken)
 
 element-copy-out-if3 : tie.Need-element-copy-out-if3
@@ -43,7 +53,7 @@ element-copy-out-if4 c = search needs
 
 search-block-requires : tie.Need-search-block-requires
 search-block-requires c κs =
-    let a = c .before .before .before .before .before .before .before .before .before .before .before in
+    let a = start-of-search c in
     decoded-sorted (a .pre .1) (a .pre .2 .placed .holds)
 
 element-write-place-2 : tie.Need-element-write-place-2
@@ -56,7 +66,7 @@ found-in c =
     let o = t .before .before in
     let e = o .before .before in
     let n = e .before .before in
-    let a = n .before .before .before .before in
+    let a = start (n .before) in
     within-inside (a .args .file .now) (a .args .list .now) (a .args .place .now) (a .pre .1) (a .pre .2) (a .args .target) (a .pre .3) (n .before .before .if1 .left) (n .next-place .ensures) (e .if2 .left) (o .if3 .taken) (t .if4 .taken) (c .search-block .ensures)
 
 mul-result : tie.Need-mul-result
@@ -72,12 +82,12 @@ returns-3 c =
     let o = t .before .before in
     let e = o .before .before in
     let n = e .before .before in
-    let a = n .before .before .before .before in
+    let a = start (n .before) in
     seeks-within (a .args .file .now) (a .args .list .now) (a .args .place .now) (a .pre .1) (a .pre .2) (a .args .target) (a .pre .3) (n .before .before .if1 .left) (n .next-place .ensures) (e .if2 .left) (o .if3 .taken) (t .if4 .taken) (s .search-block .ensures)
 
 seek-far-requires : tie.Need-seek-far-requires
 seek-far-requires c κs =
-    let a = c .before .before .before .before .before .before .before .before .before .before .before in
+    let a = start-of-far c in
     (a .pre .0, a .pre .1, a .pre .2, a .pre .4)
 
 returns-4 : tie.Need-returns-4

@@ -8,25 +8,32 @@ use Rattle.slot_rows.proofs.Rows.{keeps-at, stays-shallow, moves-shallo
 use Rattle.slot_rows.proofs.row.seek_block.Statement.{statement}
 use Rattle.slot_rows.proofs.row.seek_block.Tie as tie
 
+-- the places that the answers look back to
+abbrev start : tie.After-if12 → tie.Start
+start c = c .before .before
+
+abbrev after-postings-of : tie.After-keep → tie.After-postings-of
+after-postings-of c = c .before .before .before
+
 element-copy-out-if1 : tie.Need-element-copy-out-if1
 element-copy-out-if1 c = search needs
 
 returns : tie.Need-returns
-returns c = let a = c .before .before .before in stays-shallow (a .args .file .now) (a .args .list .now) (a .args .place .now) (a .pre .1) (a .pre .2) (a .args .target) (c .if1 .taken)
+returns c = let a = start (c .before) in stays-shallow (a .args .file .now) (a .args .list .now) (a .args .place .now) (a .pre .1) (a .pre .2) (a .args .target) (c .if1 .taken)
 
 part-of-requires : tie.Need-part-of-requires
-part-of-requires c κs = c .before .before .before .pre .0
+part-of-requires c κs = start (c .before) .pre .0
 
 postings-of-requires : tie.Need-postings-of-requires
 postings-of-requires c κs =
     let e = c .before in
-    let a = e .before .before .before .before in
+    let a = start (e .before .before) in
     (list-for (a .args .file .now) (a .args .list .now) (e .part-of .ensures) (a .pre .1) .blocks, standing-for (a .args .file .now) (a .args .list .now) (e .part-of .ensures) (a .args .place .now) (a .pre .2))
 
 seek-block-requires : tie.Need-seek-block-requires
 seek-block-requires c κs =
     let e = c .before .before in
-    let a = e .before .before .before .before in
+    let a = start (e .before .before) in
     let file = a .args .file .now in (
       list-for file (a .args .list .now) (e .part-of .ensures) (a .pre .1),
       stands-for file (a .args .list .now) (a .args .place .now) (λ l k. k) (e .part-of .ensures) (c .postings-of .ensures),
@@ -38,9 +45,9 @@ keep-requires c κs = search needs
 
 returns-2 : tie.Need-returns-2
 returns-2 c =
-    let p = c .before .before .before in
+    let p = after-postings-of c in
     let e = p .before .before in
-    let a = e .before .before .before .before in
+    let a = start (e .before .before) in
     let t = a .args .target in
     moves-shallow (a .args .file .now) (a .args .list .now) (a .args .place .now) (λ l k. seekBlockIn l 128 t k) (e .part-of .ensures) (p .postings-of .ensures)
     (λ s. keeps-at (a .args .file .now) (a .args .list .now) (a .args .place .now) (a .pre .1) (a .pre .2) t (listOf s (a .args .file .now) (partIn (a .args .list .now))) (cursorIn (a .args .place .now)))

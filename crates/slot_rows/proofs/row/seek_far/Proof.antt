@@ -5,6 +5,13 @@ use Rattle.slot_rows.proofs.Rows.{list-for, standing-for, placed-for, m
 use Rattle.slot_rows.proofs.row.seek_far.Statement.{statement}
 use Rattle.slot_rows.proofs.row.seek_far.Tie as tie
 
+-- the places that the answers look back to
+abbrev after-seek : tie.After-doc-arg → tie.After-seek
+after-seek c = c .before .before .before
+
+abbrev after-postings-of : tie.After-seek → tie.After-postings-of
+after-postings-of c = c .before .before .before
+
 part-of-requires : tie.Need-part-of-requires
 part-of-requires c κs = c .before .pre .0
 
@@ -29,13 +36,13 @@ keep-requires : tie.Need-keep-requires
 keep-requires c κs = search needs
 
 doc-requires : tie.Need-doc-requires
-doc-requires c κs = c .before .before .before .seek .ensures .placed .inside
+doc-requires c κs = after-seek c .seek .ensures .placed .inside
 
 returns : tie.Need-returns
 returns c =
     let k = c .before .before in
     let m = k .before .before in
-    let q = m .before .before .before in
+    let q = after-postings-of m in
     let e = q .before .before in
     let a = e .before .before in
     moves (a .args .file .now) (a .args .list .now) (a .args .place .now) (λ l k. seekIn l 128 (a .args .target) k) (e .part-of .ensures) (q .postings-of .ensures) (m .seek .result) (m .seek .ensures) (k .keep .ensures) (c .doc .ensures)

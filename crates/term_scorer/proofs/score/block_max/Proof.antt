@@ -7,6 +7,10 @@ use Rattle.term_scorer.proofs.Scores.{bound-cached}
 use Rattle.term_scorer.proofs.score.block_max.Statement.{statement}
 use Rattle.term_scorer.proofs.score.block_max.Tie as tie
 
+-- the place that the answers look back to
+abbrev start : tie.After-cached → tie.Start
+start c = c .before .before .before .before
+
 cached-requires : tie.Need-cached-requires
 cached-requires c κs = search needs
 
@@ -23,7 +27,7 @@ returns : tie.Need-returns
 returns c =
     let k = c .before in
     let f = k .before .before in
-    let a = f .before .before .before .before in
+    let a = start f in
     bound-cached (a .args .similarity .scoring) (a .args .file .now) (a .args .lists .now) (a .args .q) (a .args .places .now) (a .args .bounds .now) (a .pre .4)
     (sym (f .cached .ensures) ∙ k .known .given .1)
 

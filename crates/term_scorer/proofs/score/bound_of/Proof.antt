@@ -9,6 +9,13 @@ use Rattle.term_scorer.proofs.Scores.{full-found, tail-found, weight-in
 use Rattle.term_scorer.proofs.score.bound_of.Statement.{statement}
 use Rattle.term_scorer.proofs.score.bound_of.Tie as tie
 
+-- the places that the answers look back to
+abbrev start : tie.After-part-of → tie.Start
+start c = c .before .before .before
+
+abbrev after-block-max-score : tie.After-struct-known → tie.After-block-max-score
+after-block-max-score c = c .before .before
+
 weight-of-requires : tie.Need-weight-of-requires
 weight-of-requires c κs = search needs
 
@@ -17,7 +24,7 @@ part-of-requires c κs = search needs
 
 postings-of-requires : tie.Need-postings-of-requires
 postings-of-requires c κs =
-    let a = c .before .before .before in
+    let a = start c in
     let file = a .args .file .now in
     let list = a .args .list .now in
     (list-for file list (c .part-of .ensures) (a .pre .2) .blocks, standing-for file list (c .part-of .ensures) (a .args .place .now) (a .pre .3 .standing))
@@ -40,18 +47,18 @@ element-copy-out-if1 c = search needs
 
 returns : tie.Need-returns
 returns c =
-    let m = c .before .before .before in
+    let m = after-block-max-score (c .before) in
     let p = m .before in
     let x = p .before in
-    let a = x .before .before .before in
+    let a = start x in
     full-found (a .args .similarity .scoring) (a .args .file .now) (a .args .list .now) (a .args .place .now) (x .part-of .ensures) (p .postings-of .ensures) (m .block-max-score .ensures) (c .if1 .taken)
 
 returns-2 : tie.Need-returns-2
 returns-2 c =
-    let m = c .before .before .before in
+    let m = after-block-max-score (c .before) in
     let p = m .before in
     let x = p .before in
-    let a = x .before .before .before in
+    let a = start x in
     tail-found (a .args .similarity .scoring) (a .args .file .now) (a .args .list .now) (a .args .place .now) (x .part-of .ensures) (p .postings-of .ensures) (m .block-max-score .ensures) (c .if1 .left)
 
 pub bound-of-spec : {M : Type 1} → statement M

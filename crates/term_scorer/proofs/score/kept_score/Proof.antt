@@ -8,6 +8,16 @@ use Rattle.term_scorer.proofs.Scores.{cur-made, score-made, scores-know
 use Rattle.term_scorer.proofs.score.kept_score.Statement.{statement}
 use Rattle.term_scorer.proofs.score.kept_score.Tie as tie
 
+-- the places that the answers look back to
+abbrev start : tie.Then1 → tie.Start
+start c = c .before .before .before
+
+abbrev then-of : tie.After-score-in → tie.Then1
+then-of c = c .before .before .before
+
+abbrev after-make-scores : tie.After-score-in2 → tie.After-make-scores
+after-make-scores c = c .before .before .before
+
 cur-in : (a : tie.Start) → getD (getD (a .args .places .now) (a .args .q) []) 6 0 < 128
 cur-in a = cur-inside (a .args .file .now) (getD (a .args .lists .now) (a .args .q) []) (getD (a .args .places .now) (a .args .q) []) (a .pre .2 .list) (a .pre .2 .place)
 
@@ -21,12 +31,12 @@ index-2-if1 : tie.Need-index-2-if1
 index-2-if1 c = search needs
 
 score-in-requires : tie.Need-score-in-requires
-score-in-requires c κs = let a = c .before .before .before .before .before in (a .pre .0, cur-in a)
+score-in-requires c κs = let a = start (c .before .before) in (a .pre .0, cur-in a)
 
 returns : tie.Need-returns
 returns c =
-    let t = c .before .before .before in
-    let a = t .before .before .before in
+    let t = then-of c in
+    let a = start t in
     let M = scores-known (a .args .similarity .scoring) (a .args .file .now) (a .args .lists .now) (a .args .q) (a .args .places .now) (a .args .floats .now) (a .pre .4) (t .if1 .taken) (a .pre .5) in
     (score-made (a .pre .0) (a .pre .2 .sixteen .0) (a .pre .2 .place) (a .pre .6) M (c .score-in .ensures), M)
 
@@ -44,7 +54,7 @@ score-in-requires-2 c κs =
 
 returns-2 : tie.Need-returns-2
 returns-2 c =
-    let m = c .before .before .before in
+    let m = after-make-scores c in
     let a = begun m in
     let M = m .make-scores .ensures in
     (score-made (a .pre .0) (a .pre .2 .sixteen .0) (a .pre .2 .place) (a .pre .6) M (c .score-in2 .ensures), M)

@@ -4,6 +4,10 @@ use Rattle.term_scorer.proofs.Scores.{scores-new}
 use Rattle.term_scorer.proofs.score.make_scores.Statement.{statement}
 use Rattle.term_scorer.proofs.score.make_scores.Tie as tie
 
+-- the place that the answers look back to
+abbrev start : tie.After-score-block → tie.Start
+start c = c .before .before .before .before
+
 add-score-block : tie.Need-add-score-block
 add-score-block c = search needs
 
@@ -27,7 +31,7 @@ index-2-places c = search needs
 
 returns : tie.Need-returns
 returns c =
-    let a = c .before .before .before .before in
+    let a = start c in
     scores-new (a .args .similarity .scoring) (a .args .file .now) (a .args .lists .now) (a .args .q) (a .args .places .now) (a .args .floats .now) (a .pre .4) (a .pre .0) (c .score-block .ensures)
 
 pub make-scores-spec : {M : Type 1} → statement M

@@ -4,6 +4,10 @@ use Rattle.term_scorer.proofs.Scores.{bound-new, bound-passing}
 use Rattle.term_scorer.proofs.score.new_block_max.Statement.{statement}
 use Rattle.term_scorer.proofs.score.new_block_max.Tie as tie
 
+-- the place that the answers look back to
+abbrev start : tie.After-bound-of → tie.Start
+start c = c .before .before .before .before .before .before .before
+
 mul-bound-of : tie.Need-mul-bound-of
 mul-bound-of c = search needs
 
@@ -55,13 +59,13 @@ index-2-places c = search needs
 returns : tie.Need-returns
 returns c =
     let f = c .before in
-    let a = f .before .before .before .before .before .before .before in
+    let a = start f in
     bound-new (a .args .similarity .scoring) (a .args .file .now) (a .args .lists .now) (a .args .q) (a .args .places .now) (a .args .bounds .now) (f .bound-of .ensures) (c .if1 .taken)
 
 returns-2 : tie.Need-returns-2
 returns-2 c =
     let f = c .before in
-    let a = f .before .before .before .before .before .before .before in
+    let a = start f in
     bound-passing (a .args .similarity .scoring) (a .args .file .now) (a .args .lists .now) (a .args .q) (a .args .places .now) (a .args .bounds .now) (f .bound-of .ensures) (c .if1 .left)
 
 pub new-block-max-spec : {M : Type 1} → statement M

@@ -5,6 +5,10 @@ use Rattle.term_scorer.proofs.Scores.{block-scores}
 use Rattle.term_scorer.proofs.score.score_block.Statement.{statement}
 use Rattle.term_scorer.proofs.score.score_block.Tie as tie
 
+-- the place that the answers look back to
+abbrev after-weight-in : tie.After-score-block → tie.After-weight-in
+after-weight-in c = c .before .before .before .before
+
 weight-in-requires : tie.Need-weight-in-requires
 weight-in-requires c κs = search needs
 
@@ -25,7 +29,7 @@ score-block-requires c κs = search needs
 
 returns : tie.Need-returns
 returns c =
-    let w = c .before .before .before .before in
+    let w = after-weight-in c in
     let b = w .before in
     let a = b .before in
     let x = partAt (a .args .lists .now) (a .args .q) in (

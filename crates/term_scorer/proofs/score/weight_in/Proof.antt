@@ -7,6 +7,10 @@ use Rattle.term_scorer.proofs.Scores.{weight-in}
 use Rattle.term_scorer.proofs.score.weight_in.Statement.{statement}
 use Rattle.term_scorer.proofs.score.weight_in.Tie as tie
 
+-- the place that the answers look back to
+abbrev start : tie.After-weight-of → tie.Start
+start c = c .before .before .before
+
 mul-weight-of : tie.Need-mul-weight-of
 mul-weight-of c = search needs
 
@@ -24,7 +28,7 @@ weight-of-requires c κs = search needs
 
 returns : tie.Need-returns
 returns c =
-    let a = c .before .before .before in
+    let a = start c in
     weight-in (partAt (a .args .lists .now) (a .args .q)) (getD (a .args .caches .now) (a .args .q) []) (a .pre .3) (c .weight-of .ensures)
 
 pub weight-in-spec : {M : Type 1} → statement M

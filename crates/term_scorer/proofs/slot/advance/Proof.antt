@@ -4,6 +4,10 @@ use Rattle.term_scorer.proofs.Slots.{moved-slot, block-at}
 use Rattle.term_scorer.proofs.slot.advance.Statement.{statement}
 use Rattle.term_scorer.proofs.slot.advance.Tie as tie
 
+-- the place that the answers look back to
+abbrev start : tie.After-advance-arg4 → tie.Start
+start c = c .before .before .before .before .before
+
 mul-advance : tie.Need-mul-advance
 mul-advance c = search needs
 
@@ -29,11 +33,11 @@ index-1-advance-4 : tie.Need-index-1-advance-4
 index-1-advance-4 c = search needs
 
 advance-requires : tie.Need-advance-requires
-advance-requires c κs = let a = c .before .before .before .before .before in (a .pre .1 .part-row, a .pre .1 .list, a .pre .1 .place, block-at (a .args .places .now) (a .args .q) _ (a .pre .2))
+advance-requires c κs = let a = start c in (a .pre .1 .part-row, a .pre .1 .list, a .pre .1 .place, block-at (a .args .places .now) (a .args .q) _ (a .pre .2))
 
 returns : tie.Need-returns
 returns c =
-    let a = c .before .before .before .before .before .before in
+    let a = start (c .before) in
     moved-slot (a .args .file .now) (a .args .lists .now) (a .args .q) (a .pre .0) _ (a .pre .1 .sixteen) (c .advance .ensures)
 
 pub advance-spec : {M : Type 1} → statement M

@@ -4,6 +4,13 @@ use Rattle.term_scorer.proofs.Slots.{opened}
 use Rattle.term_scorer.proofs.slot.open.Statement.{statement}
 use Rattle.term_scorer.proofs.slot.open.Tie as tie
 
+-- the places that the answers look back to
+abbrev after-keep-part : tie.After-open → tie.After-keep-part
+after-keep-part c = c .before .before .before .before
+
+abbrev start : tie.After-keep-part → tie.Start
+start c = c .before .before .before
+
 mul-keep-part : tie.Need-mul-keep-part
 mul-keep-part c = search needs
 
@@ -36,8 +43,8 @@ open-requires c κs = search needs
 
 returns : tie.Need-returns
 returns c =
-    let k = c .before .before .before .before in
-    let a = k .before .before .before in
+    let k = after-keep-part c in
+    let a = start k in
     opened (a .args .file .now) (a .args .x) (a .args .max-score) (a .args .q) (a .pre .0) (a .args .lists .now) (a .pre .2) (k .keep-part .ensures) (a .pre .3, a .pre .4, a .pre .5) (c .«open» .ensures)
 
 pub open-spec : {M : Type 1} → statement M

@@ -4,6 +4,10 @@ use Rattle.term_scorer.proofs.Slots.{moved-slot}
 use Rattle.term_scorer.proofs.slot.seek.Statement.{statement}
 use Rattle.term_scorer.proofs.slot.seek.Tie as tie
 
+-- the place that the answers look back to
+abbrev start : tie.After-seek → tie.Start
+start c = c .before .before .before .before .before .before
+
 mul-seek : tie.Need-mul-seek
 mul-seek c = search needs
 
@@ -33,7 +37,7 @@ seek-requires c κs = search needs
 
 returns : tie.Need-returns
 returns c =
-    let a = c .before .before .before .before .before .before in
+    let a = start c in
     moved-slot (a .args .file .now) (a .args .lists .now) (a .args .q) (a .pre .0) _ (a .pre .1 .sixteen) (c .seek .ensures)
 
 pub seek-spec : {M : Type 1} → statement M

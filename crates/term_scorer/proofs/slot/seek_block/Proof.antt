@@ -4,6 +4,10 @@ use Rattle.term_scorer.proofs.Slots.{shallowed}
 use Rattle.term_scorer.proofs.slot.seek_block.Statement.{statement}
 use Rattle.term_scorer.proofs.slot.seek_block.Tie as tie
 
+-- the place that the answers look back to
+abbrev start : tie.After-seek-block → tie.Start
+start c = c .before .before .before .before
+
 mul-seek-block : tie.Need-mul-seek-block
 mul-seek-block c = search needs
 
@@ -21,7 +25,7 @@ seek-block-requires c κs = search needs
 
 returns : tie.Need-returns
 returns c =
-    let a = c .before .before .before .before in
+    let a = start c in
     shallowed (a .args .file .now) (a .args .lists .now) (a .args .q) (a .pre .0) _ (a .pre .1 .sixteen) (c .seek-block .ensures)
 
 pub seek-block-spec : {M : Type 1} → statement M

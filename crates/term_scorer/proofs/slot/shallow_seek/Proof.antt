@@ -4,6 +4,10 @@ use Rattle.term_scorer.proofs.Slots.{stayed}
 use Rattle.term_scorer.proofs.slot.shallow_seek.Statement.{statement}
 use Rattle.term_scorer.proofs.slot.shallow_seek.Tie as tie
 
+-- the place that the answers look back to
+abbrev start : tie.Then1 → tie.Start
+start c = c .before .before .before
+
 mul-last : tie.Need-mul-last
 mul-last c = search needs
 
@@ -15,7 +19,7 @@ index-2-last c = search needs
 
 returns : tie.Need-returns
 returns c =
-    let a = c .before .before .before in
+    let a = start c in
     stayed (a .args .file .now) (a .args .lists .now) (a .args .q) (a .pre .1) (a .args .target) (c .if1 .taken)
 
 seek-block-requires : tie.Need-seek-block-requires
