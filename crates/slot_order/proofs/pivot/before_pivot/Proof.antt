@@ -21,6 +21,10 @@ Inv-loop order n tops threshold max-score₀ i₀ max-score i =
 abbrev μ-loop : tie.MeasureT-loop
 μ-loop order n tops threshold max-score₀ i₀ max-score i = n - i
 
+-- the place that the answers look back to
+abbrev in-loop : tie.After-max-score2 Inv-loop μ-loop → tie.In-loop Inv-loop μ-loop
+in-loop c = c .before .before
+
 abbrev scorers : tie.Start Inv-loop μ-loop → List (List ℕ) → List (List ℕ) → ℕ → TermScorer
 scorers a places docs = termIn (a .args .tops .now) places docs
 
@@ -44,11 +48,11 @@ mul-max-score-2 : tie.Need-mul-max-score-2 Inv-loop μ-loop
 mul-max-score-2 c = omega (arith, slot-in (c .before))
 
 element-copy-out-max-score-2 : tie.Need-element-copy-out-max-score-2 Inv-loop μ-loop
-element-copy-out-max-score-2 c = let a = c .before .before .before in omega (arith, slot-in (c .before), a .pre .2)
+element-copy-out-max-score-2 c = let b = c .before in let a = b .before .before in omega (arith, slot-in b, a .pre .2)
 
 returns : tie.Need-returns Inv-loop μ-loop
 returns c =
-    let b = c .before .before .before in
+    let b = in-loop (c .before) in
     let a = b .before .before in
     λ places docs. exceeds _ _ _ (long a places docs) (b .before .loop .inv .1 places docs) (omega arith) (rw (map-at (scorers a places docs) (a .args .order .now) (b .before .loop .i) 0 noScorer (omega (arith, a .pre .1))) (c .if1 .taken))
 
@@ -60,7 +64,7 @@ loop-less c = search needs
 
 loop-again : tie.Need-loop-again Inv-loop μ-loop
 loop-again c =
-    let b = c .before .before .before in
+    let b = in-loop (c .before) in
     let a = b .before .before in
     (omega arith, λ places docs. rw (map-at (scorers a places docs) (a .args .order .now) (b .before .loop .i) 0 noScorer (omega (arith, a .pre .1))) at (adds _ _ _ (long a places docs) (b .before .loop .inv .1 places docs) (omega arith) (rw (map-at (scorers a places docs) (a .args .order .now) (b .before .loop .i) 0 noScorer (omega (arith, a .pre .1))) (c .if1 .left))))
 

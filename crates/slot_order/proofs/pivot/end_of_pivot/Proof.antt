@@ -21,6 +21,10 @@ Inv-loop order n from doc places docs i₀ i =
 abbrev μ-loop : tie.MeasureT-loop
 μ-loop order n from doc places docs i₀ i = n - i
 
+-- the place that the answers look back to
+abbrev in-loop : tie.After-doc Inv-loop μ-loop → tie.In-loop Inv-loop μ-loop
+in-loop c = c .before .before
+
 abbrev scorers : tie.Start Inv-loop μ-loop → List Float → ℕ → TermScorer
 scorers a tops = termIn tops (a .args .places .now) (a .args .docs .now)
 
@@ -44,7 +48,7 @@ doc-requires c κs = let R = read (c .before) in (R .slot-in, R .inside)
 
 returns : tie.Need-returns Inv-loop μ-loop
 returns c =
-    let b = c .before .before .before in
+    let b = in-loop (c .before) in
     let a = b .before .before in
     λ tops. leaves _ _ _ _ (long a tops) (b .before .loop .inv .1 tops) (omega arith) (rw (map-at (scorers a tops) (a .args .order .now) (b .before .loop .i) 0 noScorer (omega (arith, a .pre .2))) (λ e. c .if1 .taken (c .before .doc .ensures ∙ e)))
 
@@ -56,7 +60,7 @@ loop-less c = search needs
 
 loop-again : tie.Need-loop-again Inv-loop μ-loop
 loop-again c =
-    let b = c .before .before .before in
+    let b = in-loop (c .before) in
     let a = b .before .before in
     (omega arith, λ tops. runs _ _ _ _ (long a tops) (b .before .loop .inv .1 tops) (omega arith) (rw (map-at (scorers a tops) (a .args .order .now) (b .before .loop .i) 0 noScorer (omega (arith, a .pre .2))) (sym (c .before .doc .ensures) ∙ c .if1 .left)))
 

@@ -17,6 +17,10 @@ use Rattle.slot_order.proofs.Rows.{map-at, read-at, reading}
 use Rattle.slot_order.proofs.pivot.find_pivot_doc.Statement.{statement}
 use Rattle.slot_order.proofs.pivot.find_pivot_doc.Tie as tie
 
+-- the place that the answers look back to
+abbrev else-of : tie.After-doc → tie.Else1
+else-of c = c .before .before
+
 abbrev scorers : tie.Start → List TermScorer
 scorers a = map (termIn (a .args .tops .now) (a .args .places .now) (a .args .docs .now)) (a .args .order .now)
 
@@ -30,9 +34,9 @@ read : (e : tie.Else1) → Readable (e .before .before .args .places .now) (getD
 read e = let a = e .before .before in read-at (a .pre .0) (reading (a .pre .3) (a .pre .1)) (e .before .before-pivot .result) (e .if1 .left)
 
 -- the document at the pivot's place
-here-is : (d : tie.After-doc) → (let b = d .before .before .before in getD (scorers (b .before)) (b .before-pivot .result) noScorer .doc ≡ d .doc .result)
+here-is : (d : tie.After-doc) → (let b = else-of d .before in getD (scorers (b .before)) (b .before-pivot .result) noScorer .doc ≡ d .doc .result)
 here-is d =
-    let b = d .before .before .before in
+    let b = else-of d .before in
     let a = b .before in
     rw (map-at (termIn (a .args .tops .now) (a .args .places .now) (a .args .docs .now)) (a .args .order .now) (b .before-pivot .result) 0 noScorer (omega (arith, a .pre .1))) (sym (d .doc .ensures))
 
@@ -56,7 +60,7 @@ doc-requires c κs = let R = read (c .before) in (R .slot-in, R .inside)
 
 returns-2 : tie.Need-returns-2
 returns-2 c =
-    let e = c .before .before .before in
+    let e = else-of (c .before) in
     let b = e .before in
     let a = b .before in
     finished (a .args .threshold) (scorers a) _ _ (before-is b) (omega arith) (long a) (here-is (c .before) ∙ c .if2 .taken)
@@ -66,7 +70,7 @@ add-end-of-pivot c = search needs
 
 end-of-pivot-requires : tie.Need-end-of-pivot-requires
 end-of-pivot-requires c κs =
-    let e = c .before .before .before in let a = e .before .before in (omega arith, a .pre .0, a .pre .1, a .pre .3)
+    let e = else-of (c .before) in let a = e .before .before in (omega arith, a .pre .0, a .pre .1, a .pre .3)
 
 returns-3 : tie.Need-returns-3
 returns-3 c =

@@ -20,6 +20,10 @@ Inv-loop order len tops at₀ highest₀ i₀ at highest i =
 abbrev μ-loop : tie.MeasureT-loop
 μ-loop order len tops at₀ highest₀ i₀ at highest i = i
 
+-- the places that the answers look back to
+abbrev in-loop : tie.After-max-score2 Inv-loop μ-loop → tie.In-loop Inv-loop μ-loop
+in-loop c = c .before .before
+
 abbrev start : tie.At-loop Inv-loop μ-loop → tie.Start Inv-loop μ-loop
 start l = l .before .before .before
 
@@ -74,7 +78,7 @@ loop-less c = search needs
 
 loop-again : tie.Need-loop-again Inv-loop μ-loop
 loop-again c =
-    let b = c .before .before .before in
+    let b = in-loop (c .before) in
     let a = start (b .before) in
     (omega arith, λ places docs. let e = map-at (scorers a places docs) (a .args .order .now) (b .before .loop .i - 1) 0 noScorer (omega (arith, a .pre .2)) in rw e at (higher _ _ (long a places docs) (b .before .loop .inv .1 places docs) (omega arith) (rw e (c .if1 .taken))))
 
@@ -83,7 +87,7 @@ loop-less-2 c = search needs
 
 loop-again-2 : tie.Need-loop-again-2 Inv-loop μ-loop
 loop-again-2 c =
-    let b = c .before .before .before in
+    let b = in-loop (c .before) in
     let a = start (b .before) in
     (omega arith, λ places docs. let e = map-at (scorers a places docs) (a .args .order .now) (b .before .loop .i - 1) 0 noScorer (omega (arith, a .pre .2)) in lower _ _ (long a places docs) (b .before .loop .inv .1 places docs) (omega arith) (rw e (c .if1 .left)))
 
