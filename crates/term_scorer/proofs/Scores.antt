@@ -151,12 +151,12 @@ module _ (scoring : Scoring) (file : List ℕ) (lists : List (List ℕ)) (q : �
   }
 
   -- the same, by what the slot keeps
-  pub bound-cached : BoundKept scoring file lists places bounds q → {bound : Float} → blockMaxAt places bounds q ≡ Known bound
+  pub bound-cached : BoundKept scoring file lists places bounds q → {bound : Float} {r : BlockMax} → r ≡ blockMaxAt places bounds q → r ≡ Known bound
       → Bounded scoring file lists q places bounds places bounds bound
-  bound-cached B {bound} e =
+  bound-cached B {bound} c e =
       by-test (λ (z : BlockMax). z ≡ Known bound → Bounded scoring file lists q places bounds places bounds bound) (eqb flag 1) (Known (getD bounds q nan)) Unknown
       (λ k f. subst (Bounded scoring file lists q places bounds places bounds) (known-in f) (bound-known (eqb-true flag 1 k) B))
-      (λ _ f. absurd (false≢true (ap isKnown f))) e
+      (λ _ f. absurd (false≢true (ap isKnown f))) (sym c ∙ e)
     where
       isKnown : BlockMax → Bool
       isKnown Unknown = false

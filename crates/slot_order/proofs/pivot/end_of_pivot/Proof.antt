@@ -1,6 +1,6 @@
 -- `pivot::end_of_pivot` meets its contract: each turn passes one more scorer on the document.
 use mathlib.Core.List.{List, [], map}
-use mathlib.Core.Path.{refl, sym, _∙_}
+use mathlib.Core.Path.{refl}
 use Prim.Native.Nat.{ℕ, _-_, _≤_}
 use native.Mathlib.Omega.{arith}
 use lib.Ieee.{Float}
@@ -9,8 +9,8 @@ use borrow.Author.Needs.{needs}
 use Rattle.ordering.specs.Inner.Scorers.{noScorer}
 use Rattle.term_scorer.specs.declared.TermScorer.{TermScorer}
 use Rattle.ordering.proofs.Pivoting.{Running, leaves, runs, runs-out}
-use Rattle.slot_order.specs.Inner.Rows.{Readable, termIn}
-use Rattle.slot_order.proofs.Rows.{map-at, read-at, reading}
+use Rattle.slot_order.specs.Inner.Rows.{Readable, termIn, docAt}
+use Rattle.slot_order.proofs.Rows.{map-at, read-at, reading, read-is, read-not}
 use Rattle.slot_order.proofs.pivot.end_of_pivot.Statement.{statement}
 use Rattle.slot_order.proofs.pivot.end_of_pivot.Tie as tie
 
@@ -50,7 +50,7 @@ returns : tie.Need-returns Inv-loop μ-loop
 returns c =
     let b = in-loop (c .before) in
     let a = b .before .before in
-    λ tops. leaves _ _ _ _ (long a tops) (b .before .loop .inv .1 tops) (omega arith) (rw (map-at (scorers a tops) (a .args .order .now) (b .before .loop .i) 0 noScorer (omega (arith, a .pre .2))) (λ e. c .if1 .taken (c .before .doc .ensures ∙ e)))
+    λ tops. leaves _ _ _ _ (long a tops) (b .before .loop .inv .1 tops) (omega arith) (rw (map-at (scorers a tops) (a .args .order .now) (b .before .loop .i) 0 noScorer (omega (arith, a .pre .2))) (read-not (docAt (a .args .places .now) (a .args .docs .now) (getD (a .args .order .now) (b .before .loop .i) 0)) (c .before .doc .ensures) (c .if1 .taken)))
 
 add-i : tie.Need-add-i Inv-loop μ-loop
 add-i c = search needs
@@ -62,7 +62,7 @@ loop-again : tie.Need-loop-again Inv-loop μ-loop
 loop-again c =
     let b = in-loop (c .before) in
     let a = b .before .before in
-    (omega arith, λ tops. runs _ _ _ _ (long a tops) (b .before .loop .inv .1 tops) (omega arith) (rw (map-at (scorers a tops) (a .args .order .now) (b .before .loop .i) 0 noScorer (omega (arith, a .pre .2))) (sym (c .before .doc .ensures) ∙ c .if1 .left)))
+    (omega arith, λ tops. runs _ _ _ _ (long a tops) (b .before .loop .inv .1 tops) (omega arith) (rw (map-at (scorers a tops) (a .args .order .now) (b .before .loop .i) 0 noScorer (omega (arith, a .pre .2))) (read-is (docAt (a .args .places .now) (a .args .docs .now) (getD (a .args .order .now) (b .before .loop .i) 0)) (c .before .doc .ensures) (c .if1 .left))))
 
 returns-2 : tie.Need-returns-2 Inv-loop μ-loop
 returns-2 c =

@@ -12,7 +12,7 @@ use Rattle.ordering.specs.Inner.Scorers.{noScorer}
 use Rattle.ordering.specs.declared.Pivot.the-variants.{At}
 use Rattle.term_scorer.specs.declared.TermScorer.{TermScorer}
 use Rattle.ordering.proofs.Pivoting.{none-exceeds, finished, found}
-use Rattle.slot_order.specs.Inner.Rows.{Readable, termIn}
+use Rattle.slot_order.specs.Inner.Rows.{Readable, termIn, docAt}
 use Rattle.slot_order.proofs.Rows.{map-at, read-at, reading}
 use Rattle.slot_order.proofs.pivot.find_pivot_doc.Statement.{statement}
 use Rattle.slot_order.proofs.pivot.find_pivot_doc.Tie as tie
@@ -38,7 +38,7 @@ here-is : (d : tie.After-doc) → (let b = else-of d .before in getD (scorers (b
 here-is d =
     let b = else-of d .before in
     let a = b .before in
-    rw (map-at (termIn (a .args .tops .now) (a .args .places .now) (a .args .docs .now)) (a .args .order .now) (b .before-pivot .result) 0 noScorer (omega (arith, a .pre .1))) (sym (d .doc .ensures))
+    rw (map-at (termIn (a .args .tops .now) (a .args .places .now) (a .args .docs .now)) (a .args .order .now) (b .before-pivot .result) 0 noScorer (omega (arith, a .pre .1))) (sym {b = docAt (a .args .places .now) (a .args .docs .now) (getD (a .args .order .now) (b .before-pivot .result) 0)} (d .doc .ensures))
 
 before-pivot-requires : tie.Need-before-pivot-requires
 before-pivot-requires c κs =

@@ -7,7 +7,7 @@ use lib.Ieee.{nan}
 use lib.ListN.{getD, length-set, take}
 use borrow.Author.Needs.{needs}
 use Rattle.term_scorer.specs.Inner.Slots.{Sixteen}
-use Rattle.slot_order.specs.Inner.Rows.{Readable, termIn}
+use Rattle.slot_order.specs.Inner.Rows.{Readable, termIn, docAt}
 use Rattle.slot_order.proofs.Rows.{fills, read-at, reading}
 use Rattle.slot_order.proofs.structs.in_order.Statement.{statement}
 use Rattle.slot_order.proofs.structs.in_order.Tie as tie
@@ -63,7 +63,7 @@ loop-again c =
       omega arith,
       length-set (l .loop .out) (l .loop .i) _ ∙ l .loop .inv .1,
       fills (termIn (a .args .tops .now) (a .args .places .now) (a .args .docs .now)) (a .args .order .now) (l .loop .out) (l .loop .i) 0 (omega (arith, a .pre .1)) (omega (arith, l .loop .inv .1)) (l .loop .inv .2)
-          (ap (λ (x : ℕ). record { doc = x; «max_score» = getD (a .args .tops .now) q nan; slot = q }) (d .doc .ensures)),
+          (ap (λ (x : ℕ). record { doc = x; «max_score» = getD (a .args .tops .now) q nan; slot = q }) {y = docAt (a .args .places .now) (a .args .docs .now) q} (d .doc .ensures)),
     )
 
 returns : tie.Need-returns Inv-loop μ-loop

@@ -1,7 +1,5 @@
 -- `score::block_max` meets its contract: a known bound is the one kept, another is worked out.
 use mathlib.Core.List.{[]}
-use mathlib.Core.Path.{_≡_, sym, _∙_}
-use lib.ListN.{getD}
 use borrow.Author.Needs.{needs}
 use Rattle.term_scorer.proofs.Scores.{bound-cached}
 use Rattle.term_scorer.proofs.score.block_max.Statement.{statement}
@@ -28,8 +26,7 @@ returns c =
     let k = c .before in
     let f = k .before .before in
     let a = start f in
-    bound-cached (a .args .similarity .scoring) (a .args .file .now) (a .args .lists .now) (a .args .q) (a .args .places .now) (a .args .bounds .now) (a .pre .4)
-    (sym (f .cached .ensures) ∙ k .known .given .1)
+    bound-cached (a .args .similarity .scoring) (a .args .file .now) (a .args .lists .now) (a .args .q) (a .args .places .now) (a .args .bounds .now) (a .pre .4) (f .cached .ensures) (k .known .given .1)
 
 returns-2 : tie.Need-returns-2
 returns-2 c = c .new-block-max .ensures

@@ -1,7 +1,8 @@
 -- `score::kept_score` meets its contract: the block's scores are made, before or now, and the one at the scorer's place is read.
-use mathlib.Core.List.{[]}
-use Prim.Native.Nat.{_<_}
+use mathlib.Core.List.{[], List}
+use Prim.Native.Nat.{_<_, ℕ}
 use lib.ListN.{getD}
+use lib.Ieee.{Float}
 use borrow.Author.Needs.{needs}
 use Rattle.slot_rows.proofs.Rows.{cur-inside}
 use Rattle.term_scorer.proofs.Scores.{cur-made, score-made, scores-known}
@@ -17,6 +18,16 @@ then-of c = c .before .before .before
 
 abbrev after-make-scores : tie.After-score-in2 → tie.After-make-scores
 after-make-scores c = c .before .before .before
+
+abbrev begun : tie.After-make-scores → tie.Start
+begun m = m .before .before .before .before .before .before
+
+-- the places and the floats that the making left
+abbrev places′ : tie.After-make-scores → List (List ℕ)
+places′ m = m .make-scores .last .1 .1 .1 .1 .1 .0
+
+abbrev floats′ : tie.After-make-scores → List (List Float)
+floats′ m = m .make-scores .last .1 .1 .1 .1 .1 .1 .1 .1 .0
 
 cur-in : (a : tie.Start) → getD (getD (a .args .places .now) (a .args .q) []) 6 0 < 128
 cur-in a = cur-inside (a .args .file .now) (getD (a .args .lists .now) (a .args .q) []) (getD (a .args .places .now) (a .args .q) []) (a .pre .2 .list) (a .pre .2 .place)
@@ -43,21 +54,18 @@ returns c =
 make-scores-requires : tie.Need-make-scores-requires
 make-scores-requires c κs = search needs
 
-abbrev begun : tie.After-make-scores → tie.Start
-begun m = m .before .before .before .before .before .before
-
 score-in-requires-2 : tie.Need-score-in-requires-2
 score-in-requires-2 c κs =
     let m = c .before .before in
     let a = begun m in
-    (a .pre .0, rw (cur-made (a .pre .0) (a .pre .2 .sixteen .0) (m .make-scores .ensures)) (cur-in a))
+    (a .pre .0, rw (cur-made {places = a .args .places .now} {places′ = places′ m} {floats = a .args .floats .now} {floats′ = floats′ m} (a .pre .0) (a .pre .2 .sixteen .0) (m .make-scores .ensures)) (cur-in a))
 
 returns-2 : tie.Need-returns-2
 returns-2 c =
     let m = after-make-scores c in
     let a = begun m in
     let M = m .make-scores .ensures in
-    (score-made (a .pre .0) (a .pre .2 .sixteen .0) (a .pre .2 .place) (a .pre .6) M (c .score-in2 .ensures), M)
+    (score-made {lists = a .args .lists .now} {places = a .args .places .now} {places′ = places′ m} {floats = a .args .floats .now} {floats′ = floats′ m} (a .pre .0) (a .pre .2 .sixteen .0) (a .pre .2 .place) (a .pre .6) M (c .score-in2 .ensures), M)
 
 pub kept-score-spec : {M : Type 1} → statement M
 kept-score-spec =

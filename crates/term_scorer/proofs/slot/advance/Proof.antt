@@ -1,5 +1,7 @@
 -- `slot::advance` meets its contract: the row of its slot moves, and the other slots stay.
 use borrow.Author.Needs.{needs}
+use Rattle.route.specs.Cursor.{advanceIn}
+use Rattle.term_scorer.specs.Inner.Slots.{cursorAt, listAt}
 use Rattle.term_scorer.proofs.Slots.{moved-slot, block-at}
 use Rattle.term_scorer.proofs.slot.advance.Statement.{statement}
 use Rattle.term_scorer.proofs.slot.advance.Tie as tie
@@ -38,7 +40,7 @@ advance-requires c κs = let a = start c in (a .pre .1 .part-row, a .pre .1 .lis
 returns : tie.Need-returns
 returns c =
     let a = start (c .before) in
-    moved-slot (a .args .file .now) (a .args .lists .now) (a .args .q) (a .pre .0) _ (a .pre .1 .sixteen) (c .advance .ensures)
+    moved-slot (a .args .file .now) (a .args .lists .now) (a .args .q) (a .pre .0) (λ s. advanceIn (listAt s (a .args .file .now) (a .args .lists .now) (a .args .q)) 128 (cursorAt (a .args .places .now) (a .args .q))) (a .pre .1 .sixteen) (c .advance .ensures)
 
 pub advance-spec : {M : Type 1} → statement M
 advance-spec =

@@ -1,5 +1,7 @@
 -- `slot::seek` meets its contract: the row of its slot moves, and the other slots stay.
 use borrow.Author.Needs.{needs}
+use Rattle.route.specs.Cursor.{seekIn}
+use Rattle.term_scorer.specs.Inner.Slots.{cursorAt, listAt}
 use Rattle.term_scorer.proofs.Slots.{moved-slot}
 use Rattle.term_scorer.proofs.slot.seek.Statement.{statement}
 use Rattle.term_scorer.proofs.slot.seek.Tie as tie
@@ -38,7 +40,7 @@ seek-requires c κs = search needs
 returns : tie.Need-returns
 returns c =
     let a = start c in
-    moved-slot (a .args .file .now) (a .args .lists .now) (a .args .q) (a .pre .0) _ (a .pre .1 .sixteen) (c .seek .ensures)
+    moved-slot (a .args .file .now) (a .args .lists .now) (a .args .q) (a .pre .0) (λ s. seekIn (listAt s (a .args .file .now) (a .args .lists .now) (a .args .q)) 128 (a .args .target) (cursorAt (a .args .places .now) (a .args .q))) (a .pre .1 .sixteen) (c .seek .ensures)
 
 pub seek-spec : {M : Type 1} → statement M
 seek-spec =

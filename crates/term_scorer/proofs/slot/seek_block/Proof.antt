@@ -1,5 +1,7 @@
 -- `slot::seek_block` meets its contract: the row of its slot moves, and the other slots stay.
 use borrow.Author.Needs.{needs}
+use Rattle.route.specs.Cursor.{seekBlockIn}
+use Rattle.term_scorer.specs.Inner.Slots.{cursorAt, listAt}
 use Rattle.term_scorer.proofs.Slots.{shallowed}
 use Rattle.term_scorer.proofs.slot.seek_block.Statement.{statement}
 use Rattle.term_scorer.proofs.slot.seek_block.Tie as tie
@@ -26,7 +28,7 @@ seek-block-requires c κs = search needs
 returns : tie.Need-returns
 returns c =
     let a = start c in
-    shallowed (a .args .file .now) (a .args .lists .now) (a .args .q) (a .pre .0) _ (a .pre .1 .sixteen) (c .seek-block .ensures)
+    shallowed (a .args .file .now) (a .args .lists .now) (a .args .q) (a .pre .0) (λ s. seekBlockIn (listAt s (a .args .file .now) (a .args .lists .now) (a .args .q)) 128 (a .args .target) (cursorAt (a .args .places .now) (a .args .q))) (a .pre .1 .sixteen) (c .seek-block .ensures)
 
 pub seek-block-spec : {M : Type 1} → statement M
 seek-block-spec =
