@@ -7,7 +7,6 @@ use native.Mathlib.Omega.{arith}
 use lib.ListN.{drop, getD, length, length-map, set, take}
 use lib.Seq.{drop-cons, take-suc}
 use lib.Ieee.{Float}
-use Rattle.arrays.specs.Every.{All}
 use Rattle.route.specs.Score.{sum}
 use Rattle.route.specs.Cursor.{Cursor, advanceIn}
 use Rattle.route.specs.F32.{f32}
@@ -28,7 +27,7 @@ use Rattle.notefile.specs.Lists.{fullBlocks}
 use Rattle.term_scorer.specs.Inner.Slots.{cursorAt, Held, listAt, partAt, MovedSlot}
 use Rattle.slot_order.specs.Inner.Rows.{docAt}
 use Rattle.slot_order.proofs.Rows.{map-at}
-use Rattle.block_wand_union.specs.Inner.Seats.{Carried, Inside, Lined, Stand, scorerAt, slotScorer, termAt, termsOf}
+use Rattle.block_wand_union.specs.Inner.Seats.{Carried, Inside, Lined, Stand, scorerAt, termAt, termsOf}
 use Rattle.block_wand_union.specs.Inner.Moves.{Advanced}
 use Rattle.block_wand_union.proofs.Seats.{carried-kept, carried-move, carried-refl, carried-trans, same-doc, same-off, scorer-is}
 use Rattle.block_wand_union.proofs.Slots.{onDoc, same-keys, terms-move}
@@ -42,6 +41,10 @@ scored-next f qs i h {acc} {x} e k =
     ap (λ (z : Float). f32 .add z x) e ∙ ap (f32 .add (sum f32 (map scoreHere (map f (take i qs))))) k
     ∙ sym (sum-snoc (map scoreHere (map f (take i qs))) (f32 .nil) (scoreHere (f q)))
     ∙ sym (rw (add-one, take-suc qs i 0 h, map-append f (take i qs) (q ∷ []), map-append scoreHere (map f (take i qs)) (f q ∷ [])))
+
+-- a row that was swept, then sorted
+pub swept-sorted : (key : ℕ → ℕ) (n : ℕ) (qs : List ℕ) {left rs : List ℕ} → rs ≡ sortBy key left → left ≡ sweep key n qs → rs ≡ sortBy key (sweep key n qs)
+swept-sorted key n qs e d = e ∙ ap (sortBy key) d
 
 module _ (file : List ℕ) (lists : List (List ℕ)) (s : Scoring) (h : Held) (qs : List ℕ) where
   abbrev at : Held → List TermScorer

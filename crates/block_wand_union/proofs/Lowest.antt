@@ -5,6 +5,7 @@ use Prim.Native.Nat.{min, ℕ, _+_, _<_, _≤_}
 use native.Mathlib.Numerals.{add-one}
 use native.Mathlib.Omega.{arith}
 use lib.ListN.{drop, getD, length, length-map, length-take, set, take}
+use lib.Seq.{take-take}
 use lib.Ieee.{Float}
 use Rattle.arrays.specs.Every.{All}
 use Rattle.route.specs.Postings.{TERMINATED}
@@ -34,7 +35,7 @@ use Rattle.slot_order.proofs.Rows.{map-at}
 use Rattle.block_wand_union.specs.Inner.Seats.{Carried, Lined, Stand, TopIs, scorerAt, termAt, termsOf}
 use Rattle.block_wand_union.specs.Inner.Moves.{LastRead, OneOn, leastLastOf}
 use Rattle.block_wand_union.proofs.Seats.{carried-kept, carried-move, carried-trans, fair, moved-stand, same-doc, same-off, scorer-is}
-use Rattle.block_wand_union.proofs.Slots.{all-unmap, of-slots, onDoc, own-slots, own-tops, readables, slots-of, terms-move, terms-read}
+use Rattle.block_wand_union.proofs.Slots.{all-unmap, of-slots, onDoc, own-slots, own-tops, readables, scorers-read, slots-of, terms-move, terms-read}
 
 -- ---- `least_last_doc`'s loop
 
@@ -107,6 +108,27 @@ module _ (file : List ℕ) (lists : List (List ℕ)) (h : Held) where
 
 pub seeks-inside : (l : List TermScorer) (len at : ℕ) → at ≡ placeToSeek (take len l) → 0 < len → len ≤ length l → at < len
 seeks-inside l len at e pos long = omega (arith, seek-inside (take len l) (omega (arith, length-take len l)), length-take len l)
+
+-- what is read of the tables is of the scorers there: the place that seeks, and the least document
+module _ (file : List ℕ) (lists : List (List ℕ)) (s : Scoring) (h : Held) (tops : List Float) (order : List ℕ) {n len : ℕ} (few : len ≤ n)
+    (stands : All (Stand file lists h) (termsOf file lists s (h .places) (take n order))) (right : All (TopIs file lists s tops) (take n order)) where
+  abbrev read : List TermScorer
+  read = map (termIn tops (h .places) (h .docs)) order
+
+  abbrev stood : List TermScorer
+  stood = termsOf file lists s (h .places) (take n order)
+
+  read-is : take n read ≡ stood
+  read-is = scorers-read file lists s h tops n order stands right
+
+  pub place-read : {at : ℕ} → at ≡ placeToSeek (take len read) → at ≡ placeToSeek (take len stood)
+  place-read e = e ∙ ap placeToSeek (sym (take-take len n read few) ∙ ap (take len) read-is)
+
+  pub least-read : {d from last : ℕ} → d ≡ leastDocOf from (drop len (take n read)) → from ≡ behind last → last ≡ leastLastOf (h .places) 2147483647 (take len order)
+      → d ≡ leastDocOf (behind (leastLastOf (h .places) 2147483647 (take len (take n order)))) (drop len stood)
+  least-read {d} {from} e b l =
+      e ∙ ap (λ z. leastDocOf from (drop len z)) read-is
+      ∙ ap (λ (z : ℕ). leastDocOf z (drop len stood)) (b ∙ ap behind (l ∙ ap (leastLastOf (h .places) 2147483647) (sym (take-take len n order few))))
 
 module _ (file : List ℕ) (lists : List (List ℕ)) (s : Scoring) (qs : List ℕ) (at d doc : ℕ) where
   abbrev here : Held → List TermScorer

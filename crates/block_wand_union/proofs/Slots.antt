@@ -10,6 +10,8 @@ use Rattle.arrays.specs.Every.{All}
 use Rattle.route.specs.Cursor.{Cursor}
 use Rattle.route.proofs.Lists.{all-imp, all-map}
 use Rattle.bm25.specs.declared.Scoring.{Scoring}
+use Rattle.ordering.specs.declared.Pivot.{Pivot}
+use Rattle.ordering.specs.Inner.Pivots.{pivotOf}
 use Rattle.ordering.specs.Inner.Scorers.{Apart, byDoc, slotOf}
 use Rattle.term_scorer.specs.declared.TermScorer.{TermScorer}
 use Rattle.ordering.proofs.Carried.{SameKey}
@@ -57,9 +59,13 @@ module _ (file : List ℕ) (lists : List (List ℕ)) where
   readables s h (q ∷ qs) a = (readable s h q (a .0), readables s h qs (a .1))
 
   -- the document that is read is the place's
-  pub doc-read : (s : Scoring) (h : Held) (q : ℕ) → Stand file lists h (term s h q)
+  doc-read : (s : Scoring) (h : Held) (q : ℕ) → Stand file lists h (term s h q)
       → docIn file (partAt lists q) (cursorAt (h .places) q .at) ≡ docAt (h .places) (h .docs) q
   doc-read s h q S = doc-in-array file (getD lists q []) (getD (h .places) q []) (S .slot .list) (S .slot .place)
+
+  pub doc-known : (s : Scoring) (h : Held) (q : ℕ) → Stand file lists h (term s h q) → {d : ℕ} → d ≡ docAt (h .places) (h .docs) q
+      → d ≡ docIn file (partAt lists q) (cursorAt (h .places) q .at)
+  doc-known s h q S e = e ∙ sym (doc-read s h q S)
 
   pub same-keys : (s : Scoring) (h : Held) (qs : List ℕ) → All (Stand file lists h) (here s h qs)
       → All (SameKey (docAt (h .places) (h .docs)) byDoc (term s h)) qs
@@ -80,6 +86,11 @@ module _ (file : List ℕ) (lists : List (List ℕ)) where
   pub scorers-read : (s : Scoring) (h : Held) (tops : List Float) (n : ℕ) (order : List ℕ) → All (Stand file lists h) (here s h (take n order)) → All (TopIs file lists s tops) (take n order)
       → take n (map (termIn tops (h .places) (h .docs)) order) ≡ here s h (take n order)
   scorers-read s h tops n order a b = sym (map-take (termIn tops (h .places) (h .docs)) n order) ∙ terms-read s h tops (take n order) a b
+
+  -- so the pivot is theirs
+  pub pivot-read : (t : Float) (s : Scoring) (h : Held) (tops : List Float) (n : ℕ) (order : List ℕ) → All (Stand file lists h) (here s h (take n order)) → All (TopIs file lists s tops) (take n order)
+      → {p : Pivot} → p ≡ pivotOf t (take n (map (termIn tops (h .places) (h .docs)) order)) → p ≡ pivotOf t (here s h (take n order))
+  pivot-read t s h tops n order a b e = e ∙ ap (pivotOf t) (scorers-read s h tops n order a b)
 
   -- the scorers of slots are those of their own slots, with their own list bounds
   pub own-slots : (s : Scoring) (h : Held) (qs : List ℕ) → All (λ t. term s h (t .slot) ≡ t) (here s h qs)

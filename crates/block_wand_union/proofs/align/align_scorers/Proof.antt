@@ -1,7 +1,7 @@
 -- `align::align_scorers` meets its contract: each turn one scorer seeks the pivot in its slot, which is one step of the route's alignment; a miss is put back.
 use mathlib.Core.Bool.{true≢false}
 use mathlib.Core.List.{List}
-use mathlib.Core.Path.{_≡_, ap, refl, subst, sym, _∙_}
+use mathlib.Core.Path.{_≡_, ap, refl, subst, sym}
 use Prim.Native.Nat.{ℕ, _-_, _<_, _≤_}
 use native.Mathlib.Omega.{arith}
 use lib.ListN.{getD, length, length-take, take}
@@ -12,7 +12,7 @@ use Rattle.bm25.specs.declared.Scoring.the-variants.{Unstepped}
 use Rattle.term_scorer.specs.Inner.Slots.{held, Held, Sixteen}
 use Rattle.block_wand_union.specs.Inner.Seats.{Lined, Stand, termAt}
 use Rattle.block_wand_union.proofs.Alignments.{Seeking, all-on, goes-past, seeking, seeks, stand-before, still-readable}
-use Rattle.block_wand_union.proofs.Slots.{doc-read, readable}
+use Rattle.block_wand_union.proofs.Slots.{doc-known, readable}
 use Rattle.block_wand_union.proofs.align.align_scorers.Statement.{statement}
 use Rattle.block_wand_union.proofs.align.align_scorers.Tie as tie
 
@@ -47,6 +47,10 @@ slots l = take (start l .args .n) (l .loop .order)
 
 abbrev now : tie.In-loop Inv-loop μ-loop → Held
 now b = held (b .before .loop .places) (b .before .loop .docs) (b .before .loop .freqs)
+
+-- the slots that a seek left
+abbrev sought : tie.After-seek Inv-loop μ-loop → Held
+sought k = let l = k .seek .last .1 .1 .1 .1 .1 in held (l .0) (l .1 .0) (l .1 .1 .0)
 
 sixteen : (l : tie.At-loop Inv-loop μ-loop) → Sixteen (l .loop .order)
 sixteen l = subst Sixteen (sym (l .loop .inv .1)) (start l .pre .3)
@@ -88,14 +92,14 @@ seek-requires c κs =
     let d = after-doc c in
     let b = read-in (d .before) in
     let S = stand-in b in
-    (S .slot-in, S .slot, d .doc .ensures ∙ sym (doc-read _ _ Unstepped (now b) _ S), start (b .before) .pre .2)
+    (S .slot-in, S .slot, doc-known _ _ Unstepped (now b) _ S (d .doc .ensures), start (b .before) .pre .2)
 
 put-back-requires : tie.Need-put-back-requires Inv-loop μ-loop
 put-back-requires c κs =
     let k = then-of c .before in
     let b = in-loop k in
     let a = start (b .before) in
-    (omega arith, a .pre .1, sixteen (b .before), still-readable _ _ _ Unstepped (first a) (slots (b .before)) _ (lined (b .before)) (inside (b .before)) (b .before .loop .inv .2 Unstepped) (omega arith) _ (here b) (k .seek .ensures))
+    (omega arith, a .pre .1, sixteen (b .before), still-readable _ _ _ Unstepped (first a) (slots (b .before)) _ (lined (b .before)) (inside (b .before)) (b .before .loop .inv .2 Unstepped) (omega arith) {h″ = sought k} _ (here b) (k .seek .ensures))
 
 returns : tie.Need-returns Inv-loop μ-loop
 returns c =
@@ -106,7 +110,7 @@ returns c =
     let a = start l in
     let D = c .put-back .ensures in
     record {
-      by = λ s. goes-past _ _ _ s (first a) (slots l) _ (lined l) (inside l) (l .loop .inv .2 s) (omega arith) _ (here b) (k .seek .ensures) (t .if1 .taken) _ (D .are) (ap (take (a .args .n)) (l .loop .inv .1));
+      by = λ s. goes-past _ _ _ s (first a) (slots l) _ (lined l) (inside l) (l .loop .inv .2 s) (omega arith) {h″ = sought k} _ (here b) (k .seek .ensures) (t .if1 .taken) _ (D .are) (ap (take (a .args .n)) (l .loop .inv .1));
       few = D .few;
       all = λ e. absurd (true≢false (sym e));
       long = D .long;
@@ -121,7 +125,7 @@ loop-again c =
     let b = in-loop k in
     let l = b .before in
     let a = start l in
-    (omega arith, l .loop .inv .1, λ s. seeks _ _ _ s (first a) (slots l) _ (lined l) (inside l) (l .loop .inv .2 s) (omega arith) _ (here b) (k .seek .ensures) (omega arith))
+    (omega arith, l .loop .inv .1, λ s. seeks _ _ _ s (first a) (slots l) _ (lined l) (inside l) (l .loop .inv .2 s) (omega arith) {h″ = sought k} _ (here b) (k .seek .ensures) (omega arith))
 
 returns-2 : tie.Need-returns-2 Inv-loop μ-loop
 returns-2 c =

@@ -101,11 +101,12 @@ loop-less c = search needs
 loop-again : tie.Need-loop-again Inv-loop μ-loop
 loop-again c =
     let b = in-loop (c .before) in
-    let a = start (b .before) in (
+    let a = start (b .before) in
+    let z = c .block-max .last .1 .1 .1 .1 .1 in (
       omega arith,
       λ n k S.
           bounds-next (a .args .file .now) (a .args .lists .now) _ _ (a .args .docs .now) (a .args .freqs .now) (a .args .pivot-doc) (scorers a n) (b .before .loop .inv .1 n k S) (in-scorers b n k) (S .apart)
-          (getD (a .args .order .now) (b .before .loop .i) 0) (ap (λ (t : TermScorer). t .slot) (here b n k)) (after-shallow-seek c .shallow-seek .ensures) (c .block-max .ensures),
+          (getD (a .args .order .now) (b .before .loop .i) 0) (ap (λ (t : TermScorer). t .slot) (here b n k)) {places₂ = z .0} {bounds₂ = z .1 .1 .1 .0} (after-shallow-seek c .shallow-seek .ensures) (c .block-max .ensures),
     )
 
 returns : tie.Need-returns Inv-loop μ-loop

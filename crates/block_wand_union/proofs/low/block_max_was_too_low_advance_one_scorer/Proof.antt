@@ -1,26 +1,24 @@
 -- `low::block_max_was_too_low_advance_one_scorer` meets its contract: the document sought and the scorer that seeks are the route's, and the order is restored from its place.
 use mathlib.Core.List.{List, map}
-use mathlib.Core.Path.{_≡_, ap, sym, _∙_}
+use mathlib.Core.Path.{_≡_, ap, _∙_}
 use Prim.Native.Nat.{ℕ, _<_, _≤_}
 use native.Mathlib.Omega.{arith}
 use lib.ListN.{drop, getD, length, length-map, length-take, take}
-use lib.Seq.{getD-take, take-take}
+use lib.Seq.{getD-take}
 use Rattle.arrays.specs.Every.{All}
 use Rattle.route.specs.Union.{behind}
 use Rattle.route.proofs.Lists.{all-imp}
 use Rattle.route.proofs.Union.Pivot.{behind-is}
-use Rattle.bm25.specs.declared.Scoring.{Scoring}
 use Rattle.bm25.specs.declared.Scoring.the-variants.{Unstepped}
-use Rattle.ordering.specs.Inner.Pivots.{placeToSeek}
-use Rattle.ordering.specs.Inner.Scorers.{leastDocOf, slotOf}
+use Rattle.ordering.specs.Inner.Scorers.{slotOf}
 use Rattle.term_scorer.specs.declared.TermScorer.{TermScorer}
 use Rattle.ordering.proofs.Places.{all-first}
 use Rattle.term_scorer.specs.Inner.Slots.{held, Held}
 use Rattle.slot_order.specs.Inner.Rows.{Readable, termIn}
-use Rattle.block_wand_union.specs.Inner.Seats.{Stand, TopIs, termAt, termsOf}
-use Rattle.block_wand_union.specs.Inner.Moves.{LastRead, leastLastOf}
-use Rattle.block_wand_union.proofs.Lowest.{last-reads, least-low, lowest-low, moved-readable, one-on, seeks-inside}
-use Rattle.block_wand_union.proofs.Slots.{all-unmap, doc-read, first-of, readables, scorers-read}
+use Rattle.block_wand_union.specs.Inner.Seats.{Stand, termAt}
+use Rattle.block_wand_union.specs.Inner.Moves.{LastRead}
+use Rattle.block_wand_union.proofs.Lowest.{last-reads, least-low, least-read, lowest-low, moved-readable, one-on, place-read, seeks-inside}
+use Rattle.block_wand_union.proofs.Slots.{all-unmap, doc-known, first-of, readables}
 use Rattle.block_wand_union.proofs.low.block_max_was_too_low_advance_one_scorer.Statement.{statement}
 use Rattle.block_wand_union.proofs.low.block_max_was_too_low_advance_one_scorer.Tie as tie
 
@@ -51,6 +49,10 @@ from-seek k = k .before .before .before .before .before .before .before .before
 
 abbrev now : tie.Start → Held
 now a = held (a .args .places .now) (a .args .docs .now) (a .args .freqs .now)
+
+-- the slots that the seek left
+abbrev sought : tie.After-seek → Held
+sought k = let l = k .seek .last .1 .1 .1 .1 .1 in held (l .0) (l .1 .0) (l .1 .1 .0)
 
 abbrev slots : tie.Start → List ℕ
 slots a = take (a .args .n) (a .args .order .now)
@@ -129,14 +131,14 @@ seek-requires c κs =
     let d = after-doc c in
     let f = after-scorer-to-seek (d .before) in
     let S = stand-in f in
-    (S .slot-in, S .slot, d .doc .ensures ∙ sym (doc-read _ _ Unstepped (now (first f)) _ S), target-low (f .before .before))
+    (S .slot-in, S .slot, doc-known _ _ Unstepped (now (first f)) _ S (d .doc .ensures), target-low (f .before .before))
 
 in-order-requires : tie.Need-in-order-requires
 in-order-requires c κs =
     let k = after-seek c in
     let f = from-seek k in
     let a = first f in
-    (a .pre .2, a .pre .4, a .pre .3, moved-readable _ _ Unstepped (slots a) (f .scorer-to-seek .result) _ _ (a .pre .5) (in-slots f) _ (here f) (k .seek .ensures))
+    (a .pre .2, a .pre .4, a .pre .3, moved-readable _ _ Unstepped (slots a) (f .scorer-to-seek .result) _ _ {h′ = sought k} (a .pre .5) (in-slots f) _ (here f) (k .seek .ensures))
 
 restored-requires : tie.Need-restored-requires
 restored-requires c κs =
@@ -168,12 +170,10 @@ returns c =
     let m : i .in-order .result .len ≡ a .args .n = i .in-order .ensures .0 in
     record {
       one = λ s T.
-          let scorers = scorers-read (a .args .file .now) (a .args .lists .now) s (now a) (a .args .tops .now) (a .args .n) (a .args .order .now) (a .pre .5 .stands s) T in
-          one-on _ _ s (slots a) (f .scorer-to-seek .result) _ _ (a .pre .5) (in-slots f) _ (here f) (k .seek .ensures) (a .args .pivot-len) (a .pre .0) (omega (arith, whole a))
-          (f .scorer-to-seek .ensures (a .args .places .now) (a .args .docs .now) ∙ ap placeToSeek (sym (take-take (a .args .pivot-len) (a .args .n) (terms-in a) (a .pre .1)) ∙ ap (take (a .args .pivot-len)) scorers))
-          (e .least-doc .ensures (a .args .tops .now) ∙ ap (λ z. leastDocOf (b .behind .result) (drop (a .args .pivot-len) z)) scorers
-          ∙ ap (λ (z : ℕ). leastDocOf z (drop (a .args .pivot-len) (termsOf (a .args .file .now) (a .args .lists .now) s (a .args .places .now) (slots a))))
-          (b .behind .ensures ∙ ap behind (d .least-last-doc .ensures ∙ ap (leastLastOf (a .args .places .now) 2147483647) (sym (take-take (a .args .pivot-len) (a .args .n) (a .args .order .now) (a .pre .1))))))
+          let L = a .pre .5 .stands s in
+          one-on _ _ s (slots a) (f .scorer-to-seek .result) _ _ {h′ = sought k} (a .pre .5) (in-slots f) _ (here f) (k .seek .ensures) (a .args .pivot-len) (a .pre .0) (omega (arith, whole a))
+          (place-read (a .args .file .now) (a .args .lists .now) s (now a) (a .args .tops .now) (a .args .order .now) (a .pre .1) L T (f .scorer-to-seek .ensures (a .args .places .now) (a .args .docs .now)))
+          (least-read (a .args .file .now) (a .args .lists .now) s (now a) (a .args .tops .now) (a .args .order .now) (a .pre .1) L T (e .least-doc .ensures (a .args .tops .now)) (b .behind .ensures) (d .least-last-doc .ensures))
           (a .args .tops .now) T (i .in-order .ensures .1) (rw n at (c .keep-order .ensures .are) ∙ ap (map slotOf) (rw m at (R .1 .first .are)));
       long = c .keep-order .ensures .long;
     }

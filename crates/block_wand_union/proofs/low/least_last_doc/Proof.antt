@@ -17,7 +17,7 @@ Inv-loop order pivot-len places least₀ i₀ least i =
 abbrev μ-loop : tie.MeasureT-loop
 μ-loop order pivot-len places least₀ i₀ least i = pivot-len - i
 
--- the places that the answers look back to
+-- the place that the answers look back to
 abbrev in-loop : tie.After-last-doc-in-block Inv-loop μ-loop → tie.In-loop Inv-loop μ-loop
 in-loop c = c .before .before
 

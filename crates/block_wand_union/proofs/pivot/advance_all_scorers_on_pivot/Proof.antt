@@ -1,12 +1,11 @@
 -- `pivot::advance_all_scorers_on_pivot` meets its contract: each turn one scorer advances in its slot, and the sweep and the sort are the route's.
 use mathlib.Core.List.{List}
-use mathlib.Core.Path.{_≡_, ap, _∙_}
+use mathlib.Core.Path.{_≡_}
 use Prim.Native.Nat.{ℕ, _-_, _<_, _≤_}
 use native.Mathlib.Omega.{arith}
 use lib.ListN.{getD, length, length-take, take}
 use lib.Seq.{getD-take}
 use borrow.Author.Needs.{needs}
-use Rattle.route.specs.Ordering.{sortBy}
 use Rattle.arrays.specs.Every.{All}
 use Rattle.bm25.specs.declared.Scoring.{Scoring}
 use Rattle.bm25.specs.declared.Scoring.the-variants.{Unstepped}
@@ -15,7 +14,7 @@ use Rattle.ordering.proofs.Places.{all-first}
 use Rattle.term_scorer.specs.Inner.Slots.{held, Held}
 use Rattle.slot_order.specs.Inner.Rows.{Readable, docAt}
 use Rattle.block_wand_union.specs.Inner.Seats.{Inside}
-use Rattle.block_wand_union.proofs.Advances.{Advancing, advanced, advances, advancing, inside-at, stand-at}
+use Rattle.block_wand_union.proofs.Advances.{Advancing, advanced, advances, advancing, inside-at, stand-at, swept-sorted}
 use Rattle.block_wand_union.proofs.Slots.{readables}
 use Rattle.block_wand_union.proofs.pivot.advance_all_scorers_on_pivot.Statement.{statement}
 use Rattle.block_wand_union.proofs.pivot.advance_all_scorers_on_pivot.Tie as tie
@@ -96,7 +95,8 @@ loop-again c =
     let b = in-loop (c .before) in
     let l = b .before in
     let a = start l in
-    (omega arith, λ s. advances _ _ s (first a) (slots a) (a .pre .3) (l .loop .inv .1 s) (in-slots b) _ (here b) (c .advance .ensures))
+    let z = c .advance .last .1 .1 .1 in
+    (omega arith, λ s. advances _ _ s (first a) (slots a) (a .pre .3) (l .loop .inv .1 s) (in-slots b) {h″ = held (z .0) (z .1 .0) (z .1 .1 .0)} _ (here b) (c .advance .ensures))
 
 sweep-requires : tie.Need-sweep-requires Inv-loop μ-loop
 sweep-requires c κs =
@@ -118,7 +118,7 @@ returns c =
     let D = w .sweep .ensures in
     let E = c .sort-by-doc .ensures in
     record {
-      on = λ s. advanced _ _ s (first a) (slots a) (a .pre .3) (l .loop .inv .1 s) (a .args .n) (a .args .pivot-len) (whole a) (omega arith) _ (E .are ∙ ap (sortBy (key l)) (D .are));
+      on = λ s. advanced _ _ s (first a) (slots a) (a .pre .3) (l .loop .inv .1 s) (a .args .n) (a .args .pivot-len) (whole a) (omega arith) _ (swept-sorted (key l) (a .args .n) (slots a) {left = take (w .sweep .result) (w .sweep .last .0)} (E .are) (D .are));
       few = D .few;
       long = E .long;
     }

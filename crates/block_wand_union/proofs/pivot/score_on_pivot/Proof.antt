@@ -12,7 +12,7 @@ use Rattle.route.specs.Score.{sum}
 use Rattle.route.specs.Scorer.{scoreHere}
 use Rattle.ordering.proofs.Places.{all-first}
 use Rattle.skip_reader.specs.Inner.Decoded.{docIn}
-use Rattle.term_scorer.specs.Inner.Slots.{held, listAt, partAt}
+use Rattle.term_scorer.specs.Inner.Slots.{cursorAt, held, listAt, partAt}
 use Rattle.block_wand_union.specs.Inner.Seats.{OnDocument, Seat, Terms, Unmoved, slotScorer, termAt, terms}
 use Rattle.block_wand_union.proofs.Advances.{scored-next}
 use Rattle.block_wand_union.proofs.Unmoved.{unmoved, unmoved-refl, unmoved-trans}
@@ -80,15 +80,17 @@ loop-less c = search needs
 loop-again : tie.Need-loop-again Inv-loop μ-loop
 loop-again c =
     let b = in-loop (c .before) in
+    let l = b .before .loop in
     let a = start (b .before) in
     let S = seat-in b in
-    let U = b .before .loop .inv .2 in
+    let U = l .inv .2 in
+    let z = c .kept-score .last .1 .1 .1 .1 .1 in
     let E = c .kept-score .ensures in
     let list = listAt (a .args .similarity .scoring) (a .args .file .now) (a .args .lists .now) (slot b) in (
       omega arith,
-      scored-next (slotScorer (a .args .file .now) (a .args .lists .now) (a .args .similarity .scoring) (a .args .places .now)) (a .args .order .now) (b .before .loop .i) (omega (arith, a .pre .2)) (b .before .loop .inv .1)
-          (E .0 ∙ ap (λ (z : Cursor). list .score (z .at)) (U .cursor-is (slot b))),
-      unmoved-trans U (unmoved (a .args .file .now) (a .args .lists .now) (a .args .similarity .scoring) (a .args .caches .now) (S .stand .slot-in) (a .args .docs .now) (a .args .freqs .now) (S .stand .slot .sixteen .0) (E .1)),
+      scored-next (slotScorer (a .args .file .now) (a .args .lists .now) (a .args .similarity .scoring) (a .args .places .now)) (a .args .order .now) (l .i) (omega (arith, a .pre .2)) (l .inv .1)
+          (_∙_ {b = list .score (cursorAt (l .places) (slot b) .at)} (E .0) (ap (λ (k : Cursor). list .score (k .at)) (U .cursor-is (slot b)))),
+      unmoved-trans {floats″ = z .1 .1 .1 .0} {h″ = held (z .0) (a .args .docs .now) (a .args .freqs .now)} U (unmoved (a .args .file .now) (a .args .lists .now) (a .args .similarity .scoring) (a .args .caches .now) {floats = l .floats} {floats′ = z .1 .1 .1 .0} (S .stand .slot-in) {places = l .places} {places′ = z .0} (a .args .docs .now) (a .args .freqs .now) (S .stand .slot .sixteen .0) (E .1)),
     )
 
 returns : tie.Need-returns Inv-loop μ-loop

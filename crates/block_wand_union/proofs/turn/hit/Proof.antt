@@ -1,10 +1,11 @@
 -- `turn::hit` meets its contract: the scores' sum is the route's, and so are the two ways on.
 use native.Mathlib.Omega.{arith}
+use mathlib.Core.List.{List}
+use lib.Ieee.{Float}
 use lib.ListN.{take}
 use borrow.Author.Needs.{needs}
-use Rattle.route.proofs.Lists.{all-imp}
 use Rattle.term_scorer.specs.Inner.Slots.{held, Held}
-use Rattle.block_wand_union.specs.Inner.Seats.{Inside, OnDocument, Terms, terms}
+use Rattle.block_wand_union.specs.Inner.Seats.{Terms, terms}
 use Rattle.block_wand_union.proofs.OnPivots.{hit-due, hit-quiet, inside-unmoved, seated₁}
 use Rattle.block_wand_union.proofs.Slots.{lined}
 use Rattle.block_wand_union.proofs.Steps.{stands}
@@ -24,6 +25,13 @@ now a = held (a .args .places .now) (a .args .docs .now) (a .args .freqs .now)
 abbrev terms₀ : tie.Start → Terms
 terms₀ a = terms (a .args .bar .similarity .scoring) (a .args .caches .now) (a .args .floats .now)
 
+-- the slots and the floats that scoring left
+abbrev scored : tie.After-score-on-pivot → Held
+scored s = let a = start (s .before) in let l = s .score-on-pivot .last .1 .1 .1 .1 .1 .1 in held (l .0) (a .args .docs .now) (a .args .freqs .now)
+
+abbrev floats₁ : tie.After-score-on-pivot → List (List Float)
+floats₁ s = s .score-on-pivot .last .1 .1 .1 .1 .1 .1 .1 .1 .1 .0
+
 score-on-pivot-requires : tie.Need-score-on-pivot-requires
 score-on-pivot-requires c κs =
     let a = start c in (omega arith, a .pre .2, a .pre .3, a .pre .4 .rows, a .pre .5)
@@ -34,15 +42,15 @@ returns c =
     let a = start (s .before) in
     let E = s .score-on-pivot .ensures in
     hit-due (a .args .file .now) (a .args .lists .now) (terms₀ a) (a .args .bar .threshold) (now a) (a .args .order .now) (a .args .n) (a .args .span .«pivot_len») (a .args .span .«pivot_doc») (a .pre .0)
-    (E .0) (E .1) (a .pre .4) (c .if1 .taken) (a .pre .1) (a .pre .3)
+    (E .0) {h₁ = scored s} {floats₁ = floats₁ s} (E .1) (a .pre .4) (c .if1 .taken) (a .pre .1) (a .pre .3)
 
 advance-all-scorers-on-pivot-requires : tie.Need-advance-all-scorers-on-pivot-requires
 advance-all-scorers-on-pivot-requires c κs =
     let s = else-of c .before .before in
     let a = start (s .before) in
     let E = s .score-on-pivot .ensures in
-    let S = seated₁ (a .args .file .now) (a .args .lists .now) (terms₀ a) (a .args .bar .threshold) (now a) (a .args .order .now) (a .args .n) (a .args .span .«pivot_len») (a .args .span .«pivot_doc») (a .pre .0) (E .0) (E .1) (a .pre .4) in
-    (a .pre .0, a .pre .1, a .pre .3, lined (a .args .file .now) (a .args .lists .now) (a .args .bar .similarity .scoring) _ (take (a .args .n) (a .args .order .now)) (stands S) (S .apart), inside-unmoved (E .1) (take (a .args .span .«pivot_len») (a .args .order .now)) (a .pre .5))
+    let S = seated₁ (a .args .file .now) (a .args .lists .now) (terms₀ a) (a .args .bar .threshold) (now a) (a .args .order .now) (a .args .n) (a .args .span .«pivot_len») (a .args .span .«pivot_doc») (a .pre .0) (E .0) {h₁ = scored s} {floats₁ = floats₁ s} (E .1) (a .pre .4) in
+    (a .pre .0, a .pre .1, a .pre .3, lined (a .args .file .now) (a .args .lists .now) (a .args .bar .similarity .scoring) (scored s) (take (a .args .n) (a .args .order .now)) (stands {h = scored s} S) (S .apart), inside-unmoved {lists = a .args .lists .now} {caches = a .args .caches .now} {floats = a .args .floats .now} {floats′ = floats₁ s} {h = now a} {h′ = scored s} (E .1) (take (a .args .span .«pivot_len») (a .args .order .now)) (a .pre .5))
 
 quiet-requires : tie.Need-quiet-requires
 quiet-requires c κs = search needs
@@ -53,9 +61,10 @@ returns-2 c =
     let s = e .before .before in
     let a = start (s .before) in
     let E = s .score-on-pivot .ensures in
+    let l = c .before .advance-all-scorers-on-pivot .last .1 .1 .1 .1 in
     rw (c .quiet .ensures)
     (hit-quiet (a .args .file .now) (a .args .lists .now) (terms₀ a) (a .args .bar .threshold) (now a) (a .args .order .now) (a .args .n) (a .args .span .«pivot_len») (a .args .span .«pivot_doc») (a .pre .0)
-    (E .0) (E .1) (a .pre .4) (e .if1 .left) (c .before .advance-all-scorers-on-pivot .ensures))
+    (E .0) {h₁ = scored s} {floats₁ = floats₁ s} (E .1) (a .pre .4) (e .if1 .left) {h′ = held (l .1 .0) (l .1 .1 .0) (l .1 .1 .1 .0)} {order′ = l .0} (c .before .advance-all-scorers-on-pivot .ensures))
 
 pub hit-spec : {M : Type 1} → statement M
 hit-spec =

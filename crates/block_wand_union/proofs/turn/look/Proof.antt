@@ -1,5 +1,5 @@
 -- `turn::look` meets its contract: the pivot's places are the route's, and with no pivot the loop ends.
-use mathlib.Core.Path.{_≡_, ap, sym, _∙_}
+use mathlib.Core.Path.{_≡_, sym, _∙_}
 use lib.ListN.{take}
 use borrow.Author.Needs.{needs}
 use Rattle.ordering.specs.Inner.Pivots.{pivotOf}
@@ -7,7 +7,7 @@ use Rattle.block_wand_union.specs.declared.Stage.the-variants.{Looking}
 use Rattle.term_scorer.specs.Inner.Slots.{held, Held}
 use Rattle.block_wand_union.specs.Inner.Seats.{termsOf}
 use Rattle.block_wand_union.proofs.Runs.{place-is}
-use Rattle.block_wand_union.proofs.Slots.{readables, scorers-read}
+use Rattle.block_wand_union.proofs.Slots.{pivot-read, readables}
 use Rattle.block_wand_union.proofs.Steps.{nowhere, stands}
 use Rattle.block_wand_union.proofs.turn.look.Statement.{statement}
 use Rattle.block_wand_union.proofs.turn.look.Tie as tie
@@ -27,8 +27,7 @@ pivot-is : (p : tie.After-find-pivot-doc) → (let a = start (p .before) in
     p .find-pivot-doc .result ≡ pivotOf (a .args .bar .threshold) (termsOf (a .args .file .now) (a .args .lists .now) (a .args .bar .similarity .scoring) (a .args .places .now) (take (a .args .n) (a .args .order .now))))
 pivot-is p =
     let a = start (p .before) in
-    p .find-pivot-doc .ensures
-    ∙ ap (pivotOf (a .args .bar .threshold)) (scorers-read (a .args .file .now) (a .args .lists .now) (a .args .bar .similarity .scoring) (now a) (a .args .tops .now) (a .args .n) (a .args .order .now) (stands (a .pre .3 .seated)) (a .pre .2))
+    pivot-read (a .args .file .now) (a .args .lists .now) (a .args .bar .threshold) (a .args .bar .similarity .scoring) (now a) (a .args .tops .now) (a .args .n) (a .args .order .now) (stands (a .pre .3 .seated)) (a .pre .2) (p .find-pivot-doc .ensures)
 
 find-pivot-doc-requires : tie.Need-find-pivot-doc-requires
 find-pivot-doc-requires c κs =

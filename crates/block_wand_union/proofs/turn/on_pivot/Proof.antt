@@ -1,10 +1,12 @@
 -- `turn::on_pivot` meets its contract: a miss leaves the route's scorers, and scorers that all came to the pivot are on a document, so that they can be scored and go on.
-use Prim.Native.Nat.{_≤_, _<_}
+use mathlib.Core.List.{List}
+use Prim.Native.Nat.{ℕ, _≤_, _<_}
 use native.Mathlib.Omega.{arith}
 use lib.ListN.{length-map, length-take, take}
 use lib.Seq.{take-take}
 use borrow.Author.Needs.{needs}
-use Rattle.block_wand_union.specs.Inner.Seats.{termAt}
+use Rattle.block_wand_union.specs.Inner.Seats.{termAt, termsOf}
+use Rattle.block_wand_union.specs.Inner.Moves.{OnPivot}
 use Rattle.block_wand_union.proofs.OnPivots.{came-to, miss, on-document, on-hit, pivot-low, stands-at, went-past}
 use Rattle.block_wand_union.proofs.Seats.{still-seated}
 use Rattle.block_wand_union.proofs.Slots.{lined}
@@ -21,6 +23,21 @@ start b = b .before .before .before .before .before
 
 abbrev now : tie.Start → Held
 now a = held (a .args .places .now) (a .args .docs .now) (a .args .freqs .now)
+
+-- the slots, and their order, that the alignment left
+abbrev aligned : tie.After-align-scorers → Held
+aligned b = let l = b .align-scorers .last .1 .1 .1 .1 .1 in held (l .1 .0) (l .1 .1 .0) (l .1 .1 .1 .0)
+
+abbrev order′ : tie.After-align-scorers → List ℕ
+order′ b = b .align-scorers .last .1 .1 .1 .1 .1 .0
+
+came : (t : tie.Then1) → (let b = t .before in let a = start (b .before) in
+    OnPivot (a .args .file .now) (a .args .lists .now) (a .args .span .«pivot_doc») (now a) (termsOf (a .args .file .now) (a .args .lists .now) (a .args .bar .similarity .scoring) (a .args .places .now) (take (a .args .n) (a .args .order .now))) (a .args .span .«before_pivot_len»)
+    (aligned b) (termsOf (a .args .file .now) (a .args .lists .now) (a .args .bar .similarity .scoring) (aligned b .places) (take (a .args .n) (order′ b))))
+came t =
+    let b = t .before in
+    let a = start (b .before) in
+    came-to {h = now a} {h′ = aligned b} {order = a .args .order .now} {order′ = order′ b} (b .align-scorers .ensures) (a .args .bar .similarity .scoring) (t .if1 .taken)
 
 at-len : (a : tie.Start) → (a .args .span .«before_pivot_len» < a .args .n) × (a .args .span .«pivot_len» ≤ a .args .n)
 at-len a =
@@ -43,15 +60,15 @@ hit-requires c κs =
     let a = start (b .before) in
     let A = a .pre .3 in
     let E = b .align-scorers .ensures in
-    let O = came-to E (a .args .bar .similarity .scoring) (t .if1 .taken) in
-    (at-len a .1, a .pre .0, a .pre .1, E .long, still-seated (a .args .file .now) (a .args .lists .now) (A .seated) (O .carried), rw (take-take (a .args .span .«pivot_len») (a .args .n) _ (at-len a .1)) at (on-document (a .args .order .now) (a .args .n) A _ O (at-len a .1)))
+    (at-len a .1, a .pre .0, a .pre .1, E .long, still-seated (a .args .file .now) (a .args .lists .now) {h′ = aligned b} (A .seated) (came t .carried), rw (take-take (a .args .span .«pivot_len») (a .args .n) (order′ b) (at-len a .1)) at (on-document (a .args .order .now) (a .args .n) A {h′ = aligned b} (order′ b) (came t) (at-len a .1)))
 
 returns : tie.Need-returns
 returns c =
     let t = then-of (c .before) in
     let b = t .before in
     let a = start (b .before) in
-    on-hit (a .args .order .now) (a .args .n) (a .pre .3) _ (came-to (b .align-scorers .ensures) (a .args .bar .similarity .scoring) (t .if1 .taken)) (c .hit .ensures)
+    let l = c .hit .last .1 .1 .1 .1 .1 .1 in
+    on-hit (a .args .order .now) (a .args .n) (a .pre .3) {h′ = aligned b} (order′ b) (came t) {h″ = held (l .1 .0) (l .1 .1 .0) (l .1 .1 .1 .0)} {order″ = l .0} {floats″ = l .1 .1 .1 .1 .0} (c .hit .ensures)
 
 quiet-requires : tie.Need-quiet-requires
 quiet-requires c κs = search needs
@@ -61,7 +78,7 @@ returns-2 c =
     let b = c .before .before in
     let a = start (b .before) in
     let E = b .align-scorers .ensures in
-    rw (c .quiet .ensures) (miss (a .args .order .now) (a .args .n) (a .pre .3) (a .args .bar .threshold) _ (went-past E (a .args .bar .similarity .scoring) (c .before .if1 .left)) (E .few) (E .long))
+    rw (c .quiet .ensures) (miss (a .args .order .now) (a .args .n) (a .pre .3) (a .args .bar .threshold) {h′ = aligned b} {order′ = order′ b} (b .align-scorers .result .len) (went-past {h = now a} {h′ = aligned b} {order = a .args .order .now} {order′ = order′ b} E (a .args .bar .similarity .scoring) (c .before .if1 .left)) (E .few) (E .long))
 
 pub on-pivot-spec : {M : Type 1} → statement M
 on-pivot-spec =

@@ -1,6 +1,9 @@
 -- `turn::to_pivot` meets its contract: the sum of the block bounds is the route's, and so is each of the two ways on.
+use mathlib.Core.List.{List}
 use native.Mathlib.Omega.{arith}
+use lib.Ieee.{Float}
 use borrow.Author.Needs.{needs}
+use Rattle.term_scorer.specs.Inner.Slots.{held, Held}
 use Rattle.block_wand_union.proofs.Steps.{at-pivot, few, first-seated, found, high, lined′, low}
 use Rattle.block_wand_union.proofs.turn.to_pivot.Statement.{statement}
 use Rattle.block_wand_union.proofs.turn.to_pivot.Tie as tie
@@ -15,6 +18,13 @@ else-of c = c .before .before .before .before
 abbrev start : tie.After-seek-blocks-arg5 → tie.Start
 start b = b .before .before .before .before .before .before
 
+-- the slots and the floats that the seeks left
+abbrev sought : tie.After-seek-blocks → Held
+sought b = let a = start (b .before) in let l = b .seek-blocks .last .1 .1 .1 .1 .1 .1 .1 in held (l .0) (a .args .docs .now) (a .args .freqs .now)
+
+abbrev floats′ : tie.After-seek-blocks → List (List Float)
+floats′ b = b .seek-blocks .last .1 .1 .1 .1 .1 .1 .1 .1 .1 .1 .0
+
 seek-blocks-requires : tie.Need-seek-blocks-requires
 seek-blocks-requires c κs =
     let a = start c in
@@ -26,7 +36,7 @@ on-pivot-requires c κs =
     let b = then-of c .before .before in
     let a = start (b .before) in
     let P = a .pre .2 in
-    (P .few, a .pre .0, P .long, at-pivot P (b .seek-blocks .ensures (a .args .n) (few P) (P .seated)))
+    (P .few, a .pre .0, P .long, at-pivot P {h′ = sought b} {floats′ = floats′ b} (b .seek-blocks .ensures (a .args .n) (few P) (P .seated)))
 
 returns : tie.Need-returns
 returns c =
@@ -34,7 +44,8 @@ returns c =
     let b = t .before .before in
     let a = start (b .before) in
     let P = a .pre .2 in
-    high P (b .seek-blocks .ensures (a .args .n) (few P) (P .seated)) (t .if1 .taken) (c .on-pivot .ensures)
+    let l = c .on-pivot .last .1 .1 .1 .1 .1 .1 in
+    high P {h′ = sought b} {floats′ = floats′ b} (b .seek-blocks .ensures (a .args .n) (few P) (P .seated)) (t .if1 .taken) {h″ = held (l .1 .0) (l .1 .1 .0) (l .1 .1 .1 .0)} {order″ = l .0} {floats″ = l .1 .1 .1 .1 .0} (c .on-pivot .ensures)
 
 block-max-was-too-low-advance-one-scorer-requires :
     tie.Need-block-max-was-too-low-advance-one-scorer-requires
@@ -42,7 +53,7 @@ block-max-was-too-low-advance-one-scorer-requires c κs =
     let b = else-of c .before .before in
     let a = start (b .before) in
     let P = a .pre .2 in
-    (omega (arith, found P .first), few P, P .few, a .pre .1, P .long, lined′ P (b .seek-blocks .ensures (a .args .n) (few P) (P .seated)))
+    (omega (arith, found P .first), few P, P .few, a .pre .1, P .long, lined′ P {h′ = sought b} {floats′ = floats′ b} (b .seek-blocks .ensures (a .args .n) (few P) (P .seated)))
 
 quiet-requires : tie.Need-quiet-requires
 quiet-requires c κs = search needs
@@ -53,7 +64,8 @@ returns-2 c =
     let b = e .before .before in
     let a = start (b .before) in
     let P = a .pre .2 in
-    rw (c .quiet .ensures) (low P (b .seek-blocks .ensures (a .args .n) (few P) (P .seated)) (e .if1 .left) (c .before .block-max-was-too-low-advance-one-scorer .ensures))
+    let l = c .before .block-max-was-too-low-advance-one-scorer .last .1 .1 .1 .1 .1 in
+    rw (c .quiet .ensures) (low P {h′ = sought b} {floats′ = floats′ b} (b .seek-blocks .ensures (a .args .n) (few P) (P .seated)) (e .if1 .left) {h″ = held (l .1 .0) (l .1 .1 .0) (l .1 .1 .1 .0)} {order″ = l .0} (c .before .block-max-was-too-low-advance-one-scorer .ensures))
 
 pub to-pivot-spec : {M : Type 1} → statement M
 to-pivot-spec =

@@ -1,5 +1,4 @@
 -- `turn::turn` meets its contract: at each stage the turn is the route's.
-use mathlib.Core.Path.{_≡_, ap, sym, subst}
 use lib.ListN.{take}
 use borrow.Author.Needs.{needs}
 use Rattle.term_scorer.specs.Inner.Slots.{held, Held}
@@ -60,7 +59,8 @@ returns-2 c =
     let m = reporting (c .before .before) in
     let a = start (m .before .before) in
     let S = a .pre .3 in
-    rw (m .stage .given .1, c .quiet .ensures) (goes-on (a .args .bar .threshold) (a .args .order .now) (a .args .union .len) (S .room) (S .seated) (c .before .advance-all-scorers-on-pivot .ensures))
+    let l = c .before .advance-all-scorers-on-pivot .last .1 .1 .1 .1 in
+    rw (m .stage .given .1, c .quiet .ensures) (goes-on (a .args .bar .threshold) (a .args .order .now) (a .args .union .len) (S .room) (S .seated) {h′ = held (l .1 .0) (l .1 .1 .0) (l .1 .1 .1 .0)} {order′ = l .0} (c .before .advance-all-scorers-on-pivot .ensures))
 
 returns-3 : tie.Need-returns-3
 returns-3 c =

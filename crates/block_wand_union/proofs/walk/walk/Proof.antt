@@ -1,13 +1,15 @@
 -- `walk::walk` meets its contract: each turn is the route's next, and the loop stops where a report is due, at the end, or after so many turns.
 use mathlib.Core.Bool.{false}
+use mathlib.Core.List.{List}
 use mathlib.Core.Path.{sym, _∙_, _≡_}
-use Prim.Native.Nat.{_-_, _<_}
+use Prim.Native.Nat.{ℕ, _-_, _<_}
 use native.Mathlib.Omega.{arith}
+use lib.Ieee.{Float}
 use borrow.Author.Needs.{needs}
 use Rattle.route.specs.Union.{isOver}
 use Rattle.route.proofs.Cases.{lt-of-ne}
-use Rattle.term_scorer.specs.Inner.Slots.{held}
-use Rattle.block_wand_union.specs.Inner.Seats.{stageOf, terms}
+use Rattle.term_scorer.specs.Inner.Slots.{held, Held}
+use Rattle.block_wand_union.specs.Inner.Seats.{stageOf}
 use Rattle.block_wand_union.specs.Inner.Runs.{placeOf}
 use Rattle.block_wand_union.proofs.Runs.{OnWay, begun, not-false, not-true, over, paused, quiet-turn, reports, stands-on}
 use Rattle.block_wand_union.proofs.walk.walk.Statement.{statement}
@@ -29,6 +31,16 @@ start l = l .before .before
 
 abbrev else-of : tie.After-turn-arg5 Inv-loop μ-loop → tie.Else2 Inv-loop μ-loop
 else-of k = k .before .before .before .before .before
+
+-- the slots that a turn left, with their order and the floats
+abbrev order′ : tie.After-turn Inv-loop μ-loop → List ℕ
+order′ k = k .turn .last .1 .1 .1 .1 .1 .1 .0
+
+abbrev left : tie.After-turn Inv-loop μ-loop → Held
+left k = let l = k .turn .last .1 .1 .1 .1 .1 .1 .1 in held (l .0) (l .1 .0) (l .1 .1 .0)
+
+abbrev floats′ : tie.After-turn Inv-loop μ-loop → List (List Float)
+floats′ k = k .turn .last .1 .1 .1 .1 .1 .1 .1 .1 .1 .1 .0
 
 -- the route has not ended
 on : (t : tie.Then1 Inv-loop μ-loop) → isOver (stageOf (at-loop t .loop .now .stage)) ≡ false
@@ -73,7 +85,7 @@ returns-2 c =
     let k = n .before in
     let e = else-of (k .before) in
     let S = at-loop (e .before) .loop .inv in
-    rw (c .stopped2 .ensures) (stands-on S (on (e .before)) (room e) (k .turn .ensures), reports S (on (e .before)) (room e) (k .turn .ensures) (c .before .if3 .taken))
+    rw (c .stopped2 .ensures) (stands-on S (on (e .before)) (room e) {h′ = left k} {order′ = order′ k} {floats′ = floats′ k} (k .turn .ensures), reports S (on (e .before)) (room e) {h′ = left k} {order′ = order′ k} {floats′ = floats′ k} (k .turn .ensures) (c .before .if3 .taken))
 
 loop-less : tie.Need-loop-less Inv-loop μ-loop
 loop-less c = let k = c .before .before in omega (arith, room (else-of (k .before)))
@@ -82,7 +94,7 @@ loop-again : tie.Need-loop-again Inv-loop μ-loop
 loop-again c =
     let k = c .before .before in
     let e = else-of (k .before) in
-    quiet-turn (at-loop (e .before) .loop .inv) (on (e .before)) (room e) (k .turn .ensures) (c .if3 .left)
+    quiet-turn (at-loop (e .before) .loop .inv) (on (e .before)) (room e) {h′ = left k} {order′ = order′ k} {floats′ = floats′ k} (k .turn .ensures) (c .if3 .left)
 
 stopped-requires-3 : tie.Need-stopped-requires-3 Inv-loop μ-loop
 stopped-requires-3 c κs = search needs
