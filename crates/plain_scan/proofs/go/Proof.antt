@@ -1,11 +1,12 @@
 -- `go` meets its contract: each turn of its loop comes to the least document, and takes it.
+use mathlib.Core.List.{List}
 use mathlib.Core.Path.{_≡_, sym, _∙_}
-use Prim.Native.Nat.{_+_, _-_, _≤_, _<_}
+use Prim.Native.Nat.{_+_, _-_, _≤_, _<_, ℕ}
 use native.Mathlib.Omega.{arith}
 use borrow.Author.Needs.{needs}
 use Rattle.route.proofs.Cases.{lt-of-ne}
 use Rattle.reports.proofs.TurnLaws.{none-yet}
-use Rattle.term_scorer.specs.Inner.Slots.{held}
+use Rattle.term_scorer.specs.Inner.Slots.{held, Held}
 use Rattle.plain_scan.proofs.Beginning.{places-read, with-heads}
 use Rattle.plain_scan.proofs.Scanning.{Upward, ahead, gone-on, passes, stands-next, stops-due, stops-early, stops-over, stops-paused, to-document}
 use Rattle.plain_scan.proofs.go.Statement.{statement}
@@ -20,6 +21,15 @@ abbrev μ-loop : tie.MeasureT-loop
     2147483647 - at
 
 -- the places that the answers look back to
+abbrev after-least : tie.Else3 Inv-loop μ-loop → tie.After-least Inv-loop μ-loop
+after-least c = c .before .before .before
+
+abbrev begun : tie.After-heads-of-arg2 Inv-loop μ-loop → tie.Start Inv-loop μ-loop
+begun c = c .before .before .before
+
+abbrev else-of : tie.After-take-document-arg3 Inv-loop μ-loop → tie.Else2 Inv-loop μ-loop
+else-of c = c .before .before .before .before .before
+
 abbrev start : tie.At-loop Inv-loop μ-loop → tie.Start Inv-loop μ-loop
 start l = l .before .before .before .before .before
 
@@ -28,6 +38,13 @@ loop-of g = g .before .before
 
 abbrev taken-at : tie.After-take-document Inv-loop μ-loop → tie.Else3 Inv-loop μ-loop
 taken-at c = c .before .before .before .before .before
+
+-- the slots and the heads that a document's taking left
+abbrev moved : tie.After-take-document Inv-loop μ-loop → Held
+moved d = let l = d .take-document .last .1 .1 .1 .1 .1 .1 .1 in held (l .0) (l .1 .0) (l .1 .1 .0)
+
+abbrev heads′ : tie.After-take-document Inv-loop μ-loop → List ℕ
+heads′ d = d .take-document .last .1 .1 .1 .1 .1 .1 .0
 
 ahead-of : (g : tie.After-least Inv-loop μ-loop) → (loop-of g .loop .at ≤ g .least .result) × (g .least .result ≤ 2147483647)
 ahead-of g = ahead _ _ _ _ _ (loop-of g .loop .inv) (g .least .ensures)
@@ -49,17 +66,17 @@ live : (e : tie.Else2 Inv-loop μ-loop) → e .before .before .least .result < 2
 live e = lt-of-ne (ahead-of (e .before .before) .1) (e .if2 .left)
 
 more : (x : tie.Else3 Inv-loop μ-loop)
-    → (let g = x .before .before .before in let l = loop-of g in l .loop .taken + (g .least .result - l .loop .at) < start l .args .turns)
+    → (let g = after-least x in let l = loop-of g in l .loop .taken + (g .least .result - l .loop .at) < start l .args .turns)
 more x = lt-of-ne (at-least (x .before .before) .within) (x .if3 .left)
 
 heads-of-requires : tie.Need-heads-of-requires Inv-loop μ-loop
 heads-of-requires c κs =
-    let a = c .before .before .before in
+    let a = begun c in
     (a .pre .1 .few, places-read (a .args .similarity .scoring) _ _ _ _ (a .args .plain) (a .pre .1))
 
 loop-holds : tie.Need-loop-holds Inv-loop μ-loop
 loop-holds c =
-    let a = c .before .before .before .before in
+    let a = begun (c .before) in
     let P = a .pre .1 in
     record {
       standing = with-heads (a .args .similarity .scoring) _ _ _ _ (a .args .plain) P (c .heads-of .ensures);
@@ -126,12 +143,12 @@ returns-3 c =
 
 take-document-requires : tie.Need-take-document-requires Inv-loop μ-loop
 take-document-requires c κs =
-    let e = c .before .before .before .before .before in
+    let e = else-of c in
     let a = start (loop-of (e .before .before)) in
     (a .pre .1 .few, a .pre .0, a .pre .1 .weighed, at-least (e .before) .standing, live e)
 
 add-taken-2 : tie.Need-add-taken-2 Inv-loop μ-loop
-add-taken-2 c = omega (arith, more (taken-at c), start (loop-of (taken-at c .before .before .before)) .fits .turns)
+add-taken-2 c = omega (arith, more (taken-at c), start (loop-of (after-least (taken-at c))) .fits .turns)
 
 add-at : tie.Need-add-at Inv-loop μ-loop
 add-at c = omega (arith, live (taken-at c .before))
@@ -151,13 +168,13 @@ returns-4 c =
     let e = x .before in
     let a = start (loop-of (e .before .before)) in
     let T = d .take-document .ensures in
-    gone-on (a .args .similarity .scoring) _ _ _ (a .args .plain) (a .pre .1) (stands-next _ _ _ _ _ (at-least (e .before)) (live e) (more x) T) (omega (arith, live e))
-    (stops-due _ _ _ _ _ (at-least (e .before)) (live e) (more x) T (sym (u .due .ensures) ∙ t .if4 .taken)) (c .stand4 .ensures)
+    gone-on (a .args .similarity .scoring) _ _ _ (a .args .plain) (a .pre .1) {h′ = moved d} {heads′ = heads′ d} (stands-next _ _ _ _ _ (at-least (e .before)) (live e) (more x) {h′ = moved d} {heads′ = heads′ d} T) (omega (arith, live e))
+    (stops-due _ _ _ _ _ (at-least (e .before)) (live e) (more x) {h′ = moved d} {heads′ = heads′ d} T (sym (u .due .ensures) ∙ t .if4 .taken)) (c .stand4 .ensures)
 
 loop-less : tie.Need-loop-less Inv-loop μ-loop
 loop-less c =
     let x = taken-at (c .before .before) in
-    omega (arith, live (x .before), ahead-of (x .before .before .before) .0)
+    omega (arith, live (x .before), ahead-of (after-least x) .0)
 
 loop-again : tie.Need-loop-again Inv-loop μ-loop
 loop-again c =
@@ -165,7 +182,7 @@ loop-again c =
     let d = u .before in
     let x = taken-at d in
     let e = x .before in
-    passes _ _ _ _ _ (at-least (e .before)) (live e) (more x) (d .take-document .ensures) (sym (u .due .ensures) ∙ c .if4 .left)
+    passes _ _ _ _ _ (at-least (e .before)) (live e) (more x) {h′ = moved d} {heads′ = heads′ d} (d .take-document .ensures) (sym (u .due .ensures) ∙ c .if4 .left)
 
 pub go-spec : {M : Type 1} → statement M
 go-spec =

@@ -14,6 +14,10 @@ Inv-loop heads n doc₀ q₀ doc q = (doc ≡ leastIn heads q) × (q ≤ n)
 abbrev μ-loop : tie.MeasureT-loop
 μ-loop heads n doc₀ q₀ doc q = n - q
 
+-- the place that the answers look back to
+abbrev loop-of : tie.After-head Inv-loop μ-loop → tie.At-loop Inv-loop μ-loop
+loop-of c = c .before .before
+
 loop-holds : tie.Need-loop-holds Inv-loop μ-loop
 loop-holds c = (refl, omega arith)
 
@@ -30,13 +34,13 @@ loop-less : tie.Need-loop-less Inv-loop μ-loop
 loop-less c = search needs
 
 loop-again : tie.Need-loop-again Inv-loop μ-loop
-loop-again c = let l = c .before .before .before in (least-lower _ (l .loop .q) (l .loop .inv .0) (c .if1 .taken), omega arith)
+loop-again c = let l = loop-of (c .before) in (least-lower _ (l .loop .q) (l .loop .inv .0) (c .if1 .taken), omega arith)
 
 loop-less-2 : tie.Need-loop-less-2 Inv-loop μ-loop
 loop-less-2 c = search needs
 
 loop-again-2 : tie.Need-loop-again-2 Inv-loop μ-loop
-loop-again-2 c = let l = c .before .before .before in (least-stays _ (l .loop .q) (l .loop .inv .0) (c .if1 .left), omega arith)
+loop-again-2 c = let l = loop-of (c .before) in (least-stays _ (l .loop .q) (l .loop .inv .0) (c .if1 .left), omega arith)
 
 returns : tie.Need-returns Inv-loop μ-loop
 returns c =

@@ -15,6 +15,16 @@ Inv-loop file similarity lists caches n doc heads₀ places₀ docs₀ freqs₀ 
 abbrev μ-loop : tie.MeasureT-loop
 μ-loop file similarity lists caches n doc heads₀ places₀ docs₀ freqs₀ found₀ q₀ heads places docs freqs found q = n - q
 
+-- the places that the answers look back to
+abbrev then-of : tie.After-score-arg3 Inv-loop μ-loop → tie.Then1 Inv-loop μ-loop
+then-of c = c .before .before .before
+
+abbrev after-with : tie.After-advance-arg3 Inv-loop μ-loop → tie.After-with Inv-loop μ-loop
+after-with c = c .before .before .before
+
+abbrev start : tie.In-loop Inv-loop μ-loop → tie.Start Inv-loop μ-loop
+start c = c .before .before .before
+
 loop-holds : tie.Need-loop-holds Inv-loop μ-loop
 unfolding ofBits
 loop-holds c = taking-begun _ _ _ _ _ (c .before .pre .3)
@@ -30,7 +40,7 @@ element-copy-out-if1 c = search needs
 
 score-requires : tie.Need-score-requires Inv-loop μ-loop
 score-requires c κs =
-    let t = c .before .before .before in
+    let t = then-of c in
     let i = t .before .before in
     let l = i .before in
     let a = l .before .before in
@@ -39,12 +49,12 @@ score-requires c κs =
 
 with-requires : tie.Need-with-requires Inv-loop μ-loop
 with-requires c κs =
-    let i = c .before .before .before .before .before .before in
-    few-found _ _ _ _ _ (i .before .loop .inv) (i .loop-test .taken) (i .before .before .before .pre .0)
+    let i = then-of (c .before) .before .before in
+    few-found _ _ _ _ _ (i .before .loop .inv) (i .loop-test .taken) (start i .pre .0)
 
 advance-requires : tie.Need-advance-requires Inv-loop μ-loop
 advance-requires c κs =
-    let i = c .before .before .before .before .before .before .before .before .before .before in
+    let i = then-of (after-with c .before .before) .before .before in
     let l = i .before in
     let a = l .before .before in
     let S = this _ _ _ _ _ (l .loop .inv) (i .loop-test .taken) in
@@ -61,12 +71,13 @@ loop-less c = search needs
 
 loop-again : tie.Need-loop-again Inv-loop μ-loop
 loop-again c =
-    let w = c .before .before .before .before in
-    let t = w .before .before .before .before .before in
+    let w = after-with (c .before) in
+    let t = then-of (w .before .before) in
     let i = t .before .before in
     let l = i .before in
     let a = l .before .before in
-    taking-takes _ _ _ _ _ (l .loop .inv) (i .loop-test .taken) (a .pre .0) (a .pre .4) (t .if1 .taken) (w .before .score .ensures) (c .advance .ensures) (w .with .ensures)
+    let z = c .advance .last .1 .1 .1 in
+    taking-takes _ _ _ _ _ (l .loop .inv) (i .loop-test .taken) (a .pre .0) (a .pre .4) (t .if1 .taken) (w .before .score .ensures) {h′ = held (z .0) (z .1 .0) (z .1 .1 .0)} (c .advance .ensures) (w .with .ensures)
 
 loop-less-2 : tie.Need-loop-less-2 Inv-loop μ-loop
 loop-less-2 c = search needs

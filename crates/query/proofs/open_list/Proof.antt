@@ -1,6 +1,7 @@
 -- `open_list` meets its contract: the list's part is read, its weight made, and its first block loaded.
 use mathlib.Core.Path.{sym, subst}
 use borrow.Author.Needs.{needs}
+use Rattle.term_scorer.specs.Inner.Slots.{held}
 use Rattle.bm25.proofs.Numbers.{weight-number, average-number}
 use Rattle.notefile.specs.Inner.Given.{HeaderIn, Limits}
 use Rattle.notefile.proofs.Accepted.{header-inside, list-limits}
@@ -9,6 +10,13 @@ use Rattle.skip_reader.proofs.AcceptedList.{list-in}
 use Rattle.query.proofs.Opening.{listed, max-number, one-opened}
 use Rattle.query.proofs.open_list.Statement.{statement}
 use Rattle.query.proofs.open_list.Tie as tie
+
+-- the places that the answers look back to
+abbrev after-read-part : tie.After-new → tie.After-read-part
+after-read-part c = c .before .before .before
+
+abbrev after-max-score : tie.After-open-arg4 → tie.After-max-score
+after-max-score c = c .before .before .before .before .before
 
 read-part-requires : tie.Need-read-part-requires
 read-part-requires c κs =
@@ -43,24 +51,25 @@ float-to-bits-top : tie.Need-float-to-bits-top
 float-to-bits-top c =
     let m = c .before in
     let n = m .before in
-    let r = n .before .before .before in
+    let r = after-read-part n in
     max-number (r .before .before .args .scoring) (limits-of r) (n .new .ensures) (m .max-score .ensures)
 
 open-requires : tie.Need-open-requires
 open-requires c κs =
-    let m = c .before .before .before .before .before in
-    let r = m .before .before .before .before in
+    let m = after-max-score c in
+    let r = after-read-part (m .before) in
     let a = r .before .before in
     let R = a .pre .4 in
     (a .pre .3, list-of r, R .lists, R .places, R .docs, R .freqs)
 
 returns : tie.Need-returns
 returns c =
-    let m = c .before .before .before .before .before .before in
+    let m = after-max-score (c .before) in
     let n = m .before in
-    let r = n .before .before .before in
+    let r = after-read-part n in
     let a = r .before .before in
-    one-opened (a .args .scoring) (a .args .file .now) (a .args .l) (a .args .q) (a .pre .3) (r .read-part .ensures) (list-of r) (limits-of r) (n .new .ensures) (m .max-score .ensures) _ (a .pre .4) (c .«open» .ensures)
+    let l = c .«open» .last .1 .1 .1 .1 in
+    one-opened (a .args .scoring) (a .args .file .now) (a .args .l) (a .args .q) (a .pre .3) (r .read-part .ensures) (list-of r) (limits-of r) (n .new .ensures) (m .max-score .ensures) _ (a .pre .4) {held′ = held (l .1 .0) (l .1 .1 .0) (l .1 .1 .1 .0)} (c .«open» .ensures)
 
 pub open-list-spec : {M : Type 1} → statement M
 open-list-spec =

@@ -5,7 +5,7 @@ use native.Mathlib.Omega.{arith}
 use lib.ListN.{length}
 use lib.Ieee.{ofBits}
 use borrow.Author.Needs.{needs}
-use Rattle.query.specs.Inner.Openings.{tables, QueryOpened, Untouched}
+use Rattle.query.specs.Inner.Openings.{tables, QueryOpened, Untouched, Tables}
 use Rattle.query.proofs.Opening.{behind-as, behind-one, none-opened, none-touched, one-more}
 use Rattle.query.proofs.open_lists.Statement.{statement}
 use Rattle.query.proofs.open_lists.Tie as tie
@@ -18,6 +18,20 @@ Inv-loop file h scoring query lists₀ caches₀ places₀ docs₀ freqs₀ scor
 abbrev μ-loop : tie.MeasureT-loop
 μ-loop file h scoring query lists₀ caches₀ places₀ docs₀ freqs₀ scorers₀ q₀ lists caches places docs freqs scorers q =
     length query - q
+
+-- the places that the answers look back to
+abbrev in-loop : tie.After-open-list-arg5 Inv-loop μ-loop → tie.In-loop Inv-loop μ-loop
+in-loop c = c .before .before .before .before .before .before
+
+abbrev start : tie.At-loop Inv-loop μ-loop → tie.Start Inv-loop μ-loop
+start c = c .before .before .before
+
+-- the tables at a turn, and those that it left
+abbrev now : tie.At-loop Inv-loop μ-loop → Tables
+now l = tables (l .loop .lists) (l .loop .caches) (l .loop .places) (l .loop .docs) (l .loop .freqs)
+
+abbrev left : tie.After-open-list Inv-loop μ-loop → Tables
+left c = let l = c .open-list .last .1 .1 .1 .1 .1 in tables (l .0) (l .1 .0) (l .1 .1 .0) (l .1 .1 .1 .0) (l .1 .1 .1 .1 .0)
 
 loop-holds : tie.Need-loop-holds Inv-loop μ-loop
 unfolding ofBits
@@ -34,15 +48,15 @@ cast-l c = omega (arith, c .shared-slice-known3 .given (c .before .before .loop 
 
 open-list-requires : tie.Need-open-list-requires Inv-loop μ-loop
 open-list-requires c κs =
-    let i = c .before .before .before .before .before .before in
+    let i = in-loop c in
     let l = i .before in
-    let a = l .before .before .before in
+    let a = start l in
     (a .pre .0, a .pre .1, a .pre .3 (l .loop .q) (i .loop-test .taken), omega (arith, i .loop-test .taken, a .pre .2), l .loop .inv .0 .room)
 
-small : (c : tie.After-open-list Inv-loop μ-loop) → c .before .before .before .before .before .before .before .before .loop .q < 16
+small : (c : tie.After-open-list Inv-loop μ-loop) → in-loop (c .before) .before .loop .q < 16
 small c =
-    let i = c .before .before .before .before .before .before .before in
-    let a = i .before .before .before .before in
+    let i = in-loop (c .before) in
+    let a = start (i .before) in
     omega (arith, i .loop-test .taken, a .pre .2)
 
 mul-scorers : tie.Need-mul-scorers Inv-loop μ-loop
@@ -55,22 +69,21 @@ add-q : tie.Need-add-q Inv-loop μ-loop
 add-q c = omega (arith, small c)
 
 loop-less : tie.Need-loop-less Inv-loop μ-loop
-loop-less c = let i = c .before .before .before .before .before .before .before in omega (arith, i .loop-test .taken)
+loop-less c = let i = in-loop (c .before) in omega (arith, i .loop-test .taken)
 
 loop-again : tie.Need-loop-again Inv-loop μ-loop
 loop-again c =
-    let i = c .before .before .before .before .before .before .before in
+    let i = in-loop (c .before) in
     let l = i .before in
-    let a = l .before .before .before in
-    (one-more (a .args .scoring) (a .args .file .now) (a .args .query .now) (l .loop .q) _ _ (l .loop .scorers) (small c) (l .loop .inv .0) (c .open-list .ensures), omega (arith, i .loop-test .taken), behind-one _ _ _ _ (l .loop .inv .2) (c .open-list .ensures .only))
+    let a = start l in
+    (one-more (a .args .scoring) (a .args .file .now) (a .args .query .now) (l .loop .q) (now l) (left c) (l .loop .scorers) (small c) (l .loop .inv .0) (c .open-list .ensures), omega (arith, i .loop-test .taken), behind-one _ _ (now l) (left c) (l .loop .inv .2) (c .open-list .ensures .only))
 
 returns : tie.Need-returns Inv-loop μ-loop
 returns c =
     let l = c .before in
-    let a = l .before .before .before in
+    let a = start l in
     let e : l .loop .q ≡ length (a .args .query .now) = omega (arith, l .loop .inv .1, c .loop-test .left) in
-    let b = tables (l .loop .lists) (l .loop .caches) (l .loop .places) (l .loop .docs) (l .loop .freqs) in
-    (subst (λ (n : ℕ). QueryOpened (a .args .scoring) (a .args .file .now) (a .args .query .now) n b (l .loop .scorers)) e (l .loop .inv .0), behind-as e (l .loop .inv .2))
+    (subst (λ (n : ℕ). QueryOpened (a .args .scoring) (a .args .file .now) (a .args .query .now) n (now l) (l .loop .scorers)) e (l .loop .inv .0), behind-as e (l .loop .inv .2))
 
 pub open-lists-spec : {M : Type 1} → statement M
 open-lists-spec =

@@ -7,14 +7,18 @@ use Rattle.block_wand_single.proofs.Scorers.{last-low, skip-over, skip-
 use Rattle.block_wand_single.proofs.hunt.skip.Statement.{statement}
 use Rattle.block_wand_single.proofs.hunt.skip.Tie as tie
 
+-- the place that the answers look back to
+abbrev start : tie.After-last-doc-in-block → tie.Start
+start c = c .before .before .before
+
 last-doc-in-block-requires : tie.Need-last-doc-in-block-requires
 last-doc-in-block-requires c κs = let a = c .before .before in (a .pre .0, last-small _ _ _ (a .pre .1 .standing))
 
 returns : tie.Need-returns
-returns c = let l = c .before in skip-over (l .before .before .before .pre .1) _ (l .last-doc-in-block .ensures) (c .if1 .taken)
+returns c = let l = c .before in skip-over (start l .pre .1) _ (l .last-doc-in-block .ensures) (c .if1 .taken)
 
 add-doc : tie.Need-add-doc
-add-doc c = let l = c .before in let a = l .before .before .before in omega (arith, l .last-doc-in-block .ensures, last-low (a .pre .1) Unstepped)
+add-doc c = let l = c .before in let a = start l in omega (arith, l .last-doc-in-block .ensures, last-low (a .pre .1) Unstepped)
 
 seek-block-requires : tie.Need-seek-block-requires
 seek-block-requires c κs = search needs
@@ -23,7 +27,7 @@ returns-2 : tie.Need-returns-2
 returns-2 c =
     let e = c .before .before in
     let l = e .before in
-    skip-past (l .before .before .before .pre .1) _ (l .last-doc-in-block .ensures) (e .if1 .left) (c .seek-block .ensures)
+    skip-past (start l .pre .1) _ (l .last-doc-in-block .ensures) (e .if1 .left) (c .seek-block .ensures)
 
 pub skip-spec : {M : Type 1} → statement M
 skip-spec =

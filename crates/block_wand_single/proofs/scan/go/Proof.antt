@@ -1,10 +1,12 @@
 -- `scan::go` meets its contract: each stretch of turns is the route's, and so is why the last one ended.
+use mathlib.Core.List.{List}
 use mathlib.Core.Path.{sym, _∙_}
 use Prim.Native.Nat.{_-_}
 use native.Mathlib.Omega.{arith}
+use lib.Ieee.{Float}
 use borrow.Author.Needs.{needs}
 use Rattle.route.proofs.Cases.{lt-of-ne}
-use Rattle.term_scorer.specs.Inner.Slots.{held}
+use Rattle.term_scorer.specs.Inner.Slots.{held, Held}
 use Rattle.block_wand_single.proofs.Going.{Going, going-begun, going-less, going-on, gone-over, gone-report, gone-through, taken-fits}
 use Rattle.block_wand_single.proofs.scan.go.Statement.{statement}
 use Rattle.block_wand_single.proofs.scan.go.Tie as tie
@@ -15,6 +17,23 @@ Inv-loop file similarity lists caches threshold turns places₀ docs₀ freqs₀
 
 abbrev μ-loop : tie.MeasureT-loop
 μ-loop file similarity lists caches threshold turns places₀ docs₀ freqs₀ floats₀ single₀ taken₀ places docs freqs floats single taken = turns - taken
+
+-- the places that the answers look back to
+abbrev loop-of : tie.After-stride Inv-loop μ-loop → tie.At-loop Inv-loop μ-loop
+loop-of c = c .before .before .before .before .before .before .before .before
+
+abbrev after-stride : tie.After-is-report Inv-loop μ-loop → tie.After-stride Inv-loop μ-loop
+after-stride c = c .before .before .before
+
+abbrev else-of : tie.After-stride-arg4 Inv-loop μ-loop → tie.Else2 Inv-loop μ-loop
+else-of c = c .before .before .before .before
+
+-- the slots and the floats that a stride left
+abbrev strode : tie.After-stride Inv-loop μ-loop → Held
+strode s = let l = s .stride .last .1 .1 .1 .1 .1 .1 .1 in held (l .0) (l .1 .0) (l .1 .1 .0)
+
+abbrev floats′ : tie.After-stride Inv-loop μ-loop → List (List Float)
+floats′ s = s .stride .last .1 .1 .1 .1 .1 .1 .1 .1 .1 .1 .0
 
 loop-holds : tie.Need-loop-holds Inv-loop μ-loop
 loop-holds c = going-begun _ _ (c .before .pre)
@@ -42,11 +61,11 @@ returns-2 c =
     rw (c .gone2 .ensures) (gone-through (o .before .loop .inv) (sym (o .is-over .ensures) ∙ e .if1 .left) (t .if2 .taken))
 
 sub-stride : tie.Need-sub-stride Inv-loop μ-loop
-sub-stride c = c .before .before .before .loop .inv .few
+sub-stride c = let o = c .before .before in o .before .loop .inv .few
 
 stride-requires : tie.Need-stride-requires Inv-loop μ-loop
 stride-requires c κs =
-    let f = c .before .before .before .before in
+    let f = else-of c in
     let e = f .before in
     let o = e .before in
     let G = o .before .loop .inv in
@@ -55,8 +74,8 @@ stride-requires c κs =
 add-taken : tie.Need-add-taken Inv-loop μ-loop
 add-taken c =
     let s = c .before .before in
-    let l = s .before .before .before .before .before .before .before .before in
-    omega (arith, taken-fits (l .loop .inv) (s .stride .ensures))
+    let l = loop-of s in
+    omega (arith, taken-fits (l .loop .inv) {h″ = strode s} {floats′ = floats′ s} (s .stride .ensures))
 
 is-report-requires : tie.Need-is-report-requires Inv-loop μ-loop
 is-report-requires c κs = search needs
@@ -68,23 +87,23 @@ returns-3 : tie.Need-returns-3 Inv-loop μ-loop
 returns-3 c =
     let t = c .before in
     let r = t .before in
-    let s = r .before .before .before in
-    let l = s .before .before .before .before .before .before .before .before in
-    rw (c .gone3 .ensures) (gone-report (l .loop .inv) (s .stride .ensures) (sym (r .is-report .ensures) ∙ t .if3 .taken))
+    let s = after-stride r in
+    let l = loop-of s in
+    rw (c .gone3 .ensures) (gone-report (l .loop .inv) {h″ = strode s} {floats′ = floats′ s} (s .stride .ensures) (sym (r .is-report .ensures) ∙ t .if3 .taken))
 
 loop-less : tie.Need-loop-less Inv-loop μ-loop
 loop-less c =
     let r = c .before in
-    let s = r .before .before .before in
-    let l = s .before .before .before .before .before .before .before .before in
-    going-less (l .loop .inv) (s .stride .ensures) (sym (r .is-report .ensures) ∙ c .if3 .left)
+    let s = after-stride r in
+    let l = loop-of s in
+    going-less (l .loop .inv) {h″ = strode s} {floats′ = floats′ s} (s .stride .ensures) (sym (r .is-report .ensures) ∙ c .if3 .left)
 
 loop-again : tie.Need-loop-again Inv-loop μ-loop
 loop-again c =
     let r = c .before in
-    let s = r .before .before .before in
-    let l = s .before .before .before .before .before .before .before .before in
-    going-on (l .loop .inv) (s .stride .ensures) (sym (r .is-report .ensures) ∙ c .if3 .left)
+    let s = after-stride r in
+    let l = loop-of s in
+    going-on (l .loop .inv) {h″ = strode s} {floats′ = floats′ s} (s .stride .ensures) (sym (r .is-report .ensures) ∙ c .if3 .left)
 
 pub go-spec : {M : Type 1} → statement M
 go-spec =

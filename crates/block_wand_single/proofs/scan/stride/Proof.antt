@@ -1,9 +1,17 @@
 -- `scan::stride` meets its contract: a turn of the hunt, or a walk, by the phase.
 use mathlib.Core.Path.{refl, sym, _∙_}
 use borrow.Author.Needs.{needs}
+use Rattle.term_scorer.specs.Inner.Slots.{held}
 use Rattle.block_wand_single.proofs.Going.{hunt-strides, is-hunt}
 use Rattle.block_wand_single.proofs.scan.stride.Statement.{statement}
 use Rattle.block_wand_single.proofs.scan.stride.Tie as tie
+
+-- the places that the answers look back to
+abbrev then-of : tie.After-walk-arg3 → tie.Then1
+then-of c = c .before .before .before
+
+abbrev else-of : tie.After-hunt-arg4 → tie.Else1
+else-of c = c .before .before .before .before
 
 on-walk-requires : tie.Need-on-walk-requires
 on-walk-requires c κs = search needs
@@ -13,7 +21,7 @@ index-1-walk c = search needs
 
 walk-requires : tie.Need-walk-requires
 walk-requires c κs =
-    let t = c .before .before .before in
+    let t = then-of c in
     let w = t .before in
     let a = w .before .before in (
       record {
@@ -28,7 +36,7 @@ walk-requires c κs =
 
 returns : tie.Need-returns
 returns c =
-    let t = c .before .before .before .before in
+    let t = then-of (c .before) in
     let w = t .before in
     let a = w .before .before in
     c .walk .ensures .steps (a .args .similarity) (a .args .caches .now) (a .args .freqs .now) (a .args .floats .now)
@@ -36,17 +44,18 @@ returns c =
 
 hunt-requires : tie.Need-hunt-requires
 hunt-requires c κs =
-    let e = c .before .before .before .before in
+    let e = else-of c in
     let w = e .before in
     let a = w .before .before in
     (a .pre .0, is-hunt _ (sym (w .on-walk .ensures) ∙ e .if1 .left) (a .pre .1))
 
 returns-2 : tie.Need-returns-2
 returns-2 c =
-    let e = c .before .before .before .before .before in
+    let e = else-of (c .before) in
     let w = e .before in
     let a = w .before .before in
-    hunt-strides (is-hunt _ (sym (w .on-walk .ensures) ∙ e .if1 .left) (a .pre .1)) (a .pre .2) (c .hunt .ensures)
+    let l = c .hunt .last .1 .1 .1 .1 .1 .1 in
+    hunt-strides {lists = a .args .lists .now} {caches = a .args .caches .now} {h = held (a .args .places .now) (a .args .docs .now) (a .args .freqs .now)} {h′ = held (l .0) (l .1 .0) (l .1 .1 .0)} {floats = l .1 .1 .1 .0} (is-hunt _ (sym (w .on-walk .ensures) ∙ e .if1 .left) (a .pre .1)) (a .pre .2) (c .hunt .ensures)
 
 pub stride-spec : {M : Type 1} → statement M
 stride-spec =

@@ -12,6 +12,10 @@ Inv-loop values from n threshold i₀ i = Seeking values from n threshold i
 abbrev μ-loop : tie.MeasureT-loop
 μ-loop values from n threshold i₀ i = n - i
 
+-- the place that the answers look back to
+abbrev loop-of : tie.After-if12 Inv-loop μ-loop → tie.At-loop Inv-loop μ-loop
+loop-of c = c .before .before
+
 loop-holds : tie.Need-loop-holds Inv-loop μ-loop
 loop-holds c = seeking-begun _ _ _ _ (c .pre .0)
 
@@ -22,7 +26,7 @@ element-copy-out-if1 : tie.Need-element-copy-out-if1 Inv-loop μ-loop
 element-copy-out-if1 c = search needs
 
 returns : tie.Need-returns Inv-loop μ-loop
-returns c = first-found _ _ _ _ (c .before .before .before .loop .inv) (c .if1 .taken)
+returns c = first-found _ _ _ _ (loop-of (c .before) .loop .inv) (c .if1 .taken)
 
 add-i : tie.Need-add-i Inv-loop μ-loop
 add-i c = search needs
@@ -31,7 +35,7 @@ loop-less : tie.Need-loop-less Inv-loop μ-loop
 loop-less c = search needs
 
 loop-again : tie.Need-loop-again Inv-loop μ-loop
-loop-again c = seeking-on _ _ _ _ (c .before .before .before .loop .inv) (omega arith) (c .if1 .left)
+loop-again c = seeking-on _ _ _ _ (loop-of (c .before) .loop .inv) (omega arith) (c .if1 .left)
 
 returns-2 : tie.Need-returns-2 Inv-loop μ-loop
 returns-2 c = none-found _ _ _ _ (c .before .loop .inv) (omega arith)

@@ -5,6 +5,10 @@ use Rattle.block_wand_single.proofs.Scorers.{placed-in, placed-out, put
 use Rattle.block_wand_single.proofs.walk.to_place.Statement.{statement}
 use Rattle.block_wand_single.proofs.walk.to_place.Tie as tie
 
+-- the place that the answers look back to
+abbrev start : tie.After-last-place → tie.Start
+start c = c .before .before .before
+
 mul-places : tie.Need-mul-places
 mul-places c = search needs
 
@@ -47,7 +51,7 @@ index-2-places-2 c = search needs
 skip-requires : tie.Need-skip-requires
 skip-requires c κs =
     let l = c .before in
-    let a = l .before .before .before in
+    let a = start l in
     (a .pre .0, standing-in (put-slot (a .pre .2 .1) (a .pre .0) (l .last-place .result) (omega (arith, l .last-place .ensures))))
 
 returns-2 : tie.Need-returns-2

@@ -8,6 +8,13 @@ use Rattle.block_wand_single.proofs.Walking.{cur-in, cur-inside, low, r
 use Rattle.block_wand_single.proofs.walk.walk.Statement.{statement}
 use Rattle.block_wand_single.proofs.walk.walk.Tie as tie
 
+-- the places that the answers look back to
+abbrev start : tie.After-block-len-arg2 → tie.Start
+start c = c .before .before .before .before
+
+abbrev after-block-len : tie.After-to-place-arg → tie.After-block-len
+after-block-len c = c .before .before .before .before .before
+
 mul-cur : tie.Need-mul-cur
 mul-cur c = search needs
 
@@ -36,19 +43,19 @@ index-2-block-len-2 : tie.Need-index-2-block-len-2
 index-2-block-len-2 c = search needs
 
 block-len-requires : tie.Need-block-len-requires
-block-len-requires c κs = let a = c .before .before .before .before in starts (a .pre .0 .tables)
+block-len-requires c κs = let a = start c in starts (a .pre .0 .tables)
 
 reach-requires : tie.Need-reach-requires
-reach-requires c κs = let a = c .before .before .before .before .before in omega (arith, cur-in (a .pre .0 .tables) (c .block-len .ensures))
+reach-requires c κs = let a = start (c .before) in omega (arith, cur-in (a .pre .0 .tables) (c .block-len .ensures))
 
 first-asked-requires : tie.Need-first-asked-requires
-first-asked-requires c κs = let a = c .before .before .before .before .before .before in cur-inside (a .pre .0 .tables)
+first-asked-requires c κs = let a = start (c .before .before) in cur-inside (a .pre .0 .tables)
 
 first-above-requires : tie.Need-first-above-requires
 first-above-requires c κs =
     let r = c .before in
     let b = r .before in
-    let a = b .before .before .before .before .before in
+    let a = start (b .before) in
     room (a .pre .0 .tables) (b .block-len .ensures) (a .args .threshold) (a .pre .1) (r .reach .ensures) (c .first-asked .ensures)
 
 sub-taken : tie.Need-sub-taken
@@ -56,13 +63,13 @@ sub-taken c =
     let p = c .before in
     let r = p .before in
     let b = r .before in
-    let a = b .before .before .before .before .before in
+    let a = start (b .before) in
     low (a .pre .0 .tables) (b .block-len .ensures) (a .args .threshold) (a .pre .1) (r .reach .ensures) (p .first-asked .ensures) (c .first-above .ensures)
 
 to-place-requires : tie.Need-to-place-requires
 to-place-requires c κs =
-    let b = c .before .before .before .before .before in
-    let a = b .before .before .before .before .before in
+    let b = after-block-len c in
+    let a = start (b .before) in
     let S = a .pre .0 .tables .stands .ready in
     (S .small, short (a .pre .0 .tables) (b .block-len .ensures), (_, S .slot))
 
@@ -73,7 +80,7 @@ returns c =
     let p = f .before in
     let r = p .before in
     let b = r .before in
-    let a = b .before .before .before .before .before in
+    let a = start (b .before) in
     record {
       steps = λ similarity caches freqs floats T.
           walk-on T (b .block-len .ensures) (a .args .threshold) (a .pre .1) (r .reach .ensures) (p .first-asked .ensures) (f .first-above .ensures) (t .if1 .taken) (c .to-place .ensures);
@@ -95,7 +102,7 @@ found-in c =
     let p = f .before in
     let r = p .before in
     let b = r .before in
-    let a = b .before .before .before .before .before in
+    let a = start (b .before) in
     let h = room (a .pre .0 .tables) (b .block-len .ensures) (a .args .threshold) (a .pre .1) (r .reach .ensures) (p .first-asked .ensures) in
     let e = lt-of-ne (f .first-above .ensures .high) (c .if1 .left) in
     omega (arith, h .1)
@@ -128,7 +135,7 @@ returns-2 c =
     let p = f .before in
     let r = p .before in
     let b = r .before in
-    let a = b .before .before .before .before .before in
+    let a = start (b .before) in
     record {
       steps = λ similarity caches freqs floats T.
           walk-due T (b .block-len .ensures) (a .args .threshold) (a .pre .1) (r .reach .ensures) (p .first-asked .ensures) (f .first-above .ensures) (e .if1 .left) refl;
