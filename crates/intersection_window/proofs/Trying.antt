@@ -157,6 +157,9 @@ module _ (x : Query) (c : ℕ) (score t : Float) (rests : List Float) (h₀ : He
             pub seated-there : SlotsIn x h′
             seated-there = still-seated x (T .seated) hq M
 
+            pub on-candidate : sought ≡ c → c ≡ docIn (x .file) (partAt (x .lists) q) (cursorAt (h′ .places) q .at)
+            on-candidate e = sym e ∙ M .moved .doc-is
+
             front-stays : scorersBetween x (h′ .places) 1 i ≡ scorersBetween x (h .places) 1 i
             front-stays = others-stay x O hi (moved-only x (T .seated) hq M) 1 i (T .high) (λ k u v e. omega arith)
 

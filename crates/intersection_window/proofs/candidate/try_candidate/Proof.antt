@@ -1,13 +1,12 @@
 -- `try_candidate` meets its contract: each turn asks one secondary as the route does, and what is left of them decides.
-use mathlib.Core.Path.{sym, _∙_}
 use Prim.Native.Nat.{_-_, _<_}
 use native.Mathlib.Omega.{arith}
 use lib.ListN.{getD}
 use borrow.Author.Needs.{needs}
-use Rattle.term_scorer.specs.Inner.Slots.{held}
+use Rattle.term_scorer.specs.Inner.Slots.{held, Held}
 use Rattle.intersection_window.specs.Inner.Scorers.{query, InOrder}
 use Rattle.intersection_window.proofs.Seats.{cur-small, doc-here, slot-small}
-use Rattle.intersection_window.proofs.Trying.{Trying, begun, due, goes-on, missed, not-above, past, seated-there, too-low}
+use Rattle.intersection_window.proofs.Trying.{Trying, begun, due, goes-on, missed, not-above, past, seated-there, too-low, on-candidate}
 use Rattle.intersection_window.proofs.candidate.try_candidate.Statement.{statement}
 use Rattle.intersection_window.proofs.candidate.try_candidate.Tie as tie
 
@@ -20,19 +19,32 @@ abbrev μ-loop : tie.MeasureT-loop
     n - i
 
 -- the places that the answers look back to
-abbrev in-loop : tie.After-doc Inv-loop μ-loop → tie.In-loop Inv-loop μ-loop
-in-loop d = d .before .before .before .before
+abbrev start : tie.In-loop Inv-loop μ-loop → tie.Start Inv-loop μ-loop
+start c = c .before .before .before
+
+abbrev else-of : tie.After-score-arg3 Inv-loop μ-loop → tie.Else2 Inv-loop μ-loop
+else-of c = c .before .before .before
+
+abbrev after-doc : tie.After-seek-arg3 Inv-loop μ-loop → tie.After-doc Inv-loop μ-loop
+after-doc c = c .before .before .before .before
+
+abbrev in-loop : tie.After-doc-arg2 Inv-loop μ-loop → tie.In-loop Inv-loop μ-loop
+in-loop d = d .before .before .before
 
 abbrev not-past : tie.After-seek Inv-loop μ-loop → tie.Else1 Inv-loop μ-loop
 not-past m = m .before .before .before .before
 
-order-in : (l : tie.In-loop Inv-loop μ-loop) → InOrder (query (l .before .before .before .args .similarity) (l .before .before .before .args .file .now) (l .before .before .before .args .lists .now) (l .before .before .before .args .caches .now) (l .before .before .before .args .n) (l .before .before .before .args .order .now))
-order-in l = l .before .before .before .pre .0
+-- the slots that a seek left
+abbrev sought : tie.After-seek Inv-loop μ-loop → Held
+sought m = let l = m .seek .last .1 .1 .1 .1 .1 in held (l .0) (l .1 .0) (l .1 .1 .0)
 
-small : (l : tie.In-loop Inv-loop μ-loop) → getD (l .before .before .before .args .order .now) (l .before .loop .i) 0 < 16
+order-in : (l : tie.In-loop Inv-loop μ-loop) → InOrder (query (start l .args .similarity) (start l .args .file .now) (start l .args .lists .now) (start l .args .caches .now) (start l .args .n) (start l .args .order .now))
+order-in l = start l .pre .0
+
+small : (l : tie.In-loop Inv-loop μ-loop) → getD (start l .args .order .now) (l .before .loop .i) 0 < 16
 small l = slot-small (order-in l) (l .loop-test .taken)
 
-within : (l : tie.In-loop Inv-loop μ-loop) → getD (l .before .before .before .args .order .now) (l .before .loop .i) 0 < l .before .before .before .args .n
+within : (l : tie.In-loop Inv-loop μ-loop) → getD (start l .args .order .now) (l .before .loop .i) 0 < start l .args .n
 within l = order-in l .below (l .before .loop .i) (l .loop-test .taken)
 
 loop-holds : tie.Need-loop-holds Inv-loop μ-loop
@@ -46,36 +58,36 @@ element-copy-out-q c = search needs
 
 doc-requires : tie.Need-doc-requires Inv-loop μ-loop
 doc-requires c κs =
-    let l = c .before .before .before in
+    let l = in-loop c in
     (small l, cur-small (l .before .loop .inv .seated) (within l))
 
 returns : tie.Need-returns Inv-loop μ-loop
 returns c =
-    let l = c .before .before .before .before .before in
+    let l = in-loop (c .before .before) in
     past _ _ _ _ _ _ (order-in l) (l .before .loop .inv) (l .loop-test .taken) (doc-here (l .before .loop .inv .seated) (within l) (c .before .doc .ensures)) (c .if1 .taken)
 
 seek-requires : tie.Need-seek-requires Inv-loop μ-loop
 seek-requires c κs =
-    let d = c .before .before .before .before in
-    let l = in-loop d in
-    (small l, l .before .loop .inv .seated .slot _ (within l), doc-here (l .before .loop .inv .seated) (within l) (d .doc .ensures), omega (arith, l .before .before .before .pre .2))
+    let d = after-doc c in
+    let l = in-loop (d .before) in
+    (small l, l .before .loop .inv .seated .slot _ (within l), doc-here (l .before .loop .inv .seated) (within l) (d .doc .ensures), omega (arith, start l .pre .2))
 
 returns-2 : tie.Need-returns-2 Inv-loop μ-loop
 returns-2 c =
     let m = c .before in
     let d = not-past m .before in
-    let l = in-loop d in
-    missed _ _ _ _ _ _ (order-in l) (l .before .loop .inv) (l .loop-test .taken) (doc-here (l .before .loop .inv .seated) (within l) (d .doc .ensures)) (not-past m .if1 .left) (m .seek .ensures) (c .if2 .taken)
+    let l = in-loop (d .before) in
+    missed _ _ _ _ _ _ (order-in l) (l .before .loop .inv) (l .loop-test .taken) (doc-here (l .before .loop .inv .seated) (within l) (d .doc .ensures)) (not-past m .if1 .left) {h′ = sought m} (m .seek .ensures) (c .if2 .taken)
 
 score-requires : tie.Need-score-requires Inv-loop μ-loop
 score-requires c κs =
-    let e = c .before .before .before in
+    let e = else-of c in
     let m = e .before in
     let d = not-past m .before in
-    let l = in-loop d in
-    let a = l .before .before .before in
-    let S = seated-there _ _ _ _ _ _ (order-in l) (l .before .loop .inv) (l .loop-test .taken) (doc-here (l .before .loop .inv .seated) (within l) (d .doc .ensures)) (not-past m .if1 .left) (m .seek .ensures) in
-    (small l, a .pre .0 .norms-are, S .slot _ (within l), a .pre .0 .weighed _ (within l), sym (e .if2 .left) ∙ m .seek .ensures .moved .doc-is, a .pre .2)
+    let l = in-loop (d .before) in
+    let a = start l in
+    let S = seated-there _ _ _ _ _ _ (order-in l) (l .before .loop .inv) (l .loop-test .taken) (doc-here (l .before .loop .inv .seated) (within l) (d .doc .ensures)) (not-past m .if1 .left) {h′ = sought m} (m .seek .ensures) in
+    (small l, a .pre .0 .norms-are, S .slot _ (within l), a .pre .0 .weighed _ (within l), on-candidate _ _ _ _ _ _ (order-in l) (l .before .loop .inv) (l .loop-test .taken) (doc-here (l .before .loop .inv .seated) (within l) (d .doc .ensures)) (not-past m .if1 .left) {h′ = sought m} (m .seek .ensures) (e .if2 .left), a .pre .2)
 
 mul-if3 : tie.Need-mul-if3 Inv-loop μ-loop
 mul-if3 c = search needs
@@ -92,20 +104,20 @@ loop-less c = search needs
 loop-again : tie.Need-loop-again Inv-loop μ-loop
 loop-again c =
     let v = c .before .before in
-    let e = v .before .before .before .before in
+    let e = else-of (v .before) in
     let m = e .before in
     let d = not-past m .before in
-    let l = in-loop d in
-    goes-on _ _ _ _ _ _ (order-in l) (l .before .loop .inv) (l .loop-test .taken) (doc-here (l .before .loop .inv .seated) (within l) (d .doc .ensures)) (not-past m .if1 .left) (m .seek .ensures) (e .if2 .left) (v .score .ensures) (c .if3 .taken)
+    let l = in-loop (d .before) in
+    goes-on _ _ _ _ _ _ (order-in l) (l .before .loop .inv) (l .loop-test .taken) (doc-here (l .before .loop .inv .seated) (within l) (d .doc .ensures)) (not-past m .if1 .left) {h′ = sought m} (m .seek .ensures) (e .if2 .left) (v .score .ensures) (c .if3 .taken)
 
 returns-3 : tie.Need-returns-3 Inv-loop μ-loop
 returns-3 c =
     let v = c .before .before in
-    let e = v .before .before .before .before in
+    let e = else-of (v .before) in
     let m = e .before in
     let d = not-past m .before in
-    let l = in-loop d in
-    too-low _ _ _ _ _ _ (order-in l) (l .before .loop .inv) (l .loop-test .taken) (doc-here (l .before .loop .inv .seated) (within l) (d .doc .ensures)) (not-past m .if1 .left) (m .seek .ensures) (e .if2 .left) (v .score .ensures) (c .if3 .left)
+    let l = in-loop (d .before) in
+    too-low _ _ _ _ _ _ (order-in l) (l .before .loop .inv) (l .loop-test .taken) (doc-here (l .before .loop .inv .seated) (within l) (d .doc .ensures)) (not-past m .if1 .left) {h′ = sought m} (m .seek .ensures) (e .if2 .left) (v .score .ensures) (c .if3 .left)
 
 returns-4 : tie.Need-returns-4 Inv-loop μ-loop
 returns-4 c = let l = c .before .before in due _ _ _ _ _ _ (l .before .before .pre .0) (l .loop .inv) (c .before .loop-test .left) (c .if4 .taken)

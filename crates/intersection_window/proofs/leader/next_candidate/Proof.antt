@@ -17,6 +17,10 @@ Inv-loop docs scores window-end score-threshold i₀ i =
 abbrev μ-loop : tie.MeasureT-loop
 μ-loop docs scores window-end score-threshold i₀ i = 128 - i
 
+-- the place that the answers look back to
+abbrev in-loop : tie.Else1 Inv-loop μ-loop → tie.In-loop Inv-loop μ-loop
+in-loop c = c .before .before
+
 loop-holds : tie.Need-loop-holds Inv-loop μ-loop
 loop-holds c = λ l b R. begun l b _ (c .pre)
 
@@ -30,7 +34,7 @@ returns : tie.Need-returns Inv-loop μ-loop
 returns c = let t = c .before .before in λ l b R. ends l b _ (t .before .loop .inv l b R) (window-ends R _ _ _ (t .loop-test .taken) refl (c .if1 .taken))
 
 returns-2 : tie.Need-returns-2 Inv-loop μ-loop
-returns-2 c = let t = c .before .before .before in λ l b R. ends l b _ (t .before .loop .inv l b R) (list-ends R _ _ _ (t .loop-test .taken) refl (c .if2 .taken))
+returns-2 c = let t = in-loop (c .before) in λ l b R. ends l b _ (t .before .loop .inv l b R) (list-ends R _ _ _ (t .loop-test .taken) refl (c .if2 .taken))
 
 mul-score : tie.Need-mul-score Inv-loop μ-loop
 mul-score c = search needs
@@ -44,7 +48,7 @@ add-i c = search needs
 returns-3 : tie.Need-returns-3 Inv-loop μ-loop
 returns-3 c =
     let e = c .before .before in
-    let t = e .before .before .before in
+    let t = in-loop (e .before) in
     λ l b R. hits R (t .before .before .args .left) (t .before .loop .inv l b R) (t .loop-test .taken) refl (e .before .if1 .left) (e .if2 .left) refl (c .if3 .taken)
 
 loop-less : tie.Need-loop-less Inv-loop μ-loop
@@ -53,7 +57,7 @@ loop-less c = search needs
 loop-again : tie.Need-loop-again Inv-loop μ-loop
 loop-again c =
     let e = c .before .before in
-    let t = e .before .before .before in
+    let t = in-loop (e .before) in
     λ l b R. skips R (t .before .before .args .left) (t .before .loop .inv l b R) (t .loop-test .taken) refl (e .before .if1 .left) (e .if2 .left) refl (c .if3 .left)
 
 returns-4 : tie.Need-returns-4 Inv-loop μ-loop

@@ -17,6 +17,19 @@ abbrev μ-loop : tie.MeasureT-loop
 μ-loop file similarity lists caches n order doc leader-end places₀ docs freqs bounds₀ window-end₀ block-max-sum₀ i₀ places bounds window-end block-max-sum i =
     n - i
 
+-- the places that the answers look back to
+abbrev start : tie.At-loop Inv-loop μ-loop → tie.Start Inv-loop μ-loop
+start c = c .before .before
+
+abbrev in-loop : tie.After-shallow-seek Inv-loop μ-loop → tie.In-loop Inv-loop μ-loop
+in-loop c = c .before .before .before
+
+abbrev after-shallow-seek : tie.After-last-doc-in-block-arg Inv-loop μ-loop → tie.After-shallow-seek Inv-loop μ-loop
+after-shallow-seek c = c .before .before .before .before
+
+abbrev after-least : tie.After-block-max-arg2 Inv-loop μ-loop → tie.After-least Inv-loop μ-loop
+after-least c = c .before .before
+
 loop-holds : tie.Need-loop-holds Inv-loop μ-loop
 unfolding ofBits
 loop-holds c = begun _ _ _ _ (c .before .pre .0) (c .before .pre .1)
@@ -30,7 +43,7 @@ element-copy-out-q c = search needs
 shallow-seek-requires : tie.Need-shallow-seek-requires Inv-loop μ-loop
 shallow-seek-requires c κs =
     let l = c .before .before in
-    let a = l .before .before .before in
+    let a = start (l .before) in
     let O = a .pre .0 in
     let G = l .before .loop .inv in
     let hi = l .loop-test .taken in
@@ -40,8 +53,8 @@ shallow-seek-requires c κs =
 has-remaining-docs-requires : tie.Need-has-remaining-docs-requires Inv-loop μ-loop
 has-remaining-docs-requires c κs =
     let s = c .before in
-    let l = s .before .before .before in
-    let a = l .before .before .before in
+    let l = in-loop s in
+    let a = start (l .before) in
     let O = a .pre .0 in
     let G = l .before .loop .inv in
     let hi = l .loop-test .taken in
@@ -52,8 +65,8 @@ returns : tie.Need-returns Inv-loop μ-loop
 returns c =
     let h = c .before in
     let s = h .before .before in
-    let l = s .before .before .before in
-    let a = l .before .before .before in
+    let l = in-loop s in
+    let a = start (l .before) in
     let O = a .pre .0 in
     let G = l .before .loop .inv in
     let hi = l .loop-test .taken in
@@ -62,9 +75,9 @@ returns c =
 
 last-doc-in-block-requires : tie.Need-last-doc-in-block-requires Inv-loop μ-loop
 last-doc-in-block-requires c κs =
-    let s = c .before .before .before .before in
-    let l = s .before .before .before in
-    let a = l .before .before .before in
+    let s = after-shallow-seek c in
+    let l = in-loop s in
+    let a = start (l .before) in
     let O = a .pre .0 in
     let G = l .before .loop .inv in
     let hi = l .loop-test .taken in
@@ -76,9 +89,9 @@ least-requires c κs = search needs
 
 block-max-requires : tie.Need-block-max-requires Inv-loop μ-loop
 block-max-requires c κs =
-    let s = c .before .before .before .before .before .before .before .before in
-    let l = s .before .before .before in
-    let a = l .before .before .before in
+    let s = after-shallow-seek (after-least c .before .before) in
+    let l = in-loop s in
+    let a = start (l .before) in
     let O = a .pre .0 in
     let G = l .before .loop .inv in
     let hi = l .loop-test .taken in
@@ -93,21 +106,22 @@ loop-less c = search needs
 
 loop-again : tie.Need-loop-again Inv-loop μ-loop
 loop-again c =
-    let m = c .before .before .before in
+    let m = after-least (c .before) in
     let t = m .before in
     let e = t .before .before in
     let h = e .before in
     let s = h .before .before in
-    let l = s .before .before .before in
-    let a = l .before .before .before in
+    let l = in-loop s in
+    let a = start (l .before) in
     let O = a .pre .0 in
     let G = l .before .loop .inv in
     let hi = l .loop-test .taken in
     let hq = O .below _ hi in
-    goes-on _ _ _ _ O G hi (s .shallow-seek .ensures) (h .has-remaining-docs .ensures) (e .if1 .left) (t .last-doc-in-block .ensures) (m .least .ensures) (c .block-max .ensures)
+    let z = c .block-max .last .1 .1 .1 .1 .1 in
+    goes-on _ _ _ _ O G hi (s .shallow-seek .ensures) (h .has-remaining-docs .ensures) (e .if1 .left) (t .last-doc-in-block .ensures) (m .least .ensures) {places₂ = z .0} {bounds₂ = z .1 .1 .1 .0} (c .block-max .ensures)
 
 returns-2 : tie.Need-returns-2 Inv-loop μ-loop
-returns-2 c = ended _ _ _ _ (c .before .before .before .pre .0) (c .before .loop .inv) (c .loop-test .left)
+returns-2 c = ended _ _ _ _ (start (c .before) .pre .0) (c .before .loop .inv) (c .loop-test .left)
 
 pub gather-spec : {M : Type 1} → statement M
 gather-spec =

@@ -1,34 +1,57 @@
 -- `next_window` meets its contract: it tests what the route's turn tests, in its order.
+use mathlib.Core.List.{List}
 use native.Mathlib.Omega.{arith}
+use Prim.Native.Nat.{ℕ}
+use lib.Ieee.{Float}
 use borrow.Author.Needs.{needs}
+use Rattle.term_scorer.specs.Inner.Slots.{held}
 use Rattle.intersection_window.proofs.Seats.{last-fits, slot-small, standing-in}
 use Rattle.intersection_window.proofs.Opening.{gathered, leader-kept, leader-seated, ready-there, window-low, window-open, window-over}
 use Rattle.intersection_window.proofs.window.next_window.Statement.{statement}
 use Rattle.intersection_window.proofs.window.next_window.Tie as tie
 
 -- the places that the answers look back to
-abbrev start : tie.After-seek-block → tie.Start
-start s = s .before .before .before .before
+abbrev then-of : tie.After-load-arg3 → tie.Then2
+then-of c = c .before .before .before
 
-abbrev sought : tie.After-block-max → tie.After-seek-block
-sought b = b .before .before .before .before .before
+abbrev after-block-max : tie.After-gather-arg4 → tie.After-block-max
+after-block-max c = c .before .before .before .before .before .before
+
+abbrev start : tie.After-seek-block-arg → tie.Start
+start s = s .before .before .before
+
+abbrev sought : tie.After-block-max-arg4 → tie.After-seek-block
+sought b = b .before .before .before .before
 
 abbrev ended : tie.After-gather → tie.After-last-doc-in-block
 ended g = g .before .before .before .before .before
+
+-- the places and the bounds that the leader's bound left, and the secondaries'
+abbrev places₂ : tie.After-block-max → List (List ℕ)
+places₂ b = b .block-max .last .1 .1 .1 .1 .1 .0
+
+abbrev bounds₂ : tie.After-block-max → List Float
+bounds₂ b = b .block-max .last .1 .1 .1 .1 .1 .1 .1 .1 .0
+
+abbrev places₃ : tie.After-gather → List (List ℕ)
+places₃ g = g .gather .last .1 .1 .1 .1 .1 .1 .1 .1 .0
+
+abbrev bounds₃ : tie.After-gather → List Float
+bounds₃ g = g .gather .last .1 .1 .1 .1 .1 .1 .1 .1 .1 .1 .1 .0
 
 element-copy-out-leader : tie.Need-element-copy-out-leader
 element-copy-out-leader c = search needs
 
 seek-block-requires : tie.Need-seek-block-requires
 seek-block-requires c κs =
-    let a = c .before .before .before in
+    let a = start c in
     let O = a .pre .0 in
     (slot-small O (O .leader), standing-in (a .pre .1 .seated .slot _ (O .below 0 (O .leader))))
 
 block-max-requires : tie.Need-block-max-requires
 block-max-requires c κs =
-    let s = c .before .before .before .before in
-    let a = start s in
+    let s = sought c in
+    let a = start (s .before) in
     let O = a .pre .0 in
     let R = a .pre .1 in
     let hq = O .below 0 (O .leader) in
@@ -37,61 +60,62 @@ block-max-requires c κs =
 last-doc-in-block-requires : tie.Need-last-doc-in-block-requires
 last-doc-in-block-requires c κs =
     let b = c .before in
-    let s = sought b in
-    let a = start s in
+    let s = sought (b .before) in
+    let a = start (s .before) in
     let O = a .pre .0 in
     let R = a .pre .1 in
     let hq = O .below 0 (O .leader) in
-    (slot-small O (O .leader), last-fits (ready-there _ O (a .args .threshold) _ (a .pre .2) R (s .seek-block .ensures) (b .block-max .ensures) .seated) hq)
+    (slot-small O (O .leader), last-fits (ready-there _ O (a .args .threshold) _ (a .pre .2) R (s .seek-block .ensures) {places₂ = places₂ b} {bounds₂ = bounds₂ b} (b .block-max .ensures) .seated) hq)
 
 gather-requires : tie.Need-gather-requires
 gather-requires c κs =
-    let b = c .before .before .before .before .before .before in
-    let s = sought b in
-    let a = start s in
+    let b = after-block-max c in
+    let s = sought (b .before) in
+    let a = start (s .before) in
     let O = a .pre .0 in
     let R = a .pre .1 in
     let hq = O .below 0 (O .leader) in
-    (O, ready-there _ O (a .args .threshold) _ (a .pre .2) R (s .seek-block .ensures) (b .block-max .ensures), omega (arith, a .pre .2))
+    (O, ready-there _ O (a .args .threshold) _ (a .pre .2) R (s .seek-block .ensures) {places₂ = places₂ b} {bounds₂ = bounds₂ b} (b .block-max .ensures), omega (arith, a .pre .2))
 
 returns : tie.Need-returns
 returns c =
     let g = c .before .before in
     let l = ended g in
     let b = l .before .before in
-    let s = sought b in
-    let a = start s in
+    let s = sought (b .before) in
+    let a = start (s .before) in
     let O = a .pre .0 in
     let R = a .pre .1 in
     let hq = O .below 0 (O .leader) in
-    window-over _ O (a .args .threshold) _ (a .pre .2) R (s .seek-block .ensures) (b .block-max .ensures) (l .last-doc-in-block .ensures) (g .gather .ensures) (c .if1 .taken)
+    window-over _ O (a .args .threshold) _ (a .pre .2) R (s .seek-block .ensures) {places₂ = places₂ b} {bounds₂ = bounds₂ b} (b .block-max .ensures) (l .last-doc-in-block .ensures) {places₃ = places₃ g} {bounds₃ = bounds₃ g} (g .gather .ensures) (c .if1 .taken)
 
 load-requires : tie.Need-load-requires
 load-requires c κs =
-    let e = c .before .before .before .before .before in
+    let e = then-of c .before .before in
     let g = e .before .before in
     let l = ended g in
     let b = l .before .before in
-    let s = sought b in
-    let a = start s in
+    let s = sought (b .before) in
+    let a = start (s .before) in
     let O = a .pre .0 in
     let R = a .pre .1 in
     let hq = O .below 0 (O .leader) in
-    (slot-small O (O .leader), gathered _ O (a .args .threshold) _ (a .pre .2) R (s .seek-block .ensures) (b .block-max .ensures) (l .last-doc-in-block .ensures) (g .gather .ensures) (e .if1 .left) .ready .seated .slot _ hq)
+    (slot-small O (O .leader), gathered _ O (a .args .threshold) _ (a .pre .2) R (s .seek-block .ensures) {places₂ = places₂ b} {bounds₂ = bounds₂ b} (b .block-max .ensures) (l .last-doc-in-block .ensures) {places₃ = places₃ g} {bounds₃ = bounds₃ g} (g .gather .ensures) (e .if1 .left) .ready .seated .slot _ hq)
 
 returns-2 : tie.Need-returns-2
 returns-2 c =
-    let f = c .before .before .before .before in
+    let f = then-of (c .before) in
     let e = f .before .before in
     let g = e .before .before in
     let l = ended g in
     let b = l .before .before in
-    let s = sought b in
-    let a = start s in
+    let s = sought (b .before) in
+    let a = start (s .before) in
     let O = a .pre .0 in
     let R = a .pre .1 in
     let hq = O .below 0 (O .leader) in
-    window-open _ O (a .args .threshold) _ (a .pre .2) R (s .seek-block .ensures) (b .block-max .ensures) (l .last-doc-in-block .ensures) (g .gather .ensures) (e .if1 .left) (f .if2 .taken) (c .load .ensures)
+    let z = c .load .last .1 .1 .1 in
+    window-open _ O (a .args .threshold) _ (a .pre .2) R (s .seek-block .ensures) {places₂ = places₂ b} {bounds₂ = bounds₂ b} (b .block-max .ensures) (l .last-doc-in-block .ensures) {places₃ = places₃ g} {bounds₃ = bounds₃ g} (g .gather .ensures) (e .if1 .left) (f .if2 .taken) {h′ = held (z .0) (z .1 .0) (z .1 .1 .0)} (c .load .ensures)
 
 returns-3 : tie.Need-returns-3
 returns-3 c =
@@ -99,12 +123,12 @@ returns-3 c =
     let g = e .before .before in
     let l = ended g in
     let b = l .before .before in
-    let s = sought b in
-    let a = start s in
+    let s = sought (b .before) in
+    let a = start (s .before) in
     let O = a .pre .0 in
     let R = a .pre .1 in
     let hq = O .below 0 (O .leader) in
-    window-low _ O (a .args .threshold) _ (a .pre .2) R (s .seek-block .ensures) (b .block-max .ensures) (l .last-doc-in-block .ensures) (g .gather .ensures) (e .if1 .left) (c .if2 .left)
+    window-low _ O (a .args .threshold) _ (a .pre .2) R (s .seek-block .ensures) {places₂ = places₂ b} {bounds₂ = bounds₂ b} (b .block-max .ensures) (l .last-doc-in-block .ensures) {places₃ = places₃ g} {bounds₃ = bounds₃ g} (g .gather .ensures) (e .if1 .left) (c .if2 .left)
 
 pub next-window-spec : {M : Type 1} → statement M
 next-window-spec =
