@@ -1,8 +1,10 @@
 -- `go` meets its contract: each turn is one of the route, until one has a report, the route is over or all are taken.
+use mathlib.Core.List.{List}
 use Prim.Native.Nat.{_-_}
 use native.Mathlib.Omega.{arith}
+use lib.Ieee.{Float}
 use borrow.Author.Needs.{needs}
-use Rattle.term_scorer.specs.Inner.Slots.{held}
+use Rattle.term_scorer.specs.Inner.Slots.{held, Held}
 use Rattle.intersection_window.specs.Inner.Scorers.{query}
 use Rattle.block_wand_intersection.proofs.Going.{Going, ends, goes-on, going, more, pauses, reports, stands-here}
 use Rattle.block_wand_intersection.proofs.go.Statement.{statement}
@@ -17,8 +19,21 @@ abbrev μ-loop : tie.MeasureT-loop
     turns - taken
 
 -- the places that the answers look back to
+abbrev after-turn : tie.After-next Inv-loop μ-loop → tie.After-turn Inv-loop μ-loop
+after-turn c = c .before
+
+abbrev loop-of : tie.After-turn-arg4 Inv-loop μ-loop → tie.At-loop Inv-loop μ-loop
+loop-of c = c .before .before .before .before .before .before .before
+
 abbrev turned : tie.After-turn Inv-loop μ-loop → tie.Else2 Inv-loop μ-loop
 turned u = u .before .before .before .before .before
+
+-- the slots and the floats that a turn left
+abbrev left : tie.After-turn Inv-loop μ-loop → Held
+left u = let l = u .turn .last .1 .1 .1 .1 .1 .1 .1 in held (l .0) (l .1 .0) (l .1 .1 .0)
+
+abbrev floats′ : tie.After-turn Inv-loop μ-loop → List (List Float)
+floats′ u = u .turn .last .1 .1 .1 .1 .1 .1 .1 .1 .1 .1 .0
 
 loop-holds : tie.Need-loop-holds Inv-loop μ-loop
 loop-holds c = going _ _ _ _ _ _ (c .before .pre)
@@ -45,7 +60,7 @@ returns-2 c =
 
 turn-requires : tie.Need-turn-requires Inv-loop μ-loop
 turn-requires c κs =
-    let l = c .before .before .before .before .before .before .before in
+    let l = loop-of c in
     stands-here _ _ _ _ _ _ (l .loop .inv)
 
 add-taken : tie.Need-add-taken Inv-loop μ-loop
@@ -63,26 +78,26 @@ standing-requires-3 c κs = search needs
 returns-3 : tie.Need-returns-3 Inv-loop μ-loop
 returns-3 c =
     let d = c .before .before in
-    let u = d .before .before .before in
+    let u = after-turn (d .before .before) in
     let e = turned u in
     let o = e .before .before in
-    reports _ _ _ _ _ _ (o .before .loop .inv) (o .is-over .ensures) (e .before .if1 .left) (e .if2 .left) (u .turn .ensures) (d .due .given .1) (c .standing3 .ensures)
+    reports _ _ _ _ _ _ (o .before .loop .inv) (o .is-over .ensures) (e .before .if1 .left) (e .if2 .left) {h′ = left u} {floats′ = floats′ u} (u .turn .ensures) (d .due .given .1) (c .standing3 .ensures)
 
 enum-told : tie.Need-enum-told Inv-loop μ-loop
 enum-told c = search needs
 
 loop-less : tie.Need-loop-less Inv-loop μ-loop
 loop-less c =
-    let e = turned (c .before .before .before) in
+    let e = turned (after-turn (c .before .before)) in
     let o = e .before .before in
     omega (arith, more _ _ _ _ _ _ (o .before .loop .inv) (o .is-over .ensures) (e .before .if1 .left) (e .if2 .left))
 
 loop-again : tie.Need-loop-again Inv-loop μ-loop
 loop-again c =
-    let u = c .before .before .before in
+    let u = after-turn (c .before .before) in
     let e = turned u in
     let o = e .before .before in
-    goes-on _ _ _ _ _ _ (o .before .loop .inv) (o .is-over .ensures) (e .before .if1 .left) (e .if2 .left) (u .turn .ensures) (c .enum-told .given .1)
+    goes-on _ _ _ _ _ _ (o .before .loop .inv) (o .is-over .ensures) (e .before .if1 .left) (e .if2 .left) {h′ = left u} {floats′ = floats′ u} (u .turn .ensures) (c .enum-told .given .1)
 
 pub go-spec : {M : Type 1} → statement M
 go-spec =

@@ -5,7 +5,10 @@ use Rattle.block_wand_intersection.proofs.Beginning.{begins, in-order, 
 use Rattle.block_wand_intersection.proofs.begin.begin.Statement.{statement}
 use Rattle.block_wand_intersection.proofs.begin.begin.Tie as tie
 
--- the place that the answers look back to
+-- the places that the answers look back to
+abbrev after-by-size : tie.After-leader → tie.After-by-size
+after-by-size c = c .before .before .before
+
 abbrev start : tie.After-by-size → tie.Start
 start s = s .before .before .before
 
@@ -24,7 +27,7 @@ element-copy-out-leader c = search needs
 
 doc-requires : tie.Need-doc-requires
 doc-requires c κs =
-    let s = c .before .before .before in
+    let s = after-by-size c in
     let O = in-order (start s .pre) (s .by-size .ensures) in
     (slot-small O (O .leader), cur-small (seated (start s .pre) (s .by-size .ensures)) (O .below 0 (O .leader)))
 

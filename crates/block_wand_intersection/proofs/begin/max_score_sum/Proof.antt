@@ -16,6 +16,10 @@ Inv-loop lists n order sum₀ i₀ sum i = Adding lists n order i sum
 abbrev μ-loop : tie.MeasureT-loop
 μ-loop lists n order sum₀ i₀ sum i = n - i
 
+-- the place that the answers look back to
+abbrev start : tie.After-max-score-arg2 Inv-loop μ-loop → tie.Start Inv-loop μ-loop
+start c = c .before .before .before
+
 long : (a : tie.Start Inv-loop μ-loop) → a .args .n ≤ length (a .args .order .now)
 long a = omega (arith, a .pre .1, a .pre .2)
 
@@ -51,7 +55,7 @@ element-copy-out-max-score-2 : tie.Need-element-copy-out-max-score-2 Inv-loop μ
 element-copy-out-max-score-2 c = search needs
 
 max-score-requires-2 : tie.Need-max-score-requires-2 Inv-loop μ-loop
-max-score-requires-2 c κs = let a = c .before .before .before in read a 0 (a .pre .0)
+max-score-requires-2 c κs = let a = start c in read a 0 (a .pre .0)
 
 returns : tie.Need-returns Inv-loop μ-loop
 returns c =

@@ -7,12 +7,16 @@ use Rattle.block_wand_intersection.specs.declared.Stage.the-variants.{Ov
 use Rattle.block_wand_intersection.proofs.turn.exit.Statement.{statement}
 use Rattle.block_wand_intersection.proofs.turn.exit.Tie as tie
 
+-- the place that the answers look back to
+abbrev start : tie.After-struct-known → tie.Start
+start c = c .before
+
 quiet-requires : tie.Need-quiet-requires
 quiet-requires c κs = search needs
 
 returns : tie.Need-returns
 returns c =
-    let a = c .before .before .before .args in
+    let a = start (c .before .before) .args in
     c .quiet .ensures ∙ ap (λ (z : Bool). quietly (a .v) (a .v .doc) (cond z (a .stage) Over)) (sym (c .before .if1 .taken))
 
 quiet-requires-2 : tie.Need-quiet-requires-2
@@ -20,7 +24,7 @@ quiet-requires-2 c κs = search needs
 
 returns-2 : tie.Need-returns-2
 returns-2 c =
-    let a = c .before .before .before .args in
+    let a = start (c .before .before) .args in
     c .quiet2 .ensures ∙ ap (λ (z : Bool). quietly (a .v) (a .v .doc) (cond z (a .stage) Over)) (sym (c .before .if1 .left))
 
 pub exit-spec : {M : Type 1} → statement M

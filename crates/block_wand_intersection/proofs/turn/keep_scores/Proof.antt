@@ -8,6 +8,10 @@ use Rattle.term_scorer.specs.Inner.Weights.{BlockScores}
 use Rattle.block_wand_intersection.proofs.turn.keep_scores.Statement.{statement}
 use Rattle.block_wand_intersection.proofs.turn.keep_scores.Tie as tie
 
+-- the place that the answers look back to
+abbrev start : tie.Else1 → tie.Start
+start c = c .before .before .before
+
 mul-if1 : tie.Need-mul-if1
 mul-if1 c = search needs
 
@@ -26,7 +30,7 @@ returns c = search needs
 returns-2 : tie.Need-returns-2
 unfolding cursorIn
 returns-2 c =
-    let a = c .before .before .before in
+    let a = start c in
     let l = listAt (a .args .similarity .scoring) (a .args .file .now) (a .args .lists .now) (a .args .leader) in
     (subst (λ (b : ℕ). BlockScores l b (a .args .scores .now)) (sym (c .if1 .left)) (a .pre .4), a .pre .5)
 

@@ -4,6 +4,10 @@ use Rattle.block_wand_intersection.proofs.Turning.{exits-called, stays-
 use Rattle.block_wand_intersection.proofs.turn.turn.Statement.{statement}
 use Rattle.block_wand_intersection.proofs.turn.turn.Tie as tie
 
+-- the place that the answers look back to
+abbrev start : tie.After-shared-slice-known → tie.Start
+start c = c .before
+
 enum-told : tie.Need-enum-told
 enum-told c = search needs
 
@@ -46,13 +50,13 @@ returns-3 c = search needs
 returns-4 : tie.Need-returns-4
 returns-4 c =
     let m = c .before .before in
-    let a = m .before .before .before in
+    let a = start (m .before .before) in
     exits-called _ (a .args .threshold) (a .pre) _ (m .stage2 .given .1) (c .exit .ensures)
 
 returns-5 : tie.Need-returns-5
 returns-5 c =
     let m = c .before in
-    let a = m .before .before .before in
+    let a = start (m .before .before) in
     stays-over _ (a .args .threshold) (a .pre) (m .enum-told3 .given .1) (c .quiet .ensures)
 
 pub turn-spec : {M : Type 1} → statement M

@@ -1,6 +1,9 @@
 -- `window_turn` meets its contract: a window is the route's, and an open one has its candidates and sums.
+use mathlib.Core.List.{List}
 use native.Mathlib.Omega.{arith}
+use lib.Ieee.{Float}
 use borrow.Author.Needs.{needs}
+use Rattle.term_scorer.specs.Inner.Slots.{held, Held}
 use Rattle.slot_rows.specs.Inner.Rows.{cursorIn}
 use Rattle.intersection_window.proofs.Seats.{slot-small}
 use Rattle.intersection_window.proofs.Finding.{block-sorted}
@@ -9,6 +12,15 @@ use Rattle.block_wand_intersection.proofs.turn.window_turn.Statement.{s
 use Rattle.block_wand_intersection.proofs.turn.window_turn.Tie as tie
 
 -- the places that the answers look back to
+abbrev begun : tie.After-shared-slice-known → tie.Start
+begun c = c .before
+
+abbrev after-next-window : tie.After-keep-scores-arg4 → tie.After-next-window
+after-next-window c = c .before .before .before .before
+
+abbrev after-keep-scores : tie.After-sum-rests-arg → tie.After-keep-scores
+after-keep-scores c = c .before .before .before .before
+
 abbrev led : tie.After-next-window → tie.After-leader
 led n = n .before .before .before .before .before .before
 
@@ -21,22 +33,32 @@ windowed k = k .before .before .before .before .before
 abbrev opened : tie.After-sum-rests → tie.After-window2
 opened u = u .before .before .before
 
+-- the slots and the bounds that the window left, and the leader's scores
+abbrev moved : tie.After-next-window → Held
+moved n = let l = n .next-window .last .1 .1 .1 .1 .1 .1 .1 .1 in held (l .0) (l .1 .0) (l .1 .1 .0)
+
+abbrev bounds : tie.After-next-window → List Float
+bounds n = n .next-window .last .1 .1 .1 .1 .1 .1 .1 .1 .1 .1 .1 .0
+
+abbrev scores : tie.After-keep-scores → List Float
+scores k = k .keep-scores .last .1 .1 .1 .1 .1 .1 .1 .1 .1 .0
+
 quiet-requires : tie.Need-quiet-requires
 quiet-requires c κs = search needs
 
 returns : tie.Need-returns
 returns c =
-    let a = c .before .before .before in
+    let a = begun (c .before .before) in
     ends-windows _ (a .args .threshold) (a .pre .0) (a .pre .1) (c .before .if1 .taken) (c .quiet .ensures)
 
 element-copy-out-leader : tie.Need-element-copy-out-leader
 element-copy-out-leader c = search needs
 
 mul-scored : tie.Need-mul-scored
-mul-scored c = let O = c .before .before .before .pre .0 .order in omega (arith, slot-small O (O .leader))
+mul-scored c = let O = begun (c .before .before) .pre .0 .order in omega (arith, slot-small O (O .leader))
 
 index-1-scored : tie.Need-index-1-scored
-index-1-scored c = let O = c .before .before .before .pre .0 .order in omega (arith, slot-small O (O .leader))
+index-1-scored c = let O = begun (c .before .before) .pre .0 .order in omega (arith, slot-small O (O .leader))
 
 index-2-scored : tie.Need-index-2-scored
 index-2-scored c = search needs
@@ -53,7 +75,7 @@ index-1-keep-scores c = search needs
 keep-scores-requires : tie.Need-keep-scores-requires
 unfolding cursorIn
 keep-scores-requires c κs =
-    let n = c .before .before .before .before in
+    let n = after-next-window c in
     let a = start n in
     let O = a .pre .0 .order in
     let h = O .below 0 (O .leader) in
@@ -75,7 +97,7 @@ add-quiet c =
     let k = w .before .before in
     let n = windowed k in
     let a = start n in
-    record { fits = omega (arith, low-end _ (a .args .threshold) (a .pre .0) (a .pre .1) (n .next-window .ensures) (k .keep-scores .ensures) (w .window .given .1)) }
+    record { fits = omega (arith, low-end _ (a .args .threshold) (a .pre .0) (a .pre .1) {h′ = moved n} {bounds = bounds n} (n .next-window .ensures) {scores = scores k} (k .keep-scores .ensures) (w .window .given .1)) }
 
 quiet-requires-3 : tie.Need-quiet-requires-3
 quiet-requires-3 c κs = search needs
@@ -85,11 +107,11 @@ enum-known-window-2 c = search needs
 
 sum-rests-requires : tie.Need-sum-rests-requires
 sum-rests-requires c κs =
-    let k = c .before .before .before .before in
+    let k = after-keep-scores c in
     let n = windowed k in
     let a = start n in
     let O = a .pre .0 .order in
-    (O .leader, O .few, O .long, (λ i h. slot-small O h), rows-there _ (a .args .threshold) (a .pre .0) (a .pre .1) (n .next-window .ensures) (k .keep-scores .ensures))
+    (O .leader, O .few, O .long, (λ i h. slot-small O h), rows-there _ (a .args .threshold) (a .pre .0) (a .pre .1) {h′ = moved n} {bounds = bounds n} (n .next-window .ensures) {scores = scores k} (k .keep-scores .ensures))
 
 mul-search-block : tie.Need-mul-search-block
 mul-search-block c =
@@ -106,7 +128,7 @@ search-block-requires c κs =
     let n = windowed (opened (c .before) .before .before) in
     let a = start n in
     let O = a .pre .0 .order in
-    block-sorted (a .args .similarity .scoring) (n .next-window .ensures .ready .seated .slot _ (O .below 0 (O .leader)))
+    block-sorted (a .args .similarity .scoring) {file = a .args .file .now} {lists = a .args .lists .now} {h = moved n} (n .next-window .ensures .ready .seated .slot _ (O .below 0 (O .leader)))
 
 quiet-requires-4 : tie.Need-quiet-requires-4
 quiet-requires-4 c κs = search needs
@@ -117,7 +139,7 @@ returns-2 c =
     let k = m .before .before in
     let n = windowed k in
     let a = start n in
-    window-over _ (a .args .threshold) (a .pre .0) (a .pre .1) (n .next-window .ensures) (k .keep-scores .ensures) (m .enum-told .given .1) (c .quiet2 .ensures)
+    window-over _ (a .args .threshold) (a .pre .0) (a .pre .1) {h′ = moved n} {bounds = bounds n} (n .next-window .ensures) {scores = scores k} (k .keep-scores .ensures) (m .enum-told .given .1) (c .quiet2 .ensures)
 
 returns-3 : tie.Need-returns-3
 returns-3 c =
@@ -125,7 +147,7 @@ returns-3 c =
     let k = w .before .before in
     let n = windowed k in
     let a = start n in
-    window-low _ (a .args .threshold) (a .pre .0) (a .pre .1) (n .next-window .ensures) (k .keep-scores .ensures) (w .window .given .1) (c .quiet3 .ensures)
+    window-low _ (a .args .threshold) (a .pre .0) (a .pre .1) {h′ = moved n} {bounds = bounds n} (n .next-window .ensures) {scores = scores k} (k .keep-scores .ensures) (w .window .given .1) (c .quiet3 .ensures)
 
 returns-4 : tie.Need-returns-4
 returns-4 c =
@@ -135,7 +157,7 @@ returns-4 c =
     let k = w .before .before in
     let n = windowed k in
     let a = start n in
-    window-open _ (a .args .threshold) (a .pre .0) (a .pre .1) (n .next-window .ensures) (k .keep-scores .ensures) (w .window2 .given .1) (u .sum-rests .ensures) (b .search-block .ensures) (c .quiet4 .ensures)
+    window-open _ (a .args .threshold) (a .pre .0) (a .pre .1) {h′ = moved n} {bounds = bounds n} (n .next-window .ensures) {scores = scores k} (k .keep-scores .ensures) (w .window2 .given .1) (u .sum-rests .ensures) (b .search-block .ensures) (c .quiet4 .ensures)
 
 pub window-turn-spec : {M : Type 1} → statement M
 window-turn-spec =

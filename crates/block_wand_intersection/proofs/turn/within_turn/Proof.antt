@@ -1,7 +1,7 @@
 -- `within_turn` meets its contract: the next candidate is tried as the route tries it, or the window ends.
 use native.Mathlib.Omega.{arith}
 use borrow.Author.Needs.{needs}
-use Rattle.term_scorer.specs.Inner.Slots.{cursorAt}
+use Rattle.term_scorer.specs.Inner.Slots.{cursorAt, held}
 use Rattle.intersection_window.specs.Inner.Scorers.{Query, listIn, query, slotAt}
 use Rattle.intersection_window.specs.Inner.Candidates.{Finds}
 use Rattle.intersection_window.proofs.Seats.{slot-small}
@@ -10,6 +10,12 @@ use Rattle.block_wand_intersection.proofs.turn.within_turn.Statement.{s
 use Rattle.block_wand_intersection.proofs.turn.within_turn.Tie as tie
 
 -- the places that the answers look back to
+abbrev after-found : tie.After-try-candidate-arg4 → tie.After-found
+after-found c = c .before .before .before .before .before
+
+abbrev after-next-candidate : tie.After-struct-known → tie.After-next-candidate
+after-next-candidate c = c .before .before .before
+
 abbrev start : tie.After-leader → tie.Start
 start l = l .before .before
 
@@ -46,7 +52,7 @@ enum-told c = search needs
 
 add-quiet : tie.Need-add-quiet
 add-quiet c =
-    let a = sought (c .before .before .before) in
+    let a = sought (after-next-candidate c) in
     record { fits = omega (arith, opened _ (a .args .threshold) (a .pre .0) _ (a .pre .1) .small) }
 
 quiet-requires : tie.Need-quiet-requires
@@ -60,7 +66,7 @@ index-1-try-candidate c = search needs
 
 try-candidate-requires : tie.Need-try-candidate-requires
 try-candidate-requires c κs =
-    let f = c .before .before .before .before .before in
+    let f = after-found c in
     let n = found-in f in
     let a = sought n in
     let S = a .pre .0 in
@@ -79,10 +85,11 @@ returns c =
 returns-2 : tie.Need-returns-2
 returns-2 c =
     let k = c .before in
-    let f = k .before .before .before .before .before .before in
+    let f = after-found (k .before) in
     let n = found-in f in
     let a = sought n in
-    tried _ (a .args .threshold) (a .pre .0) _ (a .pre .1) (finds n) (f .found .given .1) _ (k .try-candidate .ensures) (c .after-candidate .ensures)
+    let l = k .try-candidate .last .1 .1 .1 .1 .1 .1 .1 .1 .1 in
+    tried _ (a .args .threshold) (a .pre .0) _ (a .pre .1) (finds n) (f .found .given .1) {h′ = held (l .0) (l .1 .0) (l .1 .1 .0)} _ (k .try-candidate .ensures) (c .after-candidate .ensures)
 
 pub within-turn-spec : {M : Type 1} → statement M
 within-turn-spec =
