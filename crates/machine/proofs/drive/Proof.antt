@@ -20,6 +20,18 @@ abbrev μ-loop : tie.MeasureT-loop
     costIn (header.documents file) (placeIn file similarity lists caches (tables order places docs freqs floats) machine)
 
 -- the places that the answers look back to
+abbrev after-go-on : tie.After-stopped2 Inv-loop μ-loop → tie.After-go-on Inv-loop μ-loop
+after-go-on c = c .before .before .before
+
+abbrev else-of : tie.After-report-arg2 Inv-loop μ-loop → tie.Else1 Inv-loop μ-loop
+else-of c = c .before .before .before
+
+abbrev after-report : tie.After-slice-known4 Inv-loop μ-loop → tie.After-report Inv-loop μ-loop
+after-report c = c .before .before .before .before
+
+abbrev asked : tie.After-go-on-arg5 Inv-loop μ-loop → tie.At-loop Inv-loop μ-loop
+asked c = c .before .before .before .before .before
+
 abbrev start-of : tie.After-rows Inv-loop μ-loop → tie.Start Inv-loop μ-loop
 start-of c = c .before .before .before .before .before .before .before .before
 
@@ -47,7 +59,7 @@ loop-holds c =
 
 go-on-requires : tie.Need-go-on-requires Inv-loop μ-loop
 go-on-requires c κs =
-    let l = c .before .before .before .before .before in
+    let l = asked c in
     (start-of (l .before .before) .pre .0, l .loop .inv .stands)
 
 enum-known-event : tie.Need-enum-known-event Inv-loop μ-loop
@@ -72,7 +84,7 @@ returns c =
 
 report-requires : tie.Need-report-requires Inv-loop μ-loop
 report-requires c κs =
-    let f = c .before .before .before in
+    let f = else-of c in
     let l = loop-of (reported-of (f .before) .before .before) in
     let w = l .before .before in
     let r = has-row _ _ _ _ _ _ _ _ (l .loop .inv) (f .if1 .left) (w .rows .ensures) in
@@ -80,15 +92,15 @@ report-requires c κs =
 
 loop-less : tie.Need-loop-less Inv-loop μ-loop
 loop-less c =
-    let f = c .before .before .before .before .before .before .before .before in
+    let f = else-of (after-report c .before) in
     let e = reported-of (f .before) in
     let g = e .before .before in
     reports-nearer _ _ _ _ _ _ _ _ (loop-of g .loop .inv) {h′ = left-by g} (g .go-on .ensures) (e .event .given .1)
 
 loop-again : tie.Need-loop-again Inv-loop μ-loop
 loop-again c =
-    let p = c .before .before .before .before in
-    let f = p .before .before .before .before in
+    let p = after-report c in
+    let f = else-of (p .before) in
     let e = reported-of (f .before) in
     let g = e .before .before in
     let l = loop-of g in
@@ -101,10 +113,10 @@ stopped-requires-2 : tie.Need-stopped-requires-2 Inv-loop μ-loop
 stopped-requires-2 c κs = search needs
 
 same-length-3 : tie.Need-same-length-3 Inv-loop μ-loop
-same-length-3 c = documents-long (loop-of (c .before .before .before) .loop .inv .going .kept .written)
+same-length-3 c = documents-long (loop-of (after-go-on c) .loop .inv .going .kept .written)
 
 same-length-4 : tie.Need-same-length-4 Inv-loop μ-loop
-same-length-4 c = scores-long (loop-of (c .before .before .before) .loop .inv .going .kept .written)
+same-length-4 c = scores-long (loop-of (after-go-on c) .loop .inv .going .kept .written)
 
 returns-2 : tie.Need-returns-2 Inv-loop μ-loop
 returns-2 c =

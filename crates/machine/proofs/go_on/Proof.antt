@@ -10,6 +10,22 @@ use Rattle.machine.proofs.Going.{intersection-goes, plain-goes, single-
 use Rattle.machine.proofs.go_on.Statement.{statement}
 use Rattle.machine.proofs.go_on.Tie as tie
 
+-- the places that the answers look back to
+abbrev start : tie.After-shared-slice-known → tie.Start
+start c = c .before
+
+abbrev as-union : tie.After-go-arg5 → tie.After-machine
+as-union c = c .before .before .before .before .before .before
+
+abbrev as-single : tie.After-go-arg9 → tie.After-machine2
+as-single c = c .before .before .before .before .before
+
+abbrev as-intersection : tie.After-go-arg14 → tie.After-machine3
+as-intersection c = c .before .before .before .before .before .before
+
+abbrev as-plain : tie.After-go-arg17 → tie.After-machine4
+as-plain c = c .before .before .before .before
+
 -- the tables before
 abbrev had : tie.Start → Tables
 had a = tables (a .args .order .now) (a .args .places .now) (a .args .docs .now) (a .args .freqs .now) (a .args .floats .now)
@@ -31,8 +47,8 @@ enum-known-machine c = search needs
 
 go-requires : tie.Need-go-requires
 go-requires c κs =
-    let m = c .before .before .before .before .before .before in
-    let a = m .before .before .before in
+    let m = as-union c in
+    let a = start (m .before .before) in
     (a .pre .0, stood a (m .machine .given .1))
 
 enum-known-machine-2 : tie.Need-enum-known-machine-2
@@ -40,8 +56,8 @@ enum-known-machine-2 c = search needs
 
 go-requires-2 : tie.Need-go-requires-2
 go-requires-2 c κs =
-    let m = c .before .before .before .before .before in
-    let a = m .before .before .before in
+    let m = as-single c in
+    let a = start (m .before .before) in
     stood a (m .machine2 .given .1)
 
 enum-known-machine-3 : tie.Need-enum-known-machine-3
@@ -49,8 +65,8 @@ enum-known-machine-3 c = search needs
 
 go-requires-3 : tie.Need-go-requires-3
 go-requires-3 c κs =
-    let m = c .before .before .before .before .before .before in
-    let a = m .before .before .before in
+    let m = as-intersection c in
+    let a = start (m .before .before) in
     stood a (m .machine3 .given .1)
 
 enum-known-machine-4 : tie.Need-enum-known-machine-4
@@ -58,39 +74,39 @@ enum-known-machine-4 c = search needs
 
 go-requires-4 : tie.Need-go-requires-4
 go-requires-4 c κs =
-    let m = c .before .before .before .before in
-    let a = m .before .before .before in
+    let m = as-plain c in
+    let a = start (m .before .before) in
     (a .pre .0, stood a (m .machine4 .given .1))
 
 returns : tie.Need-returns
 returns c =
     let g = c .before in
-    let m = g .before .before .before .before .before .before .before in
-    let a = m .before .before .before in
+    let m = as-union (g .before) in
+    let a = start (m .before .before) in
     let l = g .go .last .1 .1 .1 .1 .1 .1 .1 in
     from-mode a (sym (m .machine .given .1)) (union-goes (a .args .file .now) (a .args .similarity) (a .args .lists .now) (a .args .caches .now) (a .args .threshold) (a .args .turns) _ (had a) {order = l .0} {h = held (l .1 .0) (l .1 .1 .0) (l .1 .1 .1 .0)} {floats = l .1 .1 .1 .1 .0} (g .go .result) (g .go .ensures .0) (g .go .ensures .1))
 
 returns-2 : tie.Need-returns-2
 returns-2 c =
     let g = c .before in
-    let m = g .before .before .before .before .before .before in
-    let a = m .before .before .before in
+    let m = as-single (g .before) in
+    let a = start (m .before .before) in
     let l = g .go2 .last .1 .1 .1 .1 .1 .1 .1 in
     from-mode a (sym (m .machine2 .given .1)) (single-goes (a .args .file .now) (a .args .similarity) (a .args .lists .now) (a .args .caches .now) (a .args .threshold) (a .args .turns) _ (had a) (g .go2 .result) {h = held (l .0) (l .1 .0) (l .1 .1 .0)} {floats = l .1 .1 .1 .0} (g .go2 .ensures))
 
 returns-3 : tie.Need-returns-3
 returns-3 c =
     let g = c .before in
-    let m = g .before .before .before .before .before .before .before in
-    let a = m .before .before .before in
+    let m = as-intersection (g .before) in
+    let a = start (m .before .before) in
     let l = g .go3 .last .1 .1 .1 .1 .1 .1 .1 .1 in
     from-mode a (sym (m .machine3 .given .1)) (intersection-goes (a .args .file .now) (a .args .similarity) (a .args .lists .now) (a .args .caches .now) (a .args .threshold) (a .args .turns) (m .machine3 .given .0 .0) (had a) (g .go3 .result) {h = held (l .0) (l .1 .0) (l .1 .1 .0)} {floats = l .1 .1 .1 .0} (g .go3 .ensures))
 
 returns-4 : tie.Need-returns-4
 returns-4 c =
     let g = c .before in
-    let m = g .before .before .before .before .before in
-    let a = m .before .before .before in
+    let m = as-plain (g .before) in
+    let a = start (m .before .before) in
     let l = g .go4 .last .1 .1 .1 .1 .1 .1 .1 in
     from-mode a (sym (m .machine4 .given .1)) (plain-goes (a .args .file .now) (a .args .similarity) (a .args .lists .now) (a .args .caches .now) (a .args .threshold) (a .args .turns) _ (had a) (g .go4 .result) {h = held (l .0) (l .1 .0) (l .1 .1 .0)} (g .go4 .ensures))
 
