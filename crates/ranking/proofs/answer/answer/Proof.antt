@@ -18,6 +18,10 @@ use Rattle.ranking.proofs.Finishing.{driven-listed}
 use Rattle.ranking.proofs.answer.answer.Statement.{statement}
 use Rattle.ranking.proofs.answer.answer.Tie as tie
 
+-- the places that the answers look back to
+abbrev after-drive : tie.After-finish → tie.After-drive
+after-drive c = c .before .before .before .before .before
+
 -- what was asked
 abbrev request : tie.Start → Request
 request a = asked (a .args .file .now) (a .args .query .now) (a .args .mode) (a .args .scoring) (a .args .rule) (a .args .script .now)
@@ -25,20 +29,20 @@ request a = asked (a .args .file .now) (a .args .query .now) (a .args .mode) (a 
 through : (a : tie.Start) → Let (request a)
 through a = let-through (request a) (a .pre)
 
-abbrev start-of : tie.After-read-header → tie.Start
-start-of h = h .before .before .before .before .before .before
+abbrev start-of : tie.After-slice-known2 → tie.Start
+start-of h = h .before .before .before .before .before
 
 abbrev begun-of : tie.After-drive-arg2 → tie.After-begin
 begun-of c = c .before .before .before .before .before .before .before .before .before
 
-abbrev reader-of : tie.After-begin → tie.After-norm-reader
-reader-of g = g .before .before .before .before .before .before .before
+abbrev reader-of : tie.After-freqs → tie.After-norm-reader
+reader-of g = g .before .before .before .before .before .before
 
 -- where the run begins, and where it stopped
 abbrev place-of : tie.After-begin → Tables → Machine → Place
 place-of g h m =
-    let n = reader-of g in
-    let a = start-of (n .before) in
+    let n = reader-of (g .before) in
+    let a = start-of (n .before .before) in
     let l = g .begin .last .1 .1 .1 .1 .1 .1 in
     placeIn (a .args .file .now) (record { norms = n .norm-reader .result; scoring = a .args .scoring }) (l .0) (l .1 .0) h m
 
@@ -53,16 +57,16 @@ last-of d =
     place-of (begun-of (d .before)) (tables (l .0) (l .1 .0) (l .1 .1 .0) (l .1 .1 .1 .0) (l .1 .1 .1 .1 .0)) (d .drive .result .machine)
 
 read-header-requires : tie.Need-read-header-requires
-read-header-requires c κs = let a = c .before .before .before .before .before in omega (arith, header-of (a .args .file .now) (through a .accepted) refl .entries)
+read-header-requires c κs = let a = start-of c in omega (arith, header-of (a .args .file .now) (through a .accepted) refl .entries)
 
 norm-reader-requires : tie.Need-norm-reader-requires
-norm-reader-requires c κs = let a = start-of c in header-of (a .args .file .now) (through a .accepted) (c .read-header .ensures)
+norm-reader-requires c κs = let a = start-of (c .before) in header-of (a .args .file .now) (through a .accepted) (c .read-header .ensures)
 
 begin-requires : tie.Need-begin-requires
 begin-requires c κs =
-    let n = c .before .before .before .before .before .before in
+    let n = reader-of c in
     let h = n .before in
-    let t = through (start-of h) in (
+    let t = through (start-of (h .before)) in (
       n .norm-reader .ensures,
       h .read-header .ensures,
       record { accepted = t .accepted; few = t .few; named = t .named; takes = t .takes },
@@ -74,8 +78,8 @@ drive-requires : tie.Need-drive-requires
 unfolding ofBits
 drive-requires c κs =
     let g = begun-of c in
-    let n = reader-of g in
-    let a = start-of (n .before) in
+    let n = reader-of (g .before) in
+    let a = start-of (n .before .before) in
     let B = g .begin .ensures _ (made-rows (f32 .nil)) in
     (n .norm-reader .ensures, keeps (a .args .rule) (a .args .scoring) (a .args .script .now) (through a .rule-right), B .stands, B .kept)
 
@@ -91,8 +95,8 @@ same-length-2 c = search needs
 returns : tie.Need-returns
 unfolding ofBits
 returns c =
-    let d = c .before .before .before .before .before in
-    let a = start-of (reader-of (begun-of (d .before)) .before) in
+    let d = after-drive c in
+    let a = start-of (reader-of (begun-of (d .before) .before) .before .before) in
     let l = d .drive .last .1 .1 .1 .1 .1 .1 .1 .1 .1 .1 in
     driven-listed (a .args .way) (request a) (through a) {p = first-of (begun-of (d .before))} {place = last-of d}
     {old = rows (a .args .documents .now) (a .args .scores .now)} {new = rows (l .0) (l .1 .0)} (begun-of (d .before) .begin .ensures _ (made-rows (f32 .nil)) .list-is (a .args .rule) (a .args .script .now)) (d .drive .ensures .ran) (c .finish .ensures)

@@ -9,9 +9,16 @@ use Rattle.ranking.proofs.Beginning.{plain-begun}
 use Rattle.ranking.proofs.begin.begin.Statement.{statement}
 use Rattle.ranking.proofs.begin.begin.Tie as tie
 
+-- the places that the answers look back to
+abbrev start : tie.After-open-lists-arg5 → tie.Start
+start c = c .before .before .before .before .before .before .before
+
+abbrev matched : tie.After-begin-skipping-arg6 → tie.After-enum-told
+matched c = c .before .before .before .before .before .before
+
 open-lists-requires : tie.Need-open-lists-requires
 open-lists-requires c κs =
-    let a = c .before .before .before .before .before .before .before in
+    let a = start c in
     let R = a .pre .2 in
     (R .accepted, a .pre .1, R .few, R .named, a .pre .4)
 
@@ -20,8 +27,8 @@ enum-told c = search needs
 
 begin-skipping-requires : tie.Need-begin-skipping-requires
 begin-skipping-requires c κs =
-    let o = c .before .before .before .before .before .before .before .before in
-    let a = o .before .before .before .before .before .before .before .before in
+    let o = matched c .before .before in
+    let a = start (o .before) in
     (a .pre .0, a .pre .2, a .pre .3, o .open-lists .ensures .0)
 
 enum-told-2 : tie.Need-enum-told-2
@@ -32,14 +39,14 @@ needs-all-requires c κs = search needs
 
 returns : tie.Need-returns
 returns c floats rows =
-    let m = c .before .before .before .before .before .before .before in
+    let m = matched (c .before) in
     rw (m .enum-told .given .1) (c .begin-skipping .ensures floats rows)
 
 returns-2 : tie.Need-returns-2
 returns-2 c floats rows =
     let m = c .before in
     let o = m .before .before in
-    let a = o .before .before .before .before .before .before .before .before in
+    let a = start (o .before) in
     let R = a .pre .2 in
     let l = o .open-lists .last .1 .1 .1 .1 in
     rw (m .enum-told2 .given .1)

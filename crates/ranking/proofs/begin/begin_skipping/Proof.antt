@@ -13,6 +13,10 @@ use Rattle.ranking.proofs.Finishing.{all-ok}
 use Rattle.ranking.proofs.begin.begin_skipping.Statement.{statement}
 use Rattle.ranking.proofs.begin.begin_skipping.Tie as tie
 
+-- the place that the answers look back to
+abbrev start : tie.After-shared-slice-known2 → tie.Start
+start c = c .before .before
+
 -- the tables that were opened
 abbrev opened : tie.Start → opening.Tables
 opened a = opening.tables (a .args .lists .now) (a .args .caches .now) (a .args .places .now) (a .args .docs .now) (a .args .freqs .now)
@@ -21,7 +25,7 @@ enum-told : tie.Need-enum-told
 enum-told c = search needs
 
 begin-union-requires : tie.Need-begin-union-requires
-begin-union-requires c κs = let a = c .before .before .before .before .before in (a .pre .1 .few, a .pre .2)
+begin-union-requires c κs = let m = c .before in let a = start (m .before .before) in (a .pre .1 .few, a .pre .2)
 
 enum-told-2 : tie.Need-enum-told-2
 enum-told-2 c = search needs
@@ -29,7 +33,7 @@ enum-told-2 c = search needs
 begin-requires : tie.Need-begin-requires
 begin-requires c κs =
     let m = c .before in
-    let a = m .before .before .before .before in
+    let a = start (m .before .before) in
     fresh-slots (a .args .similarity) (a .args .file .now) (a .args .query .now) (a .pre .0) (a .pre .1 .few) (opened a) (a .args .t5) (a .pre .3)
     (lengths.two-numbers (m .enum-told2 .given .1) (a .pre .1 .takes)) (a .pre .2)
 
@@ -37,7 +41,7 @@ enum-told-3 : tie.Need-enum-told-3
 enum-told-3 c = search needs
 
 array-copy-out-only : tie.Need-array-copy-out-only
-array-copy-out-only c = omega (arith, c .before .before .before .before .pre .3 .long)
+array-copy-out-only c = omega (arith, start (c .before .before) .pre .3 .long)
 
 begin-single-requires : tie.Need-begin-single-requires
 begin-single-requires c κs = search needs
@@ -45,14 +49,14 @@ begin-single-requires c κs = search needs
 returns : tie.Need-returns
 returns c floats rows =
     let m = c .before .before in
-    let a = m .before .before .before .before in
+    let a = start (m .before .before) in
     rw (m .enum-told .given .1)
     (union-begun (a .args .similarity) (a .args .file .now) (a .args .query .now) (a .pre .0) (a .pre .1 .few) (opened a) (a .args .t5) (a .pre .3) _ floats rows (c .begin-union .result) (c .begin-union .ensures))
 
 returns-2 : tie.Need-returns-2
 returns-2 c floats rows =
     let m = c .before .before in
-    let a = m .before .before .before .before in
+    let a = start (m .before .before) in
     let R = a .pre .1 in
     rw (m .enum-told2 .given .1)
     (intersection-begun (a .args .similarity) (a .args .file .now) (a .args .query .now) (a .pre .0) (R .few) (opened a) (a .args .t5) (a .pre .3) _ floats rows
@@ -61,7 +65,7 @@ returns-2 c floats rows =
 returns-3 : tie.Need-returns-3
 returns-3 c floats rows =
     let m = c .before .before in
-    let a = m .before .before .before .before in
+    let a = start (m .before .before) in
     rw (m .enum-told3 .given .1, c .begin-single .ensures)
     (one-number (a .args .similarity) (a .args .file .now) (a .args .query .now) (a .pre .0) (a .pre .1 .few) (opened a) (a .args .t5) (a .pre .3) _ floats rows
     (lengths.one-number (m .enum-told3 .given .1) (a .pre .1 .takes)))

@@ -9,18 +9,25 @@ use Rattle.ranking.specs.Inner.Begins.{singleFrom, one-left, some-left, 
 use Rattle.ranking.proofs.begin.begin_union.Statement.{statement}
 use Rattle.ranking.proofs.begin.begin_union.Tie as tie
 
+-- the places that the answers look back to
+abbrev then-of : tie.After-begin-single → tie.Then1
+then-of c = c .before .before .before
+
+abbrev after-retain : tie.After-begin-arg → tie.After-retain
+after-retain c = c .before .before .before
+
 retain-requires : tie.Need-retain-requires
 retain-requires c κs = search needs
 
 array-copy-out-only : tie.Need-array-copy-out-only
-array-copy-out-only c = omega (arith, c .before .before .before .retain .ensures .0 .long)
+array-copy-out-only c = let t = c .before in omega (arith, t .before .before .retain .ensures .0 .long)
 
 begin-single-requires : tie.Need-begin-single-requires
 begin-single-requires c κs = search needs
 
 returns : tie.Need-returns
 returns c =
-    let t = c .before .before .before in
+    let t = then-of c in
     let r = t .before .before in
     let a = r .before in
     subst (λ (m : Machine). UnionBegun (a .args .scorers) (a .args .n) m (a .args .order .now) (a .args .order .now)) (sym (c .begin-single .ensures))
@@ -28,7 +35,7 @@ returns c =
 
 begin-requires : tie.Need-begin-requires
 begin-requires c κs =
-    let r = c .before .before .before in
+    let r = after-retain c in
     let a = r .before in
     (omega (arith, r .retain .ensures .0 .few, a .pre .0), a .pre .1)
 

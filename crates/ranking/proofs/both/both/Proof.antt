@@ -6,6 +6,19 @@ use Rattle.ranking.proofs.Demand.{both-hold}
 use Rattle.ranking.proofs.both.both.Statement.{statement}
 use Rattle.ranking.proofs.both.both.Tie as tie
 
+-- the places that the answers look back to
+abbrev after-plain : tie.After-slice-known8 → tie.After-plain
+after-plain c = c .before .before .before .before
+
+abbrev after-restart : tie.After-plain → tie.After-restart
+after-restart c = c .before .before .before
+
+abbrev after-run : tie.After-restart → tie.After-run
+after-run c = c .before .before .before .before .before
+
+abbrev begun : tie.After-run → tie.After-shared-slice-known
+begun c = c .before .before .before .before .before .before .before .before .before
+
 run-requires : tie.Need-run-requires
 run-requires c κs = search needs
 
@@ -29,10 +42,10 @@ same-length-4 c = search needs
 
 returns : tie.Need-returns
 returns c =
-    let p = c .before .before .before .before in
-    let s = p .before .before .before in
-    let r = s .before .before .before .before .before in
-    let b = r .before .before .before .before .before .before .before .before .before in
+    let p = after-plain c in
+    let s = after-restart p in
+    let r = after-run s in
+    let b = begun r in
     let a = b .before in
     let l = r .run .last .1 .1 .1 .1 .1 .1 in
     let l′ = p .plain .last .1 .1 .1 .1 .1 .1 in
