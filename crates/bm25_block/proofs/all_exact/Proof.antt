@@ -17,6 +17,10 @@ Inv-loop term-freqs ok₀ i₀ ok i = (i ≤ 128) × (ok ≡ every i (exactAt te
 abbrev μ-loop : tie.MeasureT-loop
 μ-loop term-freqs ok₀ i₀ ok i = 128 - i
 
+-- the places that the answers look back to
+abbrev loop-of : tie.Joined1 Inv-loop μ-loop → tie.At-loop Inv-loop μ-loop
+loop-of c = c .before .before .before
+
 loop-holds : tie.Need-loop-holds Inv-loop μ-loop
 loop-holds c = (search needs, refl)
 
@@ -34,7 +38,7 @@ loop-less c = search needs
 
 loop-again : tie.Need-loop-again Inv-loop μ-loop
 loop-again c =
-    let a = c .before .before .before in
+    let a = loop-of c in
     let i = a .loop .i in
     let exact = exactAt (a .before .args .term-freqs .now) in (
       search needs,

@@ -16,6 +16,13 @@ Inv-loop file reader cache docs norms₀ n i₀ norms i = (n ≡ 128) × ((i ≤
 abbrev μ-loop : tie.MeasureT-loop
 μ-loop file reader cache docs norms₀ n i₀ norms i = 128 - i
 
+-- the places that the answers look back to
+abbrev loop-of : tie.After-norms Inv-loop μ-loop → tie.At-loop Inv-loop μ-loop
+loop-of c = c .before .before .before .before .before
+
+abbrev start : tie.At-loop Inv-loop μ-loop → tie.Start Inv-loop μ-loop
+start c = c .before .before .before .before
+
 loop-holds : tie.Need-loop-holds Inv-loop μ-loop
 loop-holds c = (search needs, (search needs, begun nan 128 _ _ (search needs)))
 
@@ -51,12 +58,12 @@ loop-less c = search needs
 
 loop-again : tie.Need-loop-again Inv-loop μ-loop
 loop-again c =
-    let a = c .before .before .before .before .before in (
+    let a = loop-of c in (
       a .loop .inv .0,
       (
         omega arith,
         goes-on nan 128 _ _ (a .loop .i) (a .loop .norms) _ (omega arith)
-            (ap (λ (z : ℕ). getD (a .before .before .before .before .args .cache .now) z nan) (c .before .place .ensures .0 ∙ c .before .before .fieldnorm-id .ensures)) (a .loop .inv .1 .1),
+            (ap (λ (z : ℕ). getD (start a .args .cache .now) z nan) (c .before .place .ensures .0 ∙ c .before .before .fieldnorm-id .ensures)) (a .loop .inv .1 .1),
       ),
     )
 

@@ -4,6 +4,10 @@ use Rattle.bm25_block.proofs.BlockScores.{block-stepped, block-unsteppe
 use Rattle.bm25_block.proofs.score_block.Statement.{statement}
 use Rattle.bm25_block.proofs.score_block.Tie as tie
 
+-- the places that the answers look back to
+abbrev after-weigh : tie.After-step-all → tie.After-weigh
+after-weigh c = c .before .before .before .before
+
 read-norms-requires : tie.Need-read-norms-requires
 read-norms-requires c κs = search needs
 
@@ -28,7 +32,7 @@ start c = normed c .before .before .before .before .before
 
 returns : tie.Need-returns
 returns c =
-    let m = c .before .before .before .before in
+    let m = after-weigh c in
     let a = start m .args in
     rw (c .before .before .enum-told .given .1)
     (block-stepped (a .reader) (a .file .now) (a .t3) (a .docs .now) (a .term-freqs .now) _ _ (normed m .read-norms .ensures) (m .weigh .ensures) _ (c .step-all .ensures))

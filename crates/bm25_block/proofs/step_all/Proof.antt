@@ -16,6 +16,10 @@ Inv-loop scores₀ n i₀ scores i = (n ≡ 128) × ((i ≤ 128) × Filling nan 
 abbrev μ-loop : tie.MeasureT-loop
 μ-loop scores₀ n i₀ scores i = 128 - i
 
+-- the places that the answers look back to
+abbrev loop-of : tie.After-step-down Inv-loop μ-loop → tie.At-loop Inv-loop μ-loop
+loop-of c = c .before .before .before
+
 loop-holds : tie.Need-loop-holds Inv-loop μ-loop
 loop-holds c = (search needs, (search needs, begun nan 128 _ _ (search needs)))
 
@@ -42,7 +46,7 @@ loop-less c = search needs
 
 loop-again : tie.Need-loop-again Inv-loop μ-loop
 loop-again c =
-    let a = c .before .before .before in
+    let a = loop-of c in
     (a .loop .inv .0, (omega arith, goes-on nan 128 _ _ (a .loop .i) (a .loop .scores) _ (omega arith) (c .step-down .ensures ∙ ap stepDown (a .loop .inv .1 .1 .rest (a .loop .i) (omega arith))) (a .loop .inv .1 .1)))
 
 returns : tie.Need-returns Inv-loop μ-loop

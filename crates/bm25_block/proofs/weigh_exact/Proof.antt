@@ -21,6 +21,13 @@ Inv-loop weight term-freqs scores₀ n i₀ scores i =
 abbrev μ-loop : tie.MeasureT-loop
 μ-loop weight term-freqs scores₀ n i₀ scores i = 128 - i
 
+-- the places that the answers look back to
+abbrev start : tie.At-loop Inv-loop μ-loop → tie.Start Inv-loop μ-loop
+start c = c .before .before .before
+
+abbrev loop-of : tie.After-exact Inv-loop μ-loop → tie.At-loop Inv-loop μ-loop
+loop-of c = c .before .before .before
+
 loop-holds : tie.Need-loop-holds Inv-loop μ-loop
 loop-holds c = (search needs, (search needs, begun nan 128 _ _ (search needs)))
 
@@ -34,7 +41,7 @@ exact-requires : tie.Need-exact-requires Inv-loop μ-loop
 unfolding allExact
 exact-requires c κs =
     let a = c .before .before in
-    let s = a .before .before .before in
+    let s = start a in
     leb-true (getD (s .args .term-freqs .now) (a .loop .i) 0) 16777216 (each (exactAt (s .args .term-freqs .now)) 128 (a .loop .i) (s .pre) (omega arith))
 
 mul-score-at : tie.Need-mul-score-at Inv-loop μ-loop
@@ -61,7 +68,7 @@ loop-less c = search needs
 loop-again : tie.Need-loop-again Inv-loop μ-loop
 loop-again c =
     let f = c .before .before in
-    let l = f .before .before .before .loop in
+    let l = loop-of f .loop in
     let e = weighed-one _ _ (f .exact .ensures) (l .inv .1 .1 .rest (l .i) (omega arith)) (c .score-at .ensures) in
     (l .inv .0, (omega arith, goes-on nan 128 _ _ (l .i) (l .scores) _ (omega arith) e (l .inv .1 .1)))
 

@@ -18,6 +18,10 @@ Inv-loop weight term-freqs scores₀ n i₀ scores i =
 abbrev μ-loop : tie.MeasureT-loop
 μ-loop weight term-freqs scores₀ n i₀ scores i = 128 - i
 
+-- the places that the answers look back to
+abbrev loop-of : tie.After-u32-to-f32 Inv-loop μ-loop → tie.At-loop Inv-loop μ-loop
+loop-of c = c .before .before .before
+
 loop-holds : tie.Need-loop-holds Inv-loop μ-loop
 loop-holds c = (search needs, (search needs, begun nan 128 _ _ (search needs)))
 
@@ -54,7 +58,7 @@ loop-less c = search needs
 loop-again : tie.Need-loop-again Inv-loop μ-loop
 loop-again c =
     let f = c .before .before in
-    let l = f .before .before .before .loop in
+    let l = loop-of f .loop in
     let e = weighed-one _ _ (f .u32-to-f32 .ensures) (l .inv .1 .1 .rest (l .i) (omega arith)) (c .score-at .ensures) in
     (l .inv .0, (omega arith, goes-on nan 128 _ _ (l .i) (l .scores) _ (omega arith) e (l .inv .1 .1)))
 

@@ -5,6 +5,16 @@ use Rattle.bm25_block.proofs.BoundTests.{norms-read}
 use Rattle.bm25_block.proofs.bound.covered.Statement.{statement}
 use Rattle.bm25_block.proofs.bound.covered.Tie as tie
 
+-- the places that the answers look back to
+abbrev after-read-norms : tie.Then2 → tie.After-read-norms
+after-read-norms c = c .before .before .before
+
+abbrev read-exact : tie.After-exact-covered → tie.After-read-norms
+read-exact c = c .before .before .before
+
+abbrev read-rounded : tie.After-rounded-covered → tie.After-read-norms
+read-rounded c = c .before .before .before .before .before
+
 read-norms-requires : tie.Need-read-norms-requires
 read-norms-requires c κs = search needs
 
@@ -17,7 +27,7 @@ exact-covered-requires c κs = let t = c .before in let a = start (t .before) in
 
 returns : tie.Need-returns
 returns c =
-    let m = c .before .before .before in
+    let m = read-exact c in
     let a = start m in
     norms-read (a .args .reader) (a .args .file .now) (a .args .t3) (a .args .docs .now) (a .args .freqs .now) (m .read-norms .ensures) (a .args .bound) (a .args .n) (a .pre .0) (c .exact-covered .ensures)
 
@@ -25,11 +35,11 @@ all-exact-requires : tie.Need-all-exact-requires
 all-exact-requires c κs = search needs
 
 exact-covered-requires-2 : tie.Need-exact-covered-requires-2
-exact-covered-requires-2 c κs = let t = c .before in (start (t .before .before .before) .pre .0, sym (t .before .all-exact .ensures) ∙ t .if2 .taken)
+exact-covered-requires-2 c κs = let t = c .before in (start (after-read-norms t) .pre .0, sym (t .before .all-exact .ensures) ∙ t .if2 .taken)
 
 returns-2 : tie.Need-returns-2
 returns-2 c =
-    let m = c .before .before .before .before .before in
+    let m = after-read-norms (c .before .before) in
     let a = start m in
     norms-read (a .args .reader) (a .args .file .now) (a .args .t3) (a .args .docs .now) (a .args .freqs .now) (m .read-norms .ensures) (a .args .bound) (a .args .n) (a .pre .0) (c .exact-covered2 .ensures)
 
@@ -38,7 +48,7 @@ rounded-covered-requires c κs = search needs
 
 returns-3 : tie.Need-returns-3
 returns-3 c =
-    let m = c .before .before .before .before .before in
+    let m = read-rounded c in
     let a = start m in
     norms-read (a .args .reader) (a .args .file .now) (a .args .t3) (a .args .docs .now) (a .args .freqs .now) (m .read-norms .ensures) (a .args .bound) (a .args .n) (a .pre .0) (c .rounded-covered .ensures)
 

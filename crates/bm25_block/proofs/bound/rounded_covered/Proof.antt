@@ -16,6 +16,10 @@ Inv-loop weight norms freqs n bound right₀ i₀ right i = (i ≤ n) × (right 
 abbrev μ-loop : tie.MeasureT-loop
 μ-loop weight norms freqs n bound right₀ i₀ right i = n - i
 
+-- the places that the answers look back to
+abbrev loop-of : tie.After-u32-to-f32 Inv-loop μ-loop → tie.At-loop Inv-loop μ-loop
+loop-of c = c .before .before .before
+
 loop-holds : tie.Need-loop-holds Inv-loop μ-loop
 loop-holds c = (omega arith, refl)
 
@@ -47,7 +51,7 @@ loop-again : tie.Need-loop-again Inv-loop μ-loop
 loop-again c =
     let s = c .before in
     let f = s .before .before in
-    let l = f .before .before .before in
+    let l = loop-of f in
     let a = l .before .args in (
       omega arith,
       compared (a .weight) (a .bound) (a .freqs .now) (a .norms .now) (l .loop .i) (f .u32-to-f32 .ensures) (s .score-at .ensures) (l .loop .inv .1)

@@ -8,12 +8,25 @@ use Rattle.compression.proofs.Differences.{none-right, first-low, last-
 use Rattle.compression.proofs.documents.documents.Statement.{statement}
 use Rattle.compression.proofs.documents.documents.Tie as tie
 
+-- the places that the answers look back to
+abbrev start : tie.Then1 → tie.Start
+start c = c .before .before .before
+
+abbrev after-sums : tie.Then3 → tie.After-sums
+after-sums c = c .before .before .before .before
+
+abbrev summed : tie.Then4 → tie.After-sums
+summed c = c .before .before .before .before .before
+
+abbrev else-of : tie.After-rising → tie.Else4
+else-of c = c .before .before .before
+
 sums-requires : tie.Need-sums-requires
 sums-requires c κs = search needs
 
 returns : tie.Need-returns
 returns c =
-    let e = c .before .before .before in
+    let e = start c in
     let s = c .before .sums .ensures in
     record { summed = s; same = none-right (e .args .n) (e .args .limit) s (e .pre .0) (e .fits .limit .fits) (c .if1 .taken) }
 
@@ -22,7 +35,7 @@ element-copy-out-head c = search needs
 
 returns-2 : tie.Need-returns-2
 returns-2 c =
-    let m = c .before .before .before .before in
+    let m = after-sums c in
     let e = m .before .before in
     let s = m .sums .ensures in
     record { summed = s; same = first-low (e .args .n) (e .args .limit) s (e .pre .0) (e .fits .limit .fits) (omega arith) (not-true (e .args .first) (c .before .if2 .taken)) (c .if3 .taken) }
@@ -38,7 +51,7 @@ element-copy-out-last c = search needs
 
 returns-3 : tie.Need-returns-3
 returns-3 c =
-    let m = c .before .before .before .before .before in
+    let m = summed c in
     let e = m .before .before in
     let s = m .sums .ensures in
     record { summed = s; same = last-high (e .args .n) (e .args .limit) s (e .pre .0) (e .fits .limit .fits) (omega arith) (c .if4 .taken) }
@@ -63,7 +76,7 @@ rising-requires c κs = search needs
 
 returns-5 : tie.Need-returns-5
 returns-5 c =
-    let t = c .before .before .before in
+    let t = else-of c in
     let m = summed t in
     let e = m .before .before in
     let s = m .sums .ensures in

@@ -7,6 +7,10 @@ use Rattle.compression.proofs.Differences.{wrapped, onto}
 use Rattle.compression.proofs.documents.four_sums.Statement.{statement}
 use Rattle.compression.proofs.documents.four_sums.Tie as tie
 
+-- the places that the answers look back to
+abbrev third-sum : tie.After-wrapping-add-u3212 → tie.After-wrapping-add-u329
+third-sum c = c .before .before .before
+
 wrapping-add-u32-requires : tie.Need-wrapping-add-u32-requires
 wrapping-add-u32-requires c κs = search needs
 
@@ -45,7 +49,7 @@ wrapping-add-u32-requires-12 c κs = search needs
 
 returns : tie.Need-returns
 returns c =
-    let s9 = c .before .before .before in
+    let s9 = third-sum c in
     let s8 = s9 .before in
     let s7 = s8 .before in
     let s6 = s7 .before in

@@ -20,6 +20,10 @@ Inv-loop docs n right₀ i₀ right i = (i ≤ n - 1) × (right ≡ every i (λ 
 abbrev μ-loop : tie.MeasureT-loop
 μ-loop docs n right₀ i₀ right i = n - i
 
+-- the places that the answers look back to
+abbrev loop-of : tie.Joined1 Inv-loop μ-loop → tie.At-loop Inv-loop μ-loop
+loop-of c = c .before .before .before .before
+
 loop-holds : tie.Need-loop-holds Inv-loop μ-loop
 loop-holds c = (omega arith, refl)
 
@@ -49,8 +53,8 @@ loop-less c = search needs
 
 loop-again : tie.Need-loop-again Inv-loop μ-loop
 loop-again c =
-    let l = c .before .before .before .before .loop in
-    let xs = c .before .before .before .before .before .args .docs .now in
+    let l = loop-of c .loop in
+    let xs = loop-of c .before .args .docs .now in
     let x = getD xs (l .i) 0 in
     let y = getD xs (l .i + 1) 0 in
     let up : ℕ → Bool = λ k. ltb (getD xs k 0) (getD xs (k + 1) 0) in

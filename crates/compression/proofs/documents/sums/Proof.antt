@@ -12,8 +12,12 @@ Inv-loop values₀ strict first previous add p₀ i₀ values p i = Summing valu
 abbrev μ-loop : tie.MeasureT-loop
 μ-loop values₀ strict first previous add p₀ i₀ values p i = 128 - i
 
-abbrev row : tie.After-four-sums Inv-loop μ-loop → tie.In-loop Inv-loop μ-loop
-row c = c .before .before .before .before .before
+-- the places that the answers look back to
+abbrev after-gap : tie.In-loop Inv-loop μ-loop → tie.After-gap Inv-loop μ-loop
+after-gap c = c .before .before .before
+
+abbrev row : tie.After-four-sums-arg3 Inv-loop μ-loop → tie.In-loop Inv-loop μ-loop
+row c = c .before .before .before
 
 places : (l : tie.In-loop Inv-loop μ-loop) → Four-places (l .before .loop .i)
 places l = four-places (l .before .loop .inv .fours) (l .loop-test .taken)
@@ -52,58 +56,58 @@ element-copy-out-four-sums-3 : tie.Need-element-copy-out-four-sums-3 Inv-loop μ
 element-copy-out-four-sums-3 c = places (c .before .before) .in-2
 
 add-four-sums-3 : tie.Need-add-four-sums-3 Inv-loop μ-loop
-add-four-sums-3 c = places (c .before .before .before) .fits-3
+add-four-sums-3 c = places (row c) .fits-3
 
 mul-four-sums-4 : tie.Need-mul-four-sums-4 Inv-loop μ-loop
-mul-four-sums-4 c = places (c .before .before .before) .bytes-3
+mul-four-sums-4 c = places (row c) .bytes-3
 
 element-copy-out-four-sums-4 : tie.Need-element-copy-out-four-sums-4 Inv-loop μ-loop
-element-copy-out-four-sums-4 c = places (c .before .before .before) .in-3
+element-copy-out-four-sums-4 c = places (row c) .in-3
 
 four-sums-requires : tie.Need-four-sums-requires Inv-loop μ-loop
 four-sums-requires c κs = tt
 
 mul-values : tie.Need-mul-values Inv-loop μ-loop
-mul-values c = places (row c) .bytes-0
+mul-values c = places (row (c .before .before)) .bytes-0
 
 element-write-values : tie.Need-element-write-values Inv-loop μ-loop
-element-write-values c = row c .loop-test .taken
+element-write-values c = row (c .before .before) .loop-test .taken
 
 add-values : tie.Need-add-values Inv-loop μ-loop
-add-values c = places (row c) .fits-1
+add-values c = places (row (c .before .before)) .fits-1
 
 mul-values-2 : tie.Need-mul-values-2 Inv-loop μ-loop
-mul-values-2 c = places (row c) .bytes-1
+mul-values-2 c = places (row (c .before .before)) .bytes-1
 
 element-write-values-2 : tie.Need-element-write-values-2 Inv-loop μ-loop
-element-write-values-2 c = places (row c) .in-1
+element-write-values-2 c = places (row (c .before .before)) .in-1
 
 add-values-2 : tie.Need-add-values-2 Inv-loop μ-loop
-add-values-2 c = places (row c) .fits-2
+add-values-2 c = places (row (c .before .before)) .fits-2
 
 mul-values-3 : tie.Need-mul-values-3 Inv-loop μ-loop
-mul-values-3 c = places (row c) .bytes-2
+mul-values-3 c = places (row (c .before .before)) .bytes-2
 
 element-write-values-3 : tie.Need-element-write-values-3 Inv-loop μ-loop
-element-write-values-3 c = places (row c) .in-2
+element-write-values-3 c = places (row (c .before .before)) .in-2
 
 add-values-3 : tie.Need-add-values-3 Inv-loop μ-loop
-add-values-3 c = places (row c) .fits-3
+add-values-3 c = places (row (c .before .before)) .fits-3
 
 mul-values-4 : tie.Need-mul-values-4 Inv-loop μ-loop
-mul-values-4 c = places (row c) .bytes-3
+mul-values-4 c = places (row (c .before .before)) .bytes-3
 
 element-write-values-4 : tie.Need-element-write-values-4 Inv-loop μ-loop
-element-write-values-4 c = places (row c) .in-3
+element-write-values-4 c = places (row (c .before .before)) .in-3
 
 add-i : tie.Need-add-i Inv-loop μ-loop
-add-i c = places (row c) .fits-4
+add-i c = places (row (c .before .before)) .fits-4
 
 loop-less : tie.Need-loop-less Inv-loop μ-loop
 loop-less c = search needs
 
 loop-again : tie.Need-loop-again Inv-loop μ-loop
-loop-again c = row-more (row c .before .loop .inv) (row c .loop-test .taken) (row c .before .before .before .gap .ensures) (c .four-sums .result) (c .four-sums .ensures)
+loop-again c = row-more (row (c .before .before) .before .loop .inv) (row (c .before .before) .loop-test .taken) (after-gap (row (c .before .before)) .gap .ensures) (c .four-sums .result) (c .four-sums .ensures)
 
 returns : tie.Need-returns Inv-loop μ-loop
 returns c = all-summed (c .before .loop .inv) (c .loop-test .left)

@@ -14,6 +14,13 @@ Inv-loop values₀ n strict add right₀ i₀ values right i = Counting values�
 abbrev μ-loop : tie.MeasureT-loop
 μ-loop values₀ n strict add right₀ i₀ values right i = n - i
 
+-- the places that the answers look back to
+abbrev in-loop : tie.Joined1 Inv-loop μ-loop → tie.In-loop Inv-loop μ-loop
+in-loop c = c .before .before .before .before
+
+abbrev after-gap : tie.Joined1 Inv-loop μ-loop → tie.After-gap Inv-loop μ-loop
+after-gap c = c .before .before .before .before .before .before
+
 gap-requires : tie.Need-gap-requires Inv-loop μ-loop
 gap-requires c κs = search needs
 
@@ -46,10 +53,10 @@ loop-less c = search needs
 
 loop-again : tie.Need-loop-again Inv-loop μ-loop
 loop-again c =
-    let e = c .before .before .before .before .before .before .before in
-    let inv = c .before .before .before .before .before .loop .inv in
-    let go = c .before .before .before .before .loop-test .taken in
-    let add = c .before .before .before .before .before .before .gap .ensures in
+    let e = after-gap c .before in
+    let inv = in-loop c .before .loop .inv in
+    let go = in-loop c .loop-test .taken in
+    let add = after-gap c .gap .ensures in
     let sum = c .before .before .wrapping-add-u32 .ensures in
     let r = c .before .in-range in
     ⊎-elim

@@ -14,6 +14,16 @@ use Rattle.listcheck.proofs.Judged.{docs-wrong, freqs-wrong, full-bound
 use Rattle.listcheck.proofs.list.check_block.Statement.{statement}
 use Rattle.listcheck.proofs.list.check_block.Tie as tie
 
+-- the places that the answers look back to
+abbrev after-read-skip-entry : tie.After-docs → tie.After-read-skip-entry
+after-read-skip-entry c = c .before .before
+
+abbrev else-of : tie.Then2 → tie.Else1
+else-of c = c .before .before .before
+
+abbrev after-block-max-score : tie.After-freqs2 → tie.After-block-max-score
+after-block-max-score c = c .before .before .before .before
+
 read-skip-entry-requires : tie.Need-read-skip-entry-requires
 read-skip-entry-requires c κs = search needs
 
@@ -21,12 +31,12 @@ last-before-requires : tie.Need-last-before-requires
 last-before-requires c κs = search needs
 
 packed-docs-requires : tie.Need-packed-docs-requires
-packed-docs-requires c κs = let a = c .before .before .before .before in (a .pre .1, c .before .before .read-skip-entry .ensures, c .before .last-before .ensures ∙ a .pre .2, a .pre .0 .limit-is, a .pre .0 .few, search needs, rw (c .before .last-before .ensures) (a .pre .3))
+packed-docs-requires c κs = let a = after-read-skip-entry c .before .before in (a .pre .1, c .before .before .read-skip-entry .ensures, c .before .last-before .ensures ∙ a .pre .2, a .pre .0 .limit-is, a .pre .0 .few, search needs, rw (c .before .last-before .ensures) (a .pre .3))
 
 returns : tie.Need-returns
 returns c =
     let d = c .before in
-    let a = d .before .before .before .before .before in
+    let a = after-read-skip-entry (d .before) .before .before in
     docs-wrong (a .args .file .now) (a .args .x) (a .args .b) (d .packed-docs .ensures) (not-true _ (c .if1 .taken))
 
 packed-freqs-requires : tie.Need-packed-freqs-requires
@@ -34,9 +44,9 @@ packed-freqs-requires c κs = search needs
 
 returns-2 : tie.Need-returns-2
 returns-2 c =
-    let e = c .before .before .before in
+    let e = else-of c in
     let d = e .before in
-    let a = d .before .before .before .before .before in
+    let a = after-read-skip-entry (d .before) .before .before in
     freqs-wrong (a .args .file .now) (a .args .x) (a .args .b) (d .packed-docs .ensures) (not-false _ (e .if1 .left)) (c .before .packed-freqs .ensures) (not-true _ (c .if2 .taken))
 
 block-max-score-requires : tie.Need-block-max-score-requires
@@ -59,15 +69,15 @@ own-is : (c : tie.After-block-max-score) → c .block-max-score .result ≡ bloc
 own-is c =
     let a = start c in
     let e = docs-read (freqs-read c) in
-    let r = e .before .before .before .before .read-skip-entry in
+    let r = after-read-skip-entry (e .before .before) .read-skip-entry in
     bound-is (a .args .file .now) (a .args .x) (a .args .b) (λ i. begun e .shared-slice-known .given i .fits) (a .args .w) (a .pre .0 .weighed) (r .result) (r .ensures) (c .block-max-score .ensures)
 
 scores-covered-requires : tie.Need-scores-covered-requires
 scores-covered-requires c κs =
-    let m = c .before .before .before .before in
+    let m = after-block-max-score c in
     let a = start m in
     let e2 = freqs-read m in
-    let r = docs-read e2 .before .before .before .before .read-skip-entry in
+    let r = after-read-skip-entry (docs-read e2 .before .before) .read-skip-entry in
     (a .pre .0 .reader-is, a .pre .0 .weighed, search needs, λ s. narrow-exact (a .pre .1) (r .result) (r .ensures) (e2 .before .packed-freqs .ensures) (not-false _ (e2 .if2 .left)) (omega (arith, leb-true)))
 
 -- what the bounds' test says of the block

@@ -13,13 +13,23 @@ Inv-loop file limit reader x w maxScore blocks lowest₀ at₀ b₀ lowest at b 
 abbrev μ-loop : tie.MeasureT-loop
 μ-loop file limit reader x w maxScore blocks lowest₀ at₀ b₀ lowest at b = blocks - b
 
+-- the places that the answers look back to
+abbrev start : tie.At-loop Inv-loop μ-loop → tie.Start Inv-loop μ-loop
+start c = c .before .before .before
+
+abbrev else-of : tie.After-struct-known2 Inv-loop μ-loop → tie.Else1 Inv-loop μ-loop
+else-of c = c .before .before .before
+
+abbrev loop-of : tie.After-check-block Inv-loop μ-loop → tie.At-loop Inv-loop μ-loop
+loop-of c = c .before .before
+
 loop-holds : tie.Need-loop-holds Inv-loop μ-loop
 loop-holds c = let a = c .before .before in judging-begun (a .args .file .now) (a .args .x)
 
 check-block-requires : tie.Need-check-block-requires Inv-loop μ-loop
 check-block-requires c κs =
     let l = c .before in
-    let a = l .before .before .before in
+    let a = start l in
     let s = a .args .file .now in
     let x = a .args .x in
     let same = previous-same s x (l .loop .b) (l .loop .inv .within) (l .loop .inv .right) in
@@ -28,16 +38,16 @@ check-block-requires c κs =
 
 returns : tie.Need-returns Inv-loop μ-loop
 returns c =
-    let l = c .before .before .before in
-    let a = l .before .before .before in
+    let l = loop-of (c .before) in
+    let a = start l in
     let s = a .args .file .now in
     let x = a .args .x in
     seven-found s x (l .loop .inv) (c .before .before .loop-test .taken) (c .before .check-block .ensures) (c .if1 .taken)
 
 read-skip-entry-requires : tie.Need-read-skip-entry-requires Inv-loop μ-loop
 read-skip-entry-requires c κs =
-    let l = c .before .before .before in
-    let a = l .before .before .before in
+    let l = loop-of (c .before) in
+    let a = start l in
     let s = a .args .file .now in
     let x = a .args .x in
     (a .pre .1 .skipped, c .before .before .loop-test .taken)
@@ -47,9 +57,9 @@ lower-of-requires c κs = search needs
 
 add-at : tie.Need-add-at Inv-loop μ-loop
 add-at c =
-    let t = c .before .before .before .before .before in
+    let t = else-of c .before .before in
     let l = t .before in
-    let a = l .before .before .before in
+    let a = start l in
     let s = a .args .file .now in
     let x = a .args .x in
     let p = packed-in s x (a .pre .1) (t .loop-test .taken) (l .loop .inv .place) in
@@ -64,9 +74,9 @@ mul-at c = search needs
 
 add-at-2 : tie.Need-add-at-2 Inv-loop μ-loop
 add-at-2 c =
-    let t = c .before .before .before .before .before in
+    let t = else-of c .before .before in
     let l = t .before in
-    let a = l .before .before .before in
+    let a = start l in
     let s = a .args .file .now in
     let x = a .args .x in
     let p = packed-in s x (a .pre .1) (t .loop-test .taken) (l .loop .inv .place) in
@@ -81,19 +91,19 @@ loop-less c = search needs
 
 loop-again : tie.Need-loop-again Inv-loop μ-loop
 loop-again c =
-    let r = c .before .before .before .before in
+    let r = else-of c .before in
     let t = r .before in
     let l = t .before in
-    let a = l .before .before .before in
+    let a = start l in
     let s = a .args .file .now in
     let x = a .args .x in
     let e = c .before .before .read-skip-entry in
-    one-judged s x (l .loop .inv) (t .loop-test .taken) (r .check-block .ensures) (c .before .before .before .if1 .left) (e .result) (e .ensures) (c .before .lower-of .ensures)
+    one-judged s x (l .loop .inv) (t .loop-test .taken) (r .check-block .ensures) (else-of c .if1 .left) (e .result) (e .ensures) (c .before .lower-of .ensures)
 
 returns-2 : tie.Need-returns-2 Inv-loop μ-loop
 returns-2 c =
     let l = c .before in
-    let a = l .before .before .before in
+    let a = start l in
     let s = a .args .file .now in
     let x = a .args .x in
     all-judged s x (l .loop .inv) (c .loop-test .left)

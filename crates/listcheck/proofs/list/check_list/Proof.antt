@@ -12,6 +12,13 @@ use Rattle.listcheck.proofs.ListOrder.{skips-wrong, tail-is, skipped, p
 use Rattle.listcheck.proofs.list.check_list.Statement.{statement}
 use Rattle.listcheck.proofs.list.check_list.Tie as tie
 
+-- the places that the answers look back to
+abbrev after-freqs : tie.After-struct-known → tie.After-freqs
+after-freqs c = c .before .before .before
+
+abbrev after-check-blocks : tie.After-lower-of → tie.After-check-blocks
+after-check-blocks c = c .before .before .before .before .before
+
 tail-place-requires : tie.Need-tail-place-requires
 tail-place-requires c κs = search needs
 
@@ -52,10 +59,10 @@ returns-2 c =
     postings-wrong (a .args .file .now) (a .args .x) (placed k .tail-place .ensures) (k .before .place .given .1) (t .read-tail .ensures) (not-true _ (c .if1 .taken))
 
 float-from-bits-new : tie.Need-float-from-bits-new
-float-from-bits-new c = let a = start (c .before .before .before) in weight-number (a .args .x .weight) (a .pre .1 .weight)
+float-from-bits-new c = let a = start (after-freqs c) in weight-number (a .args .x .weight) (a .pre .1 .weight)
 
 float-from-bits-new-2 : tie.Need-float-from-bits-new-2
-float-from-bits-new-2 c = let a = start (c .before .before .before .before) in average-number (a .args .x .average) (a .pre .1 .average)
+float-from-bits-new-2 c = let a = start (after-freqs (c .before)) in average-number (a .args .x .average) (a .pre .1 .average)
 
 new-requires : tie.Need-new-requires
 new-requires c κs = search needs
@@ -120,7 +127,7 @@ lower-of-requires c κs = search needs
 
 returns-4 : tie.Need-returns-4
 returns-4 c =
-    let b = c .before .before .before .before .before in
+    let b = after-check-blocks c in
     let m = b .before in
     let a = begun m in
     let t = read m .before in

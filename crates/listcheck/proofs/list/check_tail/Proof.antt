@@ -12,6 +12,10 @@ use Rattle.listcheck.proofs.Judged.{docs-wrong, freqs-wrong, tail-bound
 use Rattle.listcheck.proofs.list.check_tail.Statement.{statement}
 use Rattle.listcheck.proofs.list.check_tail.Tie as tie
 
+-- the places that the answers look back to
+abbrev else-of : tie.After-frequencies-arg → tie.Else1
+else-of c = c .before
+
 -- the place of the call, from where the documents are made
 abbrev start : tie.After-documents-arg → tie.Start
 start c = c .before .before .before .before .before
@@ -34,11 +38,11 @@ returns c =
     docs-wrong (a .args .file .now) (a .args .x) _ D (not-true _ (c .if1 .taken))
 
 frequencies-requires : tie.Need-frequencies-requires
-frequencies-requires c κs = let a = start (c .before .before .before) in (omega arith, a .pre .2 .long-freqs, λ k l. freqs-small (a .pre .2) k (omega arith))
+frequencies-requires c κs = let a = start (else-of c .before .before) in (omega arith, a .pre .2 .long-freqs, λ k l. freqs-small (a .pre .2) k (omega arith))
 
 returns-2 : tie.Need-returns-2
 returns-2 c =
-    let e = c .before .before .before in
+    let e = else-of (c .before .before) in
     let d = e .before in
     let a = start (d .before) in
     let D = docs-tail (a .pre .2) (d .before .before .last-before .ensures ∙ a .pre .3) (a .pre .0 .limit-is) (a .pre .0 .few) (d .documents .ensures) in

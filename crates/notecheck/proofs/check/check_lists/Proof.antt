@@ -15,6 +15,13 @@ Inv-loop file h lists reader l₀ l = (l ≤ lists) × (listsRefusal file l ≡ 
 abbrev μ-loop : tie.MeasureT-loop
 μ-loop file h lists reader l₀ l = lists - l
 
+-- the places that the answers look back to
+abbrev start : tie.At-loop Inv-loop μ-loop → tie.Start Inv-loop μ-loop
+start c = c .before .before .before
+
+abbrev in-loop : tie.After-check-list Inv-loop μ-loop → tie.In-loop Inv-loop μ-loop
+in-loop c = c .before .before
+
 norm-reader-requires : tie.Need-norm-reader-requires Inv-loop μ-loop
 norm-reader-requires c κs = search needs
 
@@ -25,14 +32,14 @@ loop-holds c = (omega arith, refl)
 read-part-requires : tie.Need-read-part-requires Inv-loop μ-loop
 read-part-requires c κs =
     let l = c .before in
-    let a = l .before .before .before in
+    let a = start l in
     let s = a .args .file .now in
     (a .pre .header, c .loop-test .taken)
 
 check-list-requires : tie.Need-check-list-requires Inv-loop μ-loop
 check-list-requires c κs =
     let l = c .before .before in
-    let a = l .before .before .before in
+    let a = start l in
     let s = a .args .file .now in
     let h = c .before .loop-test .taken in
     rw (c .read-part .ensures)
@@ -40,10 +47,10 @@ check-list-requires c κs =
 
 returns : tie.Need-returns Inv-loop μ-loop
 returns c =
-    let l = c .before .before .before .before in
-    let a = l .before .before .before in
+    let l = in-loop (c .before) .before in
+    let a = start l in
     let s = a .args .file .now in
-    list-refused s (l .loop .l) (a .args .h .lists) (c .before .before .before .loop-test .taken) (l .loop .inv .1) (c .before .check-list .ensures ∙ ap (listRefusal s) (c .before .before .read-part .ensures)) (c .if1 .taken)
+    list-refused s (l .loop .l) (a .args .h .lists) (in-loop (c .before) .loop-test .taken) (l .loop .inv .1) (c .before .check-list .ensures ∙ ap (listRefusal s) (c .before .before .read-part .ensures)) (c .if1 .taken)
 
 add-l : tie.Need-add-l Inv-loop μ-loop
 add-l c = search needs
@@ -53,15 +60,15 @@ loop-less c = search needs
 
 loop-again : tie.Need-loop-again Inv-loop μ-loop
 loop-again c =
-    let l = c .before .before .before .before in
-    let a = l .before .before .before in
+    let l = in-loop (c .before) .before in
+    let a = start l in
     let s = a .args .file .now in
     (omega arith, list-clear s (l .loop .l) (l .loop .inv .1) (c .before .check-list .ensures ∙ ap (listRefusal s) (c .before .before .read-part .ensures)) (c .if1 .left))
 
 returns-2 : tie.Need-returns-2 Inv-loop μ-loop
 returns-2 c =
     let l = c .before in
-    let a = l .before .before .before in
+    let a = start l in
     let s = a .args .file .now in
     let e : l .loop .l ≡ a .args .h .lists = omega arith in
     sym (l .loop .inv .1) ∙ ap (listsRefusal s) e

@@ -17,6 +17,10 @@ Inv-loop file h lists right₀ l₀ right l = (l ≤ lists) × (right ≡ every 
 abbrev μ-loop : tie.MeasureT-loop
 μ-loop file h lists right₀ l₀ right l = lists - l
 
+-- the places that the answers look back to
+abbrev loop-of : tie.Joined1 Inv-loop μ-loop → tie.At-loop Inv-loop μ-loop
+loop-of c = c .before .before .before
+
 loop-holds : tie.Need-loop-holds Inv-loop μ-loop
 loop-holds c = (omega arith, refl)
 
@@ -31,7 +35,7 @@ loop-less c = search needs
 
 loop-again : tie.Need-loop-again Inv-loop μ-loop
 loop-again c =
-    let l = c .before .before .before in
+    let l = loop-of c in
     let s = l .before .before .args .file .now in
     let e = sym (c .before .entry-right .ensures) in (
       omega arith,

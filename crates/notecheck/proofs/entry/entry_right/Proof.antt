@@ -9,6 +9,13 @@ use Rattle.notecheck.proofs.Entries.{weight-fits, weight-wrong}
 use Rattle.notecheck.proofs.entry.entry_right.Statement.{statement}
 use Rattle.notecheck.proofs.entry.entry_right.Tie as tie
 
+-- the places that the answers look back to
+abbrev start : tie.After-read-be2 → tie.Start
+start c = c .before .before .before
+
+abbrev after-read-be2 : tie.After-struct-known → tie.After-read-be2
+after-read-be2 c = c .before .before .before
+
 mul-e : tie.Need-mul-e
 mul-e c = search needs
 
@@ -36,15 +43,15 @@ weight-ok-requires c κs = search needs
 returns : tie.Need-returns
 unfolding headerOf
 returns c =
-    let b = c .before .before .before in
-    let a = b .before .before .before in
+    let b = after-read-be2 c in
+    let a = start b in
     weight-fits (a .args .file .now) (a .args .l) _ _ (a .args .h .documents) (b .before .read-be .ensures) (b .read-be2 .ensures) (ap (λ (z : Header). z .documents) (a .pre .0 .same)) _ (c .before .before .weight-ok .ensures) (c .before .if1 .taken)
 
 returns-2 : tie.Need-returns-2
 unfolding headerOf
 returns-2 c =
     let b = c .before .before in
-    let a = b .before .before .before in
+    let a = start b in
     weight-wrong (a .args .file .now) (a .args .l) _ _ (a .args .h .documents) (b .before .read-be .ensures) (b .read-be2 .ensures) (ap (λ (z : Header). z .documents) (a .pre .0 .same)) _ (c .before .weight-ok .ensures) (c .if1 .left)
 
 pub entry-right-spec : {M : Type 1} → statement M

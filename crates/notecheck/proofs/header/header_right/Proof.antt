@@ -10,6 +10,10 @@ use Rattle.notefile.proofs.Headers.{header-tests}
 use Rattle.notecheck.proofs.header.header_right.Statement.{statement}
 use Rattle.notecheck.proofs.header.header_right.Tie as tie
 
+-- the places that the answers look back to
+abbrev start : tie.After-read-header → tie.Start
+start c = c .before .before .before
+
 returns : tie.Need-returns
 unfolding headerRight
 returns c = let s = c .before .before .args .file .now in sym (simp (lt-leb 9 (length s) (c .if1 .taken)))
@@ -20,7 +24,7 @@ read-header-requires c κs = search needs
 returns-2 : tie.Need-returns-2
 returns-2 c =
     let a = c .before .before in
-    let s = a .before .before .before .args .file .now in
+    let s = start a .args .file .now in
     let h = a .read-header .result in
     sym (header-tests s h (a .read-header .ensures) ∙ simp (le-leb 9 (length s) (a .before .if1 .left), ne-eqb (h .version) 1 (c .if2 .taken)))
 
@@ -28,7 +32,7 @@ returns-3 : tie.Need-returns-3
 returns-3 c =
     let e2 = c .before .before in
     let a = e2 .before .before in
-    let s = a .before .before .before .args .file .now in
+    let s = start a .args .file .now in
     let h = a .read-header .result in
     sym (header-tests s h (a .read-header .ensures) ∙ simp (le-leb 9 (length s) (a .before .if1 .left), eq-eqb (h .version) 1 (e2 .if2 .left), ne-eqb (h .spare) 0 (c .if3 .taken)))
 
@@ -37,7 +41,7 @@ returns-4 c =
     let e3 = c .before .before in
     let e2 = e3 .before .before in
     let a = e2 .before .before in
-    let s = a .before .before .before .args .file .now in
+    let s = start a .args .file .now in
     let h = a .read-header .result in
     sym (header-tests s h (a .read-header .ensures) ∙ simp (le-leb 9 (length s) (a .before .if1 .left), eq-eqb (h .version) 1 (e2 .if2 .left), eq-eqb (h .spare) 0 (e3 .if3 .left), lt-leb (h .lists) 16 (c .if4 .taken)))
 
@@ -47,7 +51,7 @@ returns-5 c =
     let e3 = e4 .before .before in
     let e2 = e3 .before .before in
     let a = e2 .before .before in
-    let s = a .before .before .before .args .file .now in
+    let s = start a .args .file .now in
     let h = a .read-header .result in
     sym (header-tests s h (a .read-header .ensures) ∙ simp (le-leb 9 (length s) (a .before .if1 .left), eq-eqb (h .version) 1 (e2 .if2 .left), eq-eqb (h .spare) 0 (e3 .if3 .left), le-leb (h .lists) 16 (e4 .if4 .left), lt-leb (h .documents) 1048576 (c .if5 .taken)))
 
@@ -55,13 +59,13 @@ returns-5 c =
 abbrev read : tie.Else5 → tie.After-read-header
 read c = c .before .before .before .before .before .before .before .before
 
-passed : (c : tie.Else5) → headerRight (read c .before .before .before .args .file .now) ≡ cond (eqb (read c .read-header .result .kind) 0) (eqb (read c .read-header .result .code) 0) true
+passed : (c : tie.Else5) → headerRight (start (read c) .args .file .now) ≡ cond (eqb (read c .read-header .result .kind) 0) (eqb (read c .read-header .result .code) 0) true
 passed e5 =
     let e4 = e5 .before .before in
     let e3 = e4 .before .before in
     let e2 = e3 .before .before in
     let a = e2 .before .before in
-    let s = a .before .before .before .args .file .now in
+    let s = start a .args .file .now in
     let h = a .read-header .result in
     header-tests s h (a .read-header .ensures) ∙ simp (le-leb 9 (length s) (a .before .if1 .left), eq-eqb (h .version) 1 (e2 .if2 .left), eq-eqb (h .spare) 0 (e3 .if3 .left), le-leb (h .lists) 16 (e4 .if4 .left), le-leb (h .documents) 1048576 (e5 .if5 .left))
 

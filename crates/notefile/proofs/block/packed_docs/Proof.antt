@@ -8,6 +8,13 @@ use Rattle.notefile.proofs.FullBlocks.{docs-in, small, narrow-block, do
 use Rattle.notefile.proofs.block.packed_docs.Statement.{statement}
 use Rattle.notefile.proofs.block.packed_docs.Tie as tie
 
+-- the places that the answers look back to
+abbrev after-documents : tie.After-struct-known2 → tie.After-documents
+after-documents c = c .before .before .before
+
+abbrev after-unpack : tie.After-documents → tie.After-unpack
+after-unpack c = c .before .before .before
+
 unpack-requires : tie.Need-unpack-requires
 unpack-requires c κs = let a = c .before .before in let i = docs-in (a .pre .0) (a .args .e) (a .pre .1) in (i .0, i .1, a .pre .5)
 
@@ -32,13 +39,13 @@ element-copy-out-last c = search needs
 
 returns : tie.Need-returns
 returns c =
-    let u = c .before .before .before .before .before .before in
+    let u = after-unpack (after-documents c) in
     let a = start u in
-    docs-end (a .pre .0) (a .args .e) (a .pre .1) (u .unpack .ensures) (a .pre .2) (a .pre .3) (a .pre .4) (c .before .before .before .documents .ensures) (c .before .before .if2 .taken)
+    docs-end (a .pre .0) (a .args .e) (a .pre .1) (u .unpack .ensures) (a .pre .2) (a .pre .3) (a .pre .4) (after-documents c .documents .ensures) (c .before .before .if2 .taken)
 
 returns-2 : tie.Need-returns-2
 returns-2 c =
-    let u = c .before .before .before .before in
+    let u = after-unpack (c .before) in
     let a = start u in
     docs-fall (a .pre .0) (a .args .e) (a .pre .1) (u .unpack .ensures) (a .pre .2) (a .pre .3) (a .pre .4) (c .before .documents .ensures) (c .if2 .left)
 

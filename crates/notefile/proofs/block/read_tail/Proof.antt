@@ -4,8 +4,21 @@ use Rattle.notefile.proofs.Tails.{past-end, docs-broken, freqs-broken, 
 use Rattle.notefile.proofs.block.read_tail.Statement.{statement}
 use Rattle.notefile.proofs.block.read_tail.Tie as tie
 
+-- the places that the answers look back to
+abbrev after-first : tie.After-read-vints2 → tie.After-first
+after-first c = c .before .before .before
+
+abbrev else-of : tie.After-read-vints → tie.Else1
+else-of c = c .before .before .before
+
+abbrev start : tie.After-struct-known → tie.Start
+start c = c .before .before
+
+abbrev after-read-vints2 : tie.After-struct-known3 → tie.After-read-vints2
+after-read-vints2 c = c .before .before .before .before
+
 returns : tie.Need-returns
-returns c = let a = c .before .before .before in past-end (a .args .file .now) (a .args .x) (a .pre .1) (c .if1 .taken)
+returns c = let a = start (c .before) in past-end (a .args .file .now) (a .args .x) (a .pre .1) (c .if1 .taken)
 
 read-vints-requires : tie.Need-read-vints-requires
 read-vints-requires c κs = search needs
@@ -17,7 +30,7 @@ enum-told : tie.Need-enum-told
 enum-told c = search needs
 
 returns-2 : tie.Need-returns-2
-returns-2 c = let v = c .before .before in let a = v .before .before .before .before .before .before in docs-broken (a .args .file .now) (a .args .x) (a .pre .1) (v .before .before .before .if1 .left) (v .read-vints .ensures) (c .enum-told .given .1)
+returns-2 c = let v = c .before .before in let a = start (else-of v .before) in docs-broken (a .args .file .now) (a .args .x) (a .pre .1) (else-of v .if1 .left) (v .read-vints .ensures) (c .enum-told .given .1)
 
 read-vints-requires-2 : tie.Need-read-vints-requires-2
 read-vints-requires-2 c κs = search needs
@@ -29,10 +42,10 @@ enum-told-2 : tie.Need-enum-told-2
 enum-told-2 c = search needs
 
 returns-3 : tie.Need-returns-3
-returns-3 c = let w = c .before .before in let v = w .before .before .before .before .before in let a = v .before .before .before .before .before .before in freqs-broken (a .args .file .now) (a .args .x) (a .pre .1) (v .before .before .before .if1 .left) (v .read-vints .ensures) (w .before .before .before .first .given .1) (w .read-vints2 .ensures) (c .enum-told2 .given .1)
+returns-3 c = let w = c .before .before in let v = after-first w .before .before in let a = start (else-of v .before) in freqs-broken (a .args .file .now) (a .args .x) (a .pre .1) (else-of v .if1 .left) (v .read-vints .ensures) (after-first w .first .given .1) (w .read-vints2 .ensures) (c .enum-told2 .given .1)
 
 returns-4 : tie.Need-returns-4
-returns-4 c = let w = c .before .before .before .before in let v = w .before .before .before .before .before in let a = v .before .before .before .before .before .before in filled (a .args .file .now) (a .args .x) (a .pre .1) (v .before .before .before .if1 .left) (v .read-vints .ensures) (w .before .before .before .first .given .1) (w .read-vints2 .ensures) (c .before .before .second .given .1)
+returns-4 c = let w = after-read-vints2 c in let v = after-first w .before .before in let a = start (else-of v .before) in filled (a .args .file .now) (a .args .x) (a .pre .1) (else-of v .if1 .left) (v .read-vints .ensures) (after-first w .first .given .1) (w .read-vints2 .ensures) (c .before .before .second .given .1)
 
 pub read-tail-spec : {M : Type 1} → statement M
 read-tail-spec =

@@ -55,7 +55,9 @@ add-t19 c = search needs
 returns : tie.Need-returns
 unfolding partOf skipsAt
 returns c =
-    let a = c .before .before .before .before .before in
+    let k = c .before .before in
+    let r = k .before in
+    let a = r .before .before in
     let s = a .args .file .now in
     let e = 9 + 13 * a .args .l in
     rw (
@@ -66,8 +68,8 @@ returns c =
       div-one,
       c .read-average .ensures,
       c .before .read-be3 .ensures,
-      c .before .before .read-be2 .ensures,
-      c .before .before .before .read-be .ensures,
+      k .read-be2 .ensures,
+      r .read-be .ensures,
       a .pre .2,
     )
 

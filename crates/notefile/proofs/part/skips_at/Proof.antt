@@ -17,6 +17,10 @@ Inv-loop file n at₀ l₀ at l = (l ≤ n) × (at ≡ skipsAt file l) × (at �
 abbrev μ-loop : tie.MeasureT-loop
 μ-loop file n at₀ l₀ at l = n - l
 
+-- the places that the answers look back to
+abbrev start : tie.Joined1 Inv-loop μ-loop → tie.Start Inv-loop μ-loop
+start c = c .before .before .before .before
+
 mul-at : tie.Need-mul-at Inv-loop μ-loop
 mul-at c = search needs
 
@@ -31,7 +35,7 @@ add-at-2 c = search needs
 
 loop-holds : tie.Need-loop-holds Inv-loop μ-loop
 loop-holds c =
-    let a = c .before .before .before .before in
+    let a = start c in
     let s = a .args .file .now in
     ⊎-elim
     (λ w. (omega arith, w .2 ∙ after-norms s (a .args .h) (a .pre .0 .same) (w .0 .taken), omega (arith, a .pre)))
@@ -39,7 +43,7 @@ loop-holds c =
     (c .if1 .came)
 
 part-at-requires : tie.Need-part-at-requires Inv-loop μ-loop
-part-at-requires c κs = let l = c .before in let a = l .before .before .before .before .before in (omega (arith, a .pre), omega (arith, a .pre), l .loop .inv .1, omega (arith, l .loop .inv .2, a .pre))
+part-at-requires c κs = let l = c .before in let a = start (l .before) in (omega (arith, a .pre), omega (arith, a .pre), l .loop .inv .1, omega (arith, l .loop .inv .2, a .pre))
 
 add-l : tie.Need-add-l Inv-loop μ-loop
 add-l c = search needs
@@ -50,14 +54,14 @@ loop-less c = search needs
 loop-again : tie.Need-loop-again Inv-loop μ-loop
 loop-again c =
     let l = c .before .before in
-    let s = l .before .before .before .before .before .args .file .now in
+    let s = start (l .before) .args .file .now in
     let e = ap (λ (z : Part). z .end) (c .part-at .ensures) in
     (omega arith, e ∙ next-place s (l .loop .l), omega (arith, e, part-short s (l .loop .l), l .loop .inv .1, l .loop .inv .2))
 
 returns : tie.Need-returns Inv-loop μ-loop
 returns c =
     let l = c .before in
-    let a = l .before .before .before .before .before in
+    let a = start (l .before) in
     let e : l .loop .l ≡ a .args .n = omega arith in
     (l .loop .inv .1 ∙ ap (skipsAt (a .args .file .now)) e, omega (arith, l .loop .inv .2))
 

@@ -49,8 +49,12 @@ shared-slice-read-t23 c = search needs
 returns : tie.Need-returns
 unfolding skipEntryOf
 returns c =
-    let e = c .before .before .before .before .before .before .before .before .before in
-    rw (c .before .before .before .before .wide2 .ensures .0, c .before .before .before .before .before .before .read-u32 .ensures .0, c .before .before .before .before .before .before .before .wide .ensures .0, e .skip-entry-at .ensures .0)
+    let k = c .before .before in
+    let w = k .before .before in
+    let u = w .before .before in
+    let v = u .before in
+    let e = v .before .before in
+    rw (w .wide2 .ensures .0, u .read-u32 .ensures .0, v .wide .ensures .0, e .skip-entry-at .ensures .0)
 
 pub read-skip-entry-spec : {M : Type 1} → statement M
 read-skip-entry-spec =
