@@ -31,6 +31,7 @@ aligned b = let l = b .align-scorers .last .1 .1 .1 .1 .1 in held (l .1 .0) (l .
 abbrev order′ : tie.After-align-scorers → List ℕ
 order′ b = b .align-scorers .last .1 .1 .1 .1 .1 .0
 
+-- all came to the pivot
 came : (t : tie.Then1) → (let b = t .before in let a = start (b .before) in
     OnPivot (a .args .file .now) (a .args .lists .now) (a .args .span .«pivot_doc») (now a) (termsOf (a .args .file .now) (a .args .lists .now) (a .args .bar .similarity .scoring) (a .args .places .now) (take (a .args .n) (a .args .order .now))) (a .args .span .«before_pivot_len»)
     (aligned b) (termsOf (a .args .file .now) (a .args .lists .now) (a .args .bar .similarity .scoring) (aligned b .places) (take (a .args .n) (order′ b))))
