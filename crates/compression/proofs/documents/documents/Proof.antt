@@ -12,11 +12,11 @@ use Rattle.compression.proofs.documents.documents.Tie as tie
 abbrev start : tie.Then1 → tie.Start
 start c = c .before .before .before
 
-abbrev after-sums : tie.Then3 → tie.After-sums
-after-sums c = c .before .before .before .before
+abbrev sums-low : tie.Then3 → tie.After-sums
+sums-low c = c .before .before .before .before
 
-abbrev summed : tie.Then4 → tie.After-sums
-summed c = c .before .before .before .before .before
+abbrev sums-high : tie.Then4 → tie.After-sums
+sums-high c = c .before .before .before .before .before
 
 abbrev else-of : tie.After-rising → tie.Else4
 else-of c = c .before .before .before
@@ -35,7 +35,7 @@ element-copy-out-head c = search needs
 
 returns-2 : tie.Need-returns-2
 returns-2 c =
-    let m = after-sums c in
+    let m = sums-low c in
     let e = m .before .before in
     let s = m .sums .ensures in
     record { summed = s; same = first-low (e .args .n) (e .args .limit) s (e .pre .0) (e .fits .limit .fits) (omega arith) (not-true (e .args .first) (c .before .if2 .taken)) (c .if3 .taken) }
@@ -51,7 +51,7 @@ element-copy-out-last c = search needs
 
 returns-3 : tie.Need-returns-3
 returns-3 c =
-    let m = summed c in
+    let m = sums-high c in
     let e = m .before .before in
     let s = m .sums .ensures in
     record { summed = s; same = last-high (e .args .n) (e .args .limit) s (e .pre .0) (e .fits .limit .fits) (omega arith) (c .if4 .taken) }
