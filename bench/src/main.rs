@@ -10,6 +10,7 @@ mod measure;
 mod options;
 mod saved;
 mod tables;
+mod unpack;
 
 use std::cell::LazyCell;
 use std::collections::HashMap;
@@ -22,6 +23,7 @@ use measure::{Shape, Times, LISTS};
 use options::{Loop, Options, Work};
 use saved::Saved;
 use tables::{CheckRow, RunRow};
+use unpack::{Blocks, UnpackRow};
 
 /// Random files on which the checks must agree before anything is timed.
 const CASES: u64 = 5_000;
@@ -100,6 +102,20 @@ fn time_growth(options: &Options) -> Result<Vec<CheckRow>, String> {
     Ok(rows)
 }
 
+/// Unpacking at each width.
+fn time_unpacking(options: &Options) -> Result<Vec<UnpackRow>, String> {
+    if !options.only.is_empty() && options.only != ["unpack"] {
+        return Ok(Vec::new());
+    }
+    let blocks = Blocks::new();
+    blocks.same_values()?;
+    let mut rows = unpack::rows();
+    for _ in 0..8 * options.rounds {
+        rows.iter_mut().for_each(|row| blocks.time(row));
+    }
+    Ok(rows)
+}
+
 fn print_tables(options: &Options) -> Result<(), String> {
     let earlier = options.against.as_deref().map(Saved::read).transpose()?;
     measure::same_refusals(CASES)?;
@@ -109,8 +125,12 @@ fn print_tables(options: &Options) -> Result<(), String> {
         saved::save(path, &runs)?;
     }
     let growth = time_growth(options)?;
-    if runs.is_empty() && growth.is_empty() {
+    let unpacking = time_unpacking(options)?;
+    if runs.is_empty() && growth.is_empty() && unpacking.is_empty() {
         return Err("no row has all of these words".to_string());
+    }
+    if !unpacking.is_empty() {
+        tables::unpacking(&unpacking);
     }
     if !checks.is_empty() {
         tables::checks("The check of the files below", &checks);
@@ -123,7 +143,7 @@ fn print_tables(options: &Options) -> Result<(), String> {
         tables::small(&runs);
         tables::growth(&runs);
     }
-    tables::targets(&checks, &runs);
+    tables::targets(&unpacking, &checks, &runs);
     Ok(())
 }
 

@@ -4,6 +4,7 @@ use oracle::case::UNION;
 
 use crate::measure::{Shape, Times};
 use crate::saved::Saved;
+use crate::unpack::UnpackRow;
 
 /// A file's check, by its lists and postings.
 pub struct CheckRow {
@@ -33,6 +34,16 @@ fn beside(ours: f64, rusts: f64, unit: fn(f64) -> f64) -> String {
 
 fn of_files(rows: &[RunRow], small: bool) -> Vec<&RunRow> {
     rows.iter().filter(|row| row.shape.small.is_some() == small).collect()
+}
+
+/// Unpacking, in nanoseconds a block.
+pub fn unpacking(rows: &[UnpackRow]) {
+    println!("\nUnpacking a block of 128\n");
+    println!("{:<14} {:>8} {:>8} {:>6}", "values", "ours ns", "Rust ns", "ratio");
+    for row in rows {
+        let (ours, rusts) = (row.ours, row.rust);
+        println!("{:<14} {ours:>8.1} {rusts:>8.1} {:>6.2}", row.name(), ours / rusts);
+    }
 }
 
 pub fn checks(title: &str, rows: &[CheckRow]) {
@@ -187,8 +198,12 @@ impl Target {
     }
 }
 
-pub fn targets(checks: &[CheckRow], runs: &[RunRow]) {
+pub fn targets(unpacking: &[UnpackRow], checks: &[CheckRow], runs: &[RunRow]) {
     println!("\nTargets (geometric means of ratios)\n");
+    let of_width = |row: &&UnpackRow| row.width.is_some();
+    let by_width = |row: &UnpackRow| (row.name(), row.ours / row.rust);
+    let unpack = Target { name: "unpacking", mean: None, row: Some(1.2) };
+    unpack.print(&unpacking.iter().filter(of_width).map(by_width).collect::<Vec<_>>());
     let by_check = |row: &CheckRow| {
         (format!("{} lists, {} postings", row.lists, row.postings), row.times.check_ratio())
     };

@@ -10,8 +10,15 @@ unfolding wordAt
 laneAt zero s p = 0
 laneAt (suc k) s p = wordAt s p + 2 ^ 32 * laneAt k s (p + 16)
 
--- where its values stand: value i goes to lane i mod 4, which starts 4 bytes after the lane before it, above the i / 4 values that the lane
--- has already; at place p, of width w
+-- value i goes to lane i mod 4
+abbrev pub laneOf : ℕ → ℕ
+laneOf i = i % 4
+
+-- above the i / 4 values of width w that the lane has already: so many bits are below it
+abbrev pub bitPlace : ℕ → ℕ → ℕ
+bitPlace w i = i / 4 * w
+
+-- where a block's values stand: a lane starts 4 bytes after the lane before it; at place p, of width w
 unfoldable pub packedAt : List ℕ → ℕ → ℕ → ℕ → ℕ
 unfolding laneAt
-packedAt s p w i = laneAt w s (p + 4 * (i % 4)) / 2 ^ (i / 4 * w) % 2 ^ w
+packedAt s p w i = laneAt w s (p + 4 * laneOf i) / 2 ^ bitPlace w i % 2 ^ w

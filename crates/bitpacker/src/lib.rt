@@ -1,13 +1,14 @@
 // Packed blocks: 128 values of one width from 0 to 32, in four lanes.
 use codec::bits::read_u32;
 ghost use mathlib.Core.Path.{_≡_};
-ghost use Prim.Native.Nat.{_+_, _*_, _%_, _^_, _≤_, _<_};
+ghost use Prim.Native.Nat.{ℕ, _+_, _*_, _/_, _%_, _^_, _≤_, _<_};
 ghost use lib.ListN.{length};
+ghost use lib.Bits.{bitAnd};
 ghost use Rattle.arrays.specs.Lent.{before, after};
 ghost use Rattle.codec.specs.Bits.{wordAt};
-ghost use Rattle.bitpacker.specs.Inner.Rows.{InBlock, FourAt, Unpacked};
+ghost use Rattle.bitpacker.specs.Inner.Rows.{Across, EachLane, inLane, setFour, Unpacked, Whole};
 
-// One value of each lane.
+// One number of each lane.
 pub struct Four {
     pub a: u32,
     pub b: u32,
@@ -15,68 +16,143 @@ pub struct Four {
     pub d: u32,
 }
 
-// The word at p put above a lane's low bits, of which there are `up`.
-fn above(low: u32, s: &[u8], p: usize, up: u32) -> u32
-    requires { ⌜ (p + 4 ≤ length (now s)) × (up < 32) × (low < 2 ^ up) ⌝ }
-    ensures { λ r. ⌜ r ≡ (low + 2 ^ up * wordAt (before s) p) % 2 ^ 32 ⌝ }
-{
-    low | (read_u32(s, p) << up)
+// The bit place that is carried from row to row: of the words before `next`, the bits that are still to come in each lane, and how many.
+pub struct BitPlace {
+    pub rest: Four,
+    pub left: u32,
+    pub next: usize,
 }
 
-// The values of the lanes whose words stand from p on, `shift` bits into these words. A value that goes on in the next word has its high
-// bits there: all four do, or none. Of width 0 there are no words.
-fn four_at(s: &[u8], p: usize, shift: u32, width: u32, mask: u32) -> Four
-    requires { ⌜ InBlock (length (now s)) p shift width mask ⌝ }
-    ensures { λ r. ⌜ FourAt (before s) p shift width r ⌝ }
+// The lanes' words at p.
+fn words_at(s: &[u8], p: usize) -> Four
+    requires { ⌜ p + 16 ≤ length (now s) ⌝ }
+    ensures { λ r. ⌜ EachLane (λ n. wordAt (before s) (p + 4 * n)) r ⌝ }
 {
-    if width == 0 {
-        return Four {
-            a: 0,
-            b: 0,
-            c: 0,
-            d: 0,
-        };
-    }
-    let mut a = read_u32(s, p) >> shift;
-    let mut b = read_u32(s, p + 4) >> shift;
-    let mut c = read_u32(s, p + 8) >> shift;
-    let mut d = read_u32(s, p + 12) >> shift;
-    if 32 < shift + width {
-        let up = 32 - shift;
-        a = above(a, s, p + 16, up);
-        b = above(b, s, p + 20, up);
-        c = above(c, s, p + 24, up);
-        d = above(d, s, p + 28, up);
-    }
     Four {
-        a: a & mask,
-        b: b & mask,
-        c: c & mask,
-        d: d & mask,
+        a: read_u32(s, p),
+        b: read_u32(s, p + 4),
+        c: read_u32(s, p + 8),
+        d: read_u32(s, p + 12),
     }
 }
 
-// The 128 values of the packed block at a place, a row of four lanes at a time: `word` words and `shift` bits into the lanes.
+// Each lane's next word above its `left` bits.
+fn joined(low: Four, high: Four, left: u32) -> Four
+    requires { ⌜ (left < 32) × ((n : ℕ) → inLane low n < 2 ^ left) ⌝ }
+    ensures { λ r. ⌜ EachLane (λ n. (inLane low n + 2 ^ left * inLane high n) % 2 ^ 32) r ⌝ }
+{
+    Four {
+        a: low.a | (high.a << left),
+        b: low.b | (high.b << left),
+        c: low.c | (high.c << left),
+        d: low.d | (high.d << left),
+    }
+}
+
+// What stands above each lane's lowest bits.
+fn shifted(x: Four, by: u32) -> Four
+    requires { ⌜ by < 32 ⌝ }
+    ensures { λ r. ⌜ EachLane (λ n. inLane x n / 2 ^ by) r ⌝ }
+{
+    Four {
+        a: x.a >> by,
+        b: x.b >> by,
+        c: x.c >> by,
+        d: x.d >> by,
+    }
+}
+
+// Each lane's lowest bits, as the values from i on.
+fn put(x: Four, mask: u32, i: usize, out: &mut [u32; 128])
+    requires { ⌜ (i + 4 ≤ 128) × (length (now out) ≡ 128) ⌝ }
+    ensures { λ _. ⌜ after out ≡ setFour (before out) i (λ n. bitAnd (inLane x n) mask) ⌝ }
+{
+    out[i] = x.a & mask;
+    out[i + 1] = x.b & mask;
+    out[i + 2] = x.c & mask;
+    out[i + 3] = x.d & mask;
+}
+
+// A row whose values end in the words before `next`.
+fn whole(place: BitPlace, width: u32, mask: u32, i: usize, out: &mut [u32; 128]) -> BitPlace
+    requires { ⌜ (width < 32) × (width ≤ place .left) × (i + 4 ≤ 128) × (length (now out) ≡ 128) ⌝ }
+    ensures { λ r. ⌜ Whole place width mask i (before out) (after out) r ⌝ }
+{
+    put(place.rest, mask, i, out);
+    BitPlace {
+        rest: shifted(place.rest, width),
+        left: place.left - width,
+        next: place.next,
+    }
+}
+
+// A row whose values end in the words at `next`.
+fn across(
+    s: &[u8],
+    place: BitPlace,
+    width: u32,
+    mask: u32,
+    i: usize,
+    out: &mut [u32; 128],
+) -> BitPlace
+    requires { ⌜ (width < 32) × (place .left < width) × ((n : ℕ) → inLane (place .rest) n < 2 ^ place .left)
+        × (place .next + 16 ≤ length (now s)) × (i + 4 ≤ 128) × (length (now out) ≡ 128) ⌝ }
+    ensures { λ r. ⌜ Across (before s) place width mask i (before out) (after out) r ⌝ }
+{
+    let words = words_at(s, place.next);
+    put(joined(place.rest, words, place.left), mask, i, out);
+    let used = width - place.left;
+    BitPlace {
+        rest: shifted(words, used),
+        left: 32 - used,
+        next: place.next + 16,
+    }
+}
+
+// The values of a block of width 32 are its words.
+fn copy(s: &[u8], at: usize, out: &mut [u32; 128])
+    requires { ⌜ (at + 512 ≤ length (now s)) × (length (now out) ≡ 128) ⌝ }
+    ensures { λ _. ⌜ Unpacked (before s) at 32 (after out) ⌝ }
+{
+    let mut p = at;
+    let mut i: usize = 0;
+    while i < 128 {
+        out[i] = read_u32(s, p);
+        p += 4;
+        i += 1;
+    }
+}
+
+// The 128 values of the packed block at a place, a row of four lanes at a time. No index is divided: the lane is the number's place in
+// its row, and the bit place is carried.
 pub fn unpack(s: &[u8], at: usize, width: u32, out: &mut [u32; 128])
     requires { ⌜ (width ≤ 32) × (at + 16 * width ≤ length (now s)) × (length (now out) ≡ 128) ⌝ }
     ensures { λ r. ⌜ Unpacked (before s) at width (after out) ⌝ }
 {
-    let unit: u64 = 1 << width;
-    let mask = (unit - 1) as u32;
-    let mut word: usize = 0;
-    let mut shift: u32 = 0;
+    if width == 0 {
+        *out = [0; 128];
+        return;
+    }
+    if width == 32 {
+        copy(s, at, out);
+        return;
+    }
+    let unit: u32 = 1 << width;
+    let mask = unit - 1;
+    let mut place = BitPlace {
+        rest: words_at(s, at),
+        left: 32,
+        next: at + 16,
+    };
     let mut i: usize = 0;
     while i < 128 {
-        let x = four_at(s, at + 16 * word, shift, width, mask);
-        out[i] = x.a;
-        out[i + 1] = x.b;
-        out[i + 2] = x.c;
-        out[i + 3] = x.d;
-        shift += width;
-        if 32 <= shift {
-            shift -= 32;
-            word += 1;
+        while width <= place.left {
+            place = whole(place, width, mask, i, out);
+            i += 4;
         }
-        i += 4;
+        if i < 128 {
+            place = across(s, place, width, mask, i, out);
+            i += 4;
+        }
     }
 }

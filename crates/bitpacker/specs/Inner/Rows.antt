@@ -1,27 +1,62 @@
--- What unpacking leaves, a row of four lanes at a time.
+-- What unpacking carries and leaves, a row of four lanes at a time.
 use mathlib.Core.Path.{_≡_}
 use mathlib.Core.List.{List}
-use Prim.Native.Nat.{ℕ, _+_, _-_, _/_, _%_, _^_, _≤_, _<_}
-use lib.ListN.{length, getD}
-use Rattle.bitpacker.specs.Packed.{laneAt, packedAt}
+use Prim.Native.Nat.{ℕ, zero, suc, _+_, _-_, _*_, _/_, _%_, _^_, _≤_, _<_}
+use lib.ListN.{length, getD, set}
+use lib.Bits.{bitAnd}
+use Rattle.codec.specs.Bits.{wordAt}
+use Rattle.bitpacker.specs.Packed.{laneAt, laneOf, bitPlace, packedAt}
 use Rattle.bitpacker.specs.declared.Four.{Four}
+use Rattle.bitpacker.specs.declared.BitPlace.{BitPlace}
 
 -- a list that holds the block's 128 values
 pub record Unpacked (s : List ℕ) (p w : ℕ) (out : List ℕ) : Type 0 where
   pub long : length out ≡ 128
   pub values : (i : ℕ) → i < 128 → getD out i 0 ≡ packedAt s p w i
 
--- a value of each lane lies inside the bytes: in the words from place p on, or on into the next
-pub record InBlock (bytes p shift width mask : ℕ) : Type 0 where
-  pub shifts : shift < 32
-  pub widths : width ≤ 32
-  pub ones : mask ≡ 2 ^ width - 1
-  pub inside : 0 < width → p + 16 ≤ bytes
-  pub across : 32 < shift + width → p + 32 ≤ bytes
+-- a lane's number
+abbrev pub inLane : Four → ℕ → ℕ
+inLane x zero = x .a
+inLane x (suc zero) = x .b
+inLane x (suc (suc zero)) = x .c
+inLane x (suc (suc (suc n))) = x .d
 
--- the four lanes' values of w bits, `shift` bits into the words from place p on
-pub record FourAt (s : List ℕ) (p shift w : ℕ) (r : Four) : Type 0 where
-  pub lane0 : r .a ≡ laneAt 2 s p / 2 ^ shift % 2 ^ w
-  pub lane1 : r .b ≡ laneAt 2 s (p + 4) / 2 ^ shift % 2 ^ w
-  pub lane2 : r .c ≡ laneAt 2 s (p + 8) / 2 ^ shift % 2 ^ w
-  pub lane3 : r .d ≡ laneAt 2 s (p + 12) / 2 ^ shift % 2 ^ w
+-- each lane's number is what f has of the lane
+pub record EachLane (f : ℕ → ℕ) (x : Four) : Type 0 where
+  pub lane0 : x .a ≡ f 0
+  pub lane1 : x .b ≡ f 1
+  pub lane2 : x .c ≡ f 2
+  pub lane3 : x .d ≡ f 3
+
+-- a row of four written from i on
+abbrev pub setFour : List ℕ → ℕ → (ℕ → ℕ) → List ℕ
+setFour out i f = set (set (set (set out i (f 0)) (i + 1) (f 1)) (i + 2) (f 2)) (i + 3) (f 3)
+
+-- what is carried to the row of value i is right: value i + n has lane n, and its bit place is all bits of the words before `next`
+-- but for those left, which the lane's number is
+pub record Carried (s : List ℕ) (at w i : ℕ) (place : BitPlace) : Type 0 where
+  pub words : ℕ
+  pub inside : words ≤ w
+  pub next : place .next ≡ at + 16 * words
+  pub few : place .left ≤ 32
+  pub lane : (n : ℕ) → n < 4 → laneOf (i + n) ≡ n
+  pub bits : (n : ℕ) → n < 4 → bitPlace w (i + n) + place .left ≡ 32 * words
+  pub rest : (n : ℕ) → n < 4 → inLane (place .rest) n ≡ laneAt words s (at + 4 * n) / 2 ^ bitPlace w (i + n)
+
+-- a row taken from the bits left
+pub record Whole (from : BitPlace) (w mask i : ℕ) (old new : List ℕ) (to : BitPlace) : Type 0 where
+  pub row : new ≡ setFour old i (λ n. bitAnd (inLane (from .rest) n) mask)
+  pub rest : EachLane (λ n. inLane (from .rest) n / 2 ^ w) (to .rest)
+  pub left : to .left ≡ from .left - w
+  pub next : to .next ≡ from .next
+
+-- a row taken from the bits left and from the next words above them
+pub record Across (s : List ℕ) (from : BitPlace) (w mask i : ℕ) (old new : List ℕ) (to : BitPlace) : Type 0 where
+  pub words : Four
+  pub taken : Four
+  pub read : EachLane (λ n. wordAt s (from .next + 4 * n)) words
+  pub joins : EachLane (λ n. (inLane (from .rest) n + 2 ^ from .left * inLane words n) % 2 ^ 32) taken
+  pub row : new ≡ setFour old i (λ n. bitAnd (inLane taken n) mask)
+  pub rest : EachLane (λ n. inLane words n / 2 ^ (w - from .left)) (to .rest)
+  pub left : to .left ≡ 32 - (w - from .left)
+  pub next : to .next ≡ from .next + 16
