@@ -7,7 +7,7 @@ use oracle::random::Random;
 
 use crate::clock;
 
-pub const WIDTHS: usize = 33;
+const WIDTHS: usize = 33;
 
 /// Blocks that lie in the first cache together, and how often each is unpacked in a turn.
 const BLOCKS: usize = 16;
@@ -27,7 +27,7 @@ struct Lent {
 
 extern "C" {
     /// Not one of the archive's C functions: `bench/run` makes its name known to the linker.
-    #[link_name = "bitpacker::unpack"]
+    #[link_name = "unpacking::unpack"]
     fn archive_unpack(bytes: *const Lent, at: usize, width: u32, values: *mut Values);
 }
 

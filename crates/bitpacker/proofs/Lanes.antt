@@ -92,6 +92,14 @@ module _ (s : List ℕ) where
     pub left-lt : (p m k left : ℕ) → k + left ≡ 32 * m → laneAt m s p / 2 ^ k < 2 ^ left
     left-lt p m k left e = shr-lt left k (subst (λ (x : ℕ). laneAt m s p < 2 ^ x) (sym e ∙ add-comm k left) (lane-lt m p))
 
+    -- the word above m words
+    pub last-word : (m p : ℕ) → laneAt (m + 1) s p / 2 ^ (32 * m) ≡ wordAt s (p + 16 * m)
+    unfolding laneAt
+    last-word m p =
+        ap (λ (x : ℕ). x / 2 ^ (32 * m)) (lane-from m 1 p)
+        ∙ high (laneAt 1 s (p + 16 * m)) (32 * m) (lane-lt m p)
+        ∙ add-zero (wordAt s (p + 16 * m))
+
     -- of width 32 a value is a word
     pub word-value : (at i : ℕ) → i < 128 → packedAt s at 32 i ≡ wordAt s (at + 4 * i)
     unfolding packedAt laneAt

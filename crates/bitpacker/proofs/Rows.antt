@@ -1,21 +1,19 @@
 -- The loops that unpack a block, a row of four lanes at a time.
 use mathlib.Core.Path.{_≡_, refl, sym, ap, _∙_, subst}
 use mathlib.Core.List.{List}
-use mathlib.Core.Logic.{⊎-elim}
 use Prim.Native.Nat.{ℕ, zero, suc, _+_, _-_, _*_, _/_, _%_, _^_, _≤_, _<_}
-use native.Mathlib.Nat.{add-zero, add-comm, mul-comm, one-mul, zero-mul, add-mul, mul-le-mul-right, mod-one, div-one, not-suc-le-zero}
+use native.Mathlib.Nat.{add-zero, add-comm, mul-comm, one-mul, add-mul, mul-le-mul-right, mod-one, not-suc-le-zero}
 use native.Mathlib.Omega.{arith}
 use lib.ListN.{length, getD, getD-replicate, replicate}
 use lib.Bits.{bitAnd}
 use lib.Pow.{shl-exact, shr-shr, high}
-use Rattle.arrays.proofs.Order.{lt-or-ge}
 use Rattle.arrays.proofs.Filling.{Filling, goes-on4}
 use Rattle.codec.specs.Bits.{wordAt}
 use Rattle.bitpacker.specs.Packed.{laneAt, laneOf, bitPlace, packedAt}
-use Rattle.bitpacker.specs.Inner.Rows.{Across, Carried, EachLane, inLane, setFour, Unpacked, Whole}
+use Rattle.bitpacker.specs.Inner.Rows.{Across, Carried, EachLane, First, inLane, setFour, Unpacked, Whole}
 use Rattle.bitpacker.specs.declared.Four.{Four}
 use Rattle.bitpacker.specs.declared.BitPlace.{BitPlace}
-use Rattle.bitpacker.proofs.Lanes.{cut-32, down, first-words, left-lt, masked, one-more}
+use Rattle.bitpacker.proofs.Lanes.{cut-32, down, first-words, last-word, left-lt, masked, one-more}
 
 -- the lanes one by one
 pub by-lane : {f : ℕ → ℕ} {x : Four} → EachLane f x → (n : ℕ) → n < 4 → inLane x n ≡ f n
@@ -42,43 +40,60 @@ next-bits w i n = ap (λ (x : ℕ). x * w) (up i n) ∙ add-mul ((i + n) / 4) 1 
 -- i values are unpacked, and what is carried to the next row is right
 pub record Rows (s : List ℕ) (at w : ℕ) (out : List ℕ) (place : BitPlace) (i : ℕ) : Type 0 where
   pub carried : Carried s at w i place
-  pub top : i ≤ 128
-  pub long : length out ≡ 128
-  pub done : (k : ℕ) → k < i → getD out k 0 ≡ packedAt s at w k
+  pub first : First s at w i out
 
--- the first words are read, and no bit of them is taken
-pub begun : (s : List ℕ) (at w : ℕ) {out : List ℕ} → 0 < w → length out ≡ 128 → (x : Four) → EachLane (λ n. wordAt s (at + 4 * n)) x
-    → Rows s at w out (record { rest = x; left = 32; next = at + 16 }) 0
-unfolding laneAt
-begun s at w h l x F = record {
-  carried = record {
-    words = 1;
-    inside = h;
-    next = refl;
-    few = omega arith;
-    lane = λ n k. omega arith;
-    bits = λ n k. ap (λ (b : ℕ). b * w + 32) (none n k) ∙ ap (λ (x : ℕ). x + 32) (zero-mul w);
-    rest = λ n k. by-lane F n k ∙ first n ∙ ap (λ (b : ℕ). laneAt 1 s (at + 4 * n) / 2 ^ (b * w)) (sym (none n k));
-  };
-  top = omega arith;
-  long = l;
-  done = λ k n. absurd (not-suc-le-zero n);
-}
-  where
-    none : (n : ℕ) → n < 4 → (0 + n) / 4 ≡ 0
-    none n k = omega arith
+-- where a row begins k bits into word m of the lanes, and that word is read
+module _ (s : List ℕ) (bytes : (k : ℕ) → getD s k 0 < 256) (at w i m k : ℕ) (h : i < 128) (f : i % 4 ≡ 0) (e : 32 * m + k ≡ i / 4 * w) (z : 0 < w) (l : k < 32) where
+  same-row : (n : ℕ) → n < 4 → (i + n) / 4 ≡ i / 4
+  same-row n d = omega arith
 
-    first : (n : ℕ) → wordAt s (at + 4 * n) ≡ laneAt 1 s (at + 4 * n) / 2 ^ (0 * w)
-    first n = sym (ap (λ (x : ℕ). laneAt 1 s (at + 4 * n) / 2 ^ x) (zero-mul w) ∙ div-one (laneAt 1 s (at + 4 * n)) ∙ add-zero (wordAt s (at + 4 * n)))
+  pub word-inside : m + 1 ≤ w
+  word-inside = go (i / 4 * w) (mul-le-mul-right w (rows)) e
+    where
+      rows : i / 4 ≤ 31
+      rows = omega arith
+
+      go : (b : ℕ) → b ≤ 31 * w → 32 * m + k ≡ b → m + 1 ≤ w
+      go b g e = omega arith
+
+  pub begun : {out : List ℕ} → First s at w i out → (words rest : Four) → EachLane (λ n. wordAt s (at + 16 * m + 4 * n)) words → EachLane (λ n. inLane words n / 2 ^ k) rest
+      → Rows s at w out (record { rest = rest; left = 32 - k; next = at + 16 * m + 16 }) i
+  begun F words rest W S = record {
+    carried = record {
+      words = m + 1;
+      inside = word-inside;
+      next = on at m;
+      few = omega arith;
+      lane = λ n d. omega arith;
+      bits = λ n d. ap (λ (b : ℕ). b * w + (32 - k)) (same-row n d) ∙ all-of (i / 4 * w) e;
+      rest = λ n d.
+          by-lane S n d
+          ∙ ap (λ (x : ℕ). x / 2 ^ k) (by-lane W n d)
+          ∙ upper n
+          ∙ ap (λ (b : ℕ). laneAt (m + 1) s (at + 4 * n) / 2 ^ b) (e ∙ ap (λ (x : ℕ). x * w) (sym (same-row n d)));
+    };
+    first = F;
+  }
+    where
+      on : (at m : ℕ) → at + 16 * m + 16 ≡ at + 16 * (m + 1)
+      on at m = omega arith
+
+      all-of : (b : ℕ) → 32 * m + k ≡ b → b + (32 - k) ≡ 32 * (m + 1)
+      all-of b e = omega arith
+
+      there : (n : ℕ) → at + 16 * m + 4 * n ≡ at + 4 * n + 16 * m
+      there n = omega arith
+
+      upper : (n : ℕ) → wordAt s (at + 16 * m + 4 * n) / 2 ^ k ≡ laneAt (m + 1) s (at + 4 * n) / 2 ^ (32 * m + k)
+      upper n =
+          ap (λ (x : ℕ). x / 2 ^ k) (ap (wordAt s) (there n) ∙ sym (last-word s bytes m (at + 4 * n)))
+          ∙ shr-shr (laneAt (m + 1) s (at + 4 * n)) (32 * m) k
 
 -- the mask of w bits
 pub unit-is : (w : ℕ) → w < 32 → 1 * 2 ^ w % 4294967296 ≡ 2 ^ w
 unit-is w h = shl-exact 1 w 32 (omega arith) (omega arith) ∙ one-mul (2 ^ w)
 
 module _ {s : List ℕ} {at w : ℕ} {out : List ℕ} {place : BitPlace} {i : ℕ} (R : Rows s at w out place i) where
-  pub all-unpacked : 128 ≤ i → Unpacked s at w out
-  all-unpacked h = record { long = R .long; values = λ k l. R .done k (omega arith) }
-
   fours : i % 4 ≡ 0
   fours = let e = R .carried .lane 0 (omega arith) in omega arith
 
@@ -86,29 +101,17 @@ module _ {s : List ℕ} {at w : ℕ} {out : List ℕ} {place : BitPlace} {i : �
   pub row-fits : i < 128 → i + 4 ≤ 128
   row-fits h = omega (arith, fours)
 
-  -- bits left are bits of a row
-  pub row-left : 0 < w → w ≤ place .left → i < 128
-  row-left z h =
-      let C = R .carried in
-      ⊎-elim (λ l. l) (λ l. past (bitPlace w (i + 0)) (C .words) (mul-le-mul-right w (quarter l)) (C .bits 0 (omega arith)) (C .inside)) (lt-or-ge i 128)
-    where
-      quarter : 128 ≤ i → 32 ≤ (i + 0) / 4
-      quarter l = omega arith
-
-      past : (b m : ℕ) → 32 * w ≤ b → b + place .left ≡ 32 * m → m ≤ w → i < 128
-      past b m a e c = omega arith
-
   -- after a row whose values, one of each lane, are the block's
   row-more : (i < 128) → (f : ℕ → ℕ) → ((n : ℕ) → n < 4 → f n ≡ packedAt s at w (i + n)) → {to : BitPlace} → Carried s at w (i + 4) to → {new : List ℕ} → new ≡ setFour out i f
       → Rows s at w new to (i + 4)
-  row-more h f F C {new} e = record { carried = C; top = row-fits h; long = filled .long; done = filled .done }
+  row-more h f F C {new} e = record { carried = C; first = record { long = filled .long; values = filled .done } }
     where
       filled : Filling 0 128 (packedAt s at w) out (i + 4) new
       filled =
           subst (Filling 0 128 (packedAt s at w) out (i + 4)) (sym e)
           (goes-on4 0 128 (packedAt s at w) out i out (f 0) (f 1) (f 2) (f 3) (omega (arith, fours))
           (F 0 (omega arith) ∙ ap (packedAt s at w) (add-zero i)) (F 1 (omega arith)) (F 2 (omega arith)) (F 3 (omega arith))
-          (record { long = R .long; done = R .done; rest = λ k l. refl }))
+          (record { long = R .first .long; done = R .first .values; rest = λ k l. refl }))
 
   lane-next : (n : ℕ) → n < 4 → laneOf (i + 4 + n) ≡ n
   lane-next n k = let e = R .carried .lane n k in omega arith

@@ -1,12 +1,15 @@
-// Packed blocks: 128 values of one width from 0 to 32, in four lanes.
+// Rows of a packed block: four values, one of each lane. The lane is a value's place in its row, the bit place is carried from row to row,
+// and no index is divided.
 use codec::bits::read_u32;
 ghost use mathlib.Core.Path.{_≡_};
+ghost use mathlib.Core.Logic.{_⊎_};
 ghost use Prim.Native.Nat.{ℕ, _+_, _*_, _/_, _%_, _^_, _≤_, _<_};
 ghost use lib.ListN.{length};
 ghost use lib.Bits.{bitAnd};
 ghost use Rattle.arrays.specs.Lent.{before, after};
 ghost use Rattle.codec.specs.Bits.{wordAt};
-ghost use Rattle.bitpacker.specs.Inner.Rows.{Across, EachLane, inLane, setFour, Unpacked, Whole};
+ghost use Rattle.bitpacker.specs.Packed.{bitPlace};
+ghost use Rattle.bitpacker.specs.Inner.Rows.{Across, EachLane, First, InBytes, InNext, inLane, setFour, Unpacked, Whole};
 
 // One number of each lane.
 pub struct Four {
@@ -95,8 +98,7 @@ fn across(
     i: usize,
     out: &mut [u32; 128],
 ) -> BitPlace
-    requires { ⌜ (width < 32) × (place .left < width) × ((n : ℕ) → inLane (place .rest) n < 2 ^ place .left)
-        × (place .next + 16 ≤ length (now s)) × (i + 4 ≤ 128) × (length (now out) ≡ 128) ⌝ }
+    requires { ⌜ (width < 32) × (place .left < width) × InNext (length (now s)) place × (i + 4 ≤ 128) × (length (now out) ≡ 128) ⌝ }
     ensures { λ r. ⌜ Across (before s) place width mask i (before out) (after out) r ⌝ }
 {
     let words = words_at(s, place.next);
@@ -109,8 +111,51 @@ fn across(
     }
 }
 
+// The next row, in whichever words it ends.
+fn row(s: &[u8], place: BitPlace, width: u32, mask: u32, i: usize, out: &mut [u32; 128]) -> BitPlace
+    requires { ⌜ (width < 32) × (place .left < width → InNext (length (now s)) place) × (i + 4 ≤ 128) × (length (now out) ≡ 128) ⌝ }
+    ensures { λ r. ⌜ ((width ≤ place .left) × Whole place width mask i (before out) (after out) r)
+        ⊎ ((place .left < width) × Across (before s) place width mask i (before out) (after out) r) ⌝ }
+{
+    if width <= place.left {
+        return whole(place, width, mask, i, out);
+    }
+    across(s, place, width, mask, i, out)
+}
+
+// Eight rows, from value i on. It begins `start` bits into word number `word` of its lane, which is its bit place; from there on the
+// place is carried.
+pub fn eight(
+    s: &[u8],
+    at: usize,
+    width: u32,
+    word: usize,
+    start: u32,
+    i: usize,
+    out: &mut [u32; 128],
+)
+    requires { ⌜ InBytes (length (now s)) at width × (start < 32) × (i + 32 ≤ 128) × (i % 4 ≡ 0)
+        × (32 * word + start ≡ bitPlace width i) × First (now s) at width i (now out) ⌝ }
+    ensures { λ _. ⌜ First (before s) at width (i + 32) (after out) ⌝ }
+{
+    let unit: u32 = 1 << width;
+    let mask = unit - 1;
+    let p = at + 16 * word;
+    let words = words_at(s, p);
+    let mut place = BitPlace {
+        rest: shifted(words, start),
+        left: 32 - start,
+        next: p + 16,
+    };
+    let mut n: usize = 0;
+    while n < 32 {
+        place = row(s, place, width, mask, i + n, out);
+        n += 4;
+    }
+}
+
 // The values of a block of width 32 are its words.
-fn copy(s: &[u8], at: usize, out: &mut [u32; 128])
+pub fn copy(s: &[u8], at: usize, out: &mut [u32; 128])
     requires { ⌜ (at + 512 ≤ length (now s)) × (length (now out) ≡ 128) ⌝ }
     ensures { λ _. ⌜ Unpacked (before s) at 32 (after out) ⌝ }
 {
@@ -120,39 +165,5 @@ fn copy(s: &[u8], at: usize, out: &mut [u32; 128])
         out[i] = read_u32(s, p);
         p += 4;
         i += 1;
-    }
-}
-
-// The 128 values of the packed block at a place, a row of four lanes at a time. No index is divided: the lane is the number's place in
-// its row, and the bit place is carried.
-pub fn unpack(s: &[u8], at: usize, width: u32, out: &mut [u32; 128])
-    requires { ⌜ (width ≤ 32) × (at + 16 * width ≤ length (now s)) × (length (now out) ≡ 128) ⌝ }
-    ensures { λ r. ⌜ Unpacked (before s) at width (after out) ⌝ }
-{
-    if width == 0 {
-        *out = [0; 128];
-        return;
-    }
-    if width == 32 {
-        copy(s, at, out);
-        return;
-    }
-    let unit: u32 = 1 << width;
-    let mask = unit - 1;
-    let mut place = BitPlace {
-        rest: words_at(s, at),
-        left: 32,
-        next: at + 16,
-    };
-    let mut i: usize = 0;
-    while i < 128 {
-        while width <= place.left {
-            place = whole(place, width, mask, i, out);
-            i += 4;
-        }
-        if i < 128 {
-            place = across(s, place, width, mask, i, out);
-            i += 4;
-        }
     }
 }

@@ -2,12 +2,12 @@
 use crate::part::Part;
 use crate::skip::SkipEntry;
 use crate::skip::read_skip_entry;
-use bitpacker::unpack;
 use codec::vint::VInts;
 use codec::vint::read_vints;
 use compression::documents::documents;
 use compression::documents::sums;
 use compression::frequencies::frequencies;
+use unpacking::unpack;
 ghost use mathlib.Core.Path.{_≡_};
 ghost use mathlib.Core.Bool.{true};
 ghost use Prim.Native.Nat.{_≤_};

@@ -14,6 +14,17 @@ pub record Unpacked (s : List ℕ) (p w : ℕ) (out : List ℕ) : Type 0 where
   pub long : length out ≡ 128
   pub values : (i : ℕ) → i < 128 → getD out i 0 ≡ packedAt s p w i
 
+-- a block of a width from 1 to 31 inside the bytes
+pub record InBytes (bytes at w : ℕ) : Type 0 where
+  pub some : 0 < w
+  pub narrow : w < 32
+  pub inside : at + 16 * w ≤ bytes
+
+-- a list that holds the block's first n values
+pub record First (s : List ℕ) (p w n : ℕ) (out : List ℕ) : Type 0 where
+  pub long : length out ≡ 128
+  pub values : (i : ℕ) → i < n → getD out i 0 ≡ packedAt s p w i
+
 -- a lane's number
 abbrev pub inLane : Four → ℕ → ℕ
 inLane x zero = x .a
@@ -42,6 +53,11 @@ pub record Carried (s : List ℕ) (at w i : ℕ) (place : BitPlace) : Type 0 whe
   pub lane : (n : ℕ) → n < 4 → laneOf (i + n) ≡ n
   pub bits : (n : ℕ) → n < 4 → bitPlace w (i + n) + place .left ≡ 32 * words
   pub rest : (n : ℕ) → n < 4 → inLane (place .rest) n ≡ laneAt words s (at + 4 * n) / 2 ^ bitPlace w (i + n)
+
+-- the next words lie inside the bytes, and above the bits left there is nothing
+pub record InNext (bytes : ℕ) (place : BitPlace) : Type 0 where
+  pub inside : place .next + 16 ≤ bytes
+  pub low : (n : ℕ) → inLane (place .rest) n < 2 ^ place .left
 
 -- a row taken from the bits left
 pub record Whole (from : BitPlace) (w mask i : ℕ) (old new : List ℕ) (to : BitPlace) : Type 0 where
