@@ -31,11 +31,11 @@ extern "C" {
     fn archive_unpack(bytes: *const Lent, at: usize, width: u32, values: *mut Values);
 }
 
-fn our_unpack(bytes: &[u8], at: usize, width: usize, values: &mut Values) {
-    assert!(width < WIDTHS && at + 16 * width <= bytes.len());
-    let lent = Lent { bytes: bytes.as_ptr(), len: bytes.len() };
-    // Sound: the block lies inside the bytes, and the values are 128.
-    unsafe { archive_unpack(&lent, at, width as u32, values) }
+impl Lent {
+    fn of(bytes: &[u8]) -> Lent {
+        assert_eq!(bytes.len(), 512 * BLOCKS);
+        Lent { bytes: bytes.as_ptr(), len: bytes.len() }
+    }
 }
 
 #[inline(always)]
@@ -116,10 +116,11 @@ impl Blocks {
 
     /// Each block at each width, unpacked to the same values.
     pub fn same_values(&self) -> Result<(), String> {
-        let (mut ours, mut rusts) = ([1; 128], [2; 128]);
+        let (mut ours, mut rusts, lent) = ([1; 128], [2; 128], Lent::of(&self.bytes));
         for width in 0..WIDTHS {
             for at in (0..BLOCKS).map(|block| 512 * block) {
-                our_unpack(&self.bytes, at, width, &mut ours);
+                // Sound: a block has at most 512 bytes, and the values are 128.
+                unsafe { archive_unpack(&lent, at, width as u32, &mut ours) };
                 UNROLLED[width](&self.bytes[at..], &mut rusts);
                 if ours != rusts {
                     return Err(format!("a block of width {width} is unpacked differently"));
@@ -138,9 +139,10 @@ impl Blocks {
     }
 
     pub fn time(&self, row: &mut UnpackRow) {
-        let mut values = [0; 128];
+        let (mut values, lent) = ([0; 128], Lent::of(&self.bytes));
         self.least(&mut row.ours, row.width, |at, width| {
-            our_unpack(&self.bytes, at, width, &mut values);
+            // Sound: as above.
+            unsafe { archive_unpack(&lent, at, width as u32, &mut values) };
             black_box(&values);
         });
         self.least(&mut row.rust, row.width, |at, width| {

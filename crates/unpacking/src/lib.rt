@@ -45,12 +45,13 @@ fn from_26(s: &[u8], at: usize, width: u32, out: &mut [u32; 128])
             eight(s, at, width, 15, 0, 64, out);
             eight(s, at, width, 22, 16, 96, out);
         }
-        _ => {
+        31 => {
             eight(s, at, width, 0, 0, 0, out);
             eight(s, at, width, 7, 24, 32, out);
             eight(s, at, width, 15, 16, 64, out);
             eight(s, at, width, 23, 8, 96, out);
         }
+        _ => {}
     }
 }
 
