@@ -110,8 +110,8 @@ fn time_unpacking(options: &Options) -> Result<Vec<UnpackRow>, String> {
     let blocks = Blocks::new();
     blocks.same_values()?;
     let mut rows = unpack::rows();
-    for _ in 0..8 * options.rounds {
-        rows.iter_mut().for_each(|row| blocks.time(row));
+    for round in 0..8 * options.rounds as usize {
+        rows.iter_mut().for_each(|row| blocks.time(row, round));
     }
     Ok(rows)
 }

@@ -138,16 +138,23 @@ impl Blocks {
         *time = time.min((clock::now() - start).as_nanos() as f64 / self.mixed.len() as f64);
     }
 
-    pub fn time(&self, row: &mut UnpackRow) {
-        let (mut values, lent) = ([0; 128], Lent::of(&self.bytes));
+    /// Where a block's values lie beside its bytes, in a page of memory, can cost a third: each round
+    /// has another place for them.
+    pub fn time(&self, row: &mut UnpackRow, round: usize) {
+        let mut page = vec![[0; 16]; 64 + 8];
+        let values: &mut Values = page[round % 64..round % 64 + 8]
+            .as_flattened_mut()
+            .try_into()
+            .expect("eight rows of 16 are 128");
+        let lent = Lent::of(&self.bytes);
         self.least(&mut row.ours, row.width, |at, width| {
             // Sound: as above.
-            unsafe { archive_unpack(&lent, at, width as u32, &mut values) };
-            black_box(&values);
+            unsafe { archive_unpack(&lent, at, width as u32, values) };
+            black_box(&*values);
         });
         self.least(&mut row.rust, row.width, |at, width| {
-            UNROLLED[width](&self.bytes[at..], &mut values);
-            black_box(&values);
+            UNROLLED[width](&self.bytes[at..], values);
+            black_box(&*values);
         });
     }
 }
