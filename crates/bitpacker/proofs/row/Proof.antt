@@ -9,7 +9,7 @@ whole-requires : tie.Need-whole-requires
 whole-requires c κs = search needs
 
 returns : tie.Need-returns
-returns c = inl (c .before .before .if1 .taken, c .whole .ensures)
+returns c = inl (omega arith, c .whole .ensures)
 
 across-requires : tie.Need-across-requires
 across-requires c κs =
