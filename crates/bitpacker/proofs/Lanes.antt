@@ -35,6 +35,10 @@ off v z {w} {m} h =
 cut : (v z k w m : ℕ) → k + w ≤ m → (v + 2 ^ m * z) / 2 ^ k % 2 ^ w ≡ v / 2 ^ k % 2 ^ w
 cut v z k w m h = ap (λ (x : ℕ). x % 2 ^ w) (down v z (omega arith)) ∙ off (v / 2 ^ k) z (omega arith)
 
+-- a product and what is below it, the other way round
+turn : (x u l : ℕ) → x * u + l ≡ l + u * x
+turn x u l = rw (mul-comm x u) (omega arith)
+
 -- the unit above m words and one more
 words : (m : ℕ) → 2 ^ (32 * suc m) ≡ 4294967296 * 2 ^ (32 * m)
 words m = ap (λ (x : ℕ). 2 ^ x) (up m) ∙ pow-add 2 32 (32 * m)
@@ -60,10 +64,7 @@ module _ (s : List ℕ) where
   -- a lane's next word stands above the words before it
   pub one-more : (m p : ℕ) → laneAt (m + 1) s p ≡ laneAt m s p + 2 ^ (32 * m) * wordAt s (p + 16 * m)
   unfolding laneAt
-  one-more m p = lane-from m 1 p ∙ turn (wordAt s (p + 16 * m)) (2 ^ (32 * m)) (laneAt m s p)
-    where
-      turn : (x u l : ℕ) → (x + 4294967296 * 0) * u + l ≡ l + u * x
-      turn x u l = rw (add-zero x, mul-comm x u) (omega arith)
+  one-more m p = lane-from m 1 p ∙ ap (λ (x : ℕ). x * 2 ^ (32 * m) + laneAt m s p) (add-zero (wordAt s (p + 16 * m))) ∙ turn (wordAt s (p + 16 * m)) (2 ^ (32 * m)) (laneAt m s p)
 
   -- bits that end below m words are those of the first m words
   pub first-words : (p m k v : ℕ) {w : ℕ} → m ≤ w → k + v ≤ 32 * m → laneAt w s p / 2 ^ k % 2 ^ v ≡ laneAt m s p / 2 ^ k % 2 ^ v
@@ -74,9 +75,6 @@ module _ (s : List ℕ) where
     where
       rest : (m w : ℕ) → m ≤ w → w ≡ m + (w - m)
       rest m w h = omega arith
-
-      turn : (x u l : ℕ) → x * u + l ≡ l + u * x
-      turn x u l = rw (mul-comm x u) (omega arith)
 
   module _ (bytes : (i : ℕ) → getD s i 0 < 256) where
     word-lt : (p : ℕ) → wordAt s p < 4294967296

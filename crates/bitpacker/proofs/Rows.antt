@@ -16,7 +16,7 @@ use Rattle.bitpacker.specs.declared.BitPlace.{BitPlace}
 use Rattle.bitpacker.proofs.Lanes.{cut-32, down, first-words, last-word, left-lt, masked, one-more}
 
 -- the lanes one by one
-pub by-lane : {f : ℕ → ℕ} {x : Four} → EachLane f x → (n : ℕ) → n < 4 → inLane x n ≡ f n
+by-lane : {f : ℕ → ℕ} {x : Four} → EachLane f x → (n : ℕ) → n < 4 → inLane x n ≡ f n
 by-lane F zero h = F .lane0
 by-lane F (suc zero) h = F .lane1
 by-lane F (suc (suc zero)) h = F .lane2
@@ -24,7 +24,7 @@ by-lane F (suc (suc (suc zero))) h = F .lane3
 by-lane F (suc (suc (suc (suc n)))) h = absurd (omega arith)
 
 -- what holds of the four lanes holds of any number of a lane
-pub in-all : {x : Four} {b : ℕ} → ((n : ℕ) → n < 4 → inLane x n < b) → (n : ℕ) → inLane x n < b
+in-all : {x : Four} {b : ℕ} → ((n : ℕ) → n < 4 → inLane x n < b) → (n : ℕ) → inLane x n < b
 in-all h zero = h 0 (omega arith)
 in-all h (suc zero) = h 1 (omega arith)
 in-all h (suc (suc zero)) = h 2 (omega arith)
@@ -48,7 +48,7 @@ module _ (s : List ℕ) (bytes : (k : ℕ) → getD s k 0 < 256) (at w i m k : �
   same-row n d = omega arith
 
   pub word-inside : m + 1 ≤ w
-  word-inside = go (i / 4 * w) (mul-le-mul-right w (rows)) e
+  word-inside = go (i / 4 * w) (mul-le-mul-right w rows) e
     where
       rows : i / 4 ≤ 31
       rows = omega arith
@@ -63,7 +63,6 @@ module _ (s : List ℕ) (bytes : (k : ℕ) → getD s k 0 < 256) (at w i m k : �
       words = m + 1;
       inside = word-inside;
       next = on at m;
-      few = omega arith;
       lane = λ n d. omega arith;
       bits = λ n d. ap (λ (b : ℕ). b * w + (32 - k)) (same-row n d) ∙ all-of (i / 4 * w) e;
       rest = λ n d.
@@ -136,7 +135,6 @@ module _ {s : List ℕ} {at w : ℕ} {out : List ℕ} {place : BitPlace} {i : �
         words = C .words;
         inside = C .inside;
         next = W .next ∙ C .next;
-        few = fewer (W .left) (C .few);
         lane = lane-next;
         bits = λ n k. more (bitPlace w (i + n)) (bitPlace w (i + 4 + n)) (C .words) (next-bits w i n) (C .bits n k) (W .left);
         rest = λ n k.
@@ -149,9 +147,6 @@ module _ {s : List ℕ} {at w : ℕ} {out : List ℕ} {place : BitPlace} {i : �
     where
       ends : (b m : ℕ) → b + place .left ≡ 32 * m → b + w ≤ 32 * m
       ends b m e = omega arith
-
-      fewer : {l : ℕ} → l ≡ place .left - w → place .left ≤ 32 → l ≤ 32
-      fewer e k = omega arith
 
       more : (b b' m : ℕ) {l : ℕ} → b' ≡ b + w → b + place .left ≡ 32 * m → l ≡ place .left - w → b' + l ≡ 32 * m
       more b b' m e g k = omega arith
@@ -229,7 +224,6 @@ module _ {s : List ℕ} {at w : ℕ} {out : List ℕ} {place : BitPlace} {i : �
             words = C .words + 1;
             inside = more-words;
             next = A .next ∙ ap (λ (x : ℕ). x + 16) (C .next) ∙ step at (C .words);
-            few = fewer (A .left);
             lane = lane-next;
             bits = λ n k. more (bitPlace w (i + n)) (bitPlace w (i + 4 + n)) (C .words) (next-bits w i n) (C .bits n k) (A .left);
             rest = λ n k. by-lane (A .rest) n k ∙ ap (λ (x : ℕ). x / 2 ^ (w - place .left)) (by-lane (A .read) n k) ∙ up n k ∙ ap (λ (b : ℕ). laneAt (C .words + 1) s (at + 4 * n) / 2 ^ b) (sym (next-bits w i n));
@@ -241,9 +235,6 @@ module _ {s : List ℕ} {at w : ℕ} {out : List ℕ} {place : BitPlace} {i : �
 
           step : (at m : ℕ) → at + 16 * m + 16 ≡ at + 16 * (m + 1)
           step at m = omega arith
-
-          fewer : {r : ℕ} → r ≡ 32 - (w - place .left) → r ≤ 32
-          fewer e = omega arith
 
           more : (b b' m : ℕ) {r : ℕ} → b' ≡ b + w → b + place .left ≡ 32 * m → r ≡ 32 - (w - place .left) → b' + r ≡ 32 * (m + 1)
           more b b' m e g k = omega arith

@@ -9,21 +9,20 @@ use Rattle.bitpacker.specs.Packed.{laneAt, laneOf, bitPlace, packedAt}
 use Rattle.bitpacker.specs.declared.Four.{Four}
 use Rattle.bitpacker.specs.declared.BitPlace.{BitPlace}
 
--- a list that holds the block's 128 values
-pub record Unpacked (s : List ℕ) (p w : ℕ) (out : List ℕ) : Type 0 where
+-- a list that holds the block's first n values
+pub record First (s : List ℕ) (p w n : ℕ) (out : List ℕ) : Type 0 where
   pub long : length out ≡ 128
-  pub values : (i : ℕ) → i < 128 → getD out i 0 ≡ packedAt s p w i
+  pub values : (i : ℕ) → i < n → getD out i 0 ≡ packedAt s p w i
+
+-- and one that holds all 128
+abbrev pub Unpacked : List ℕ → ℕ → ℕ → List ℕ → Type 0
+Unpacked s p w = First s p w 128
 
 -- a block of a width from 1 to 31 inside the bytes
 pub record InBytes (bytes at w : ℕ) : Type 0 where
   pub some : 0 < w
   pub narrow : w < 32
   pub inside : at + 16 * w ≤ bytes
-
--- a list that holds the block's first n values
-pub record First (s : List ℕ) (p w n : ℕ) (out : List ℕ) : Type 0 where
-  pub long : length out ≡ 128
-  pub values : (i : ℕ) → i < n → getD out i 0 ≡ packedAt s p w i
 
 -- a lane's number
 abbrev pub inLane : Four → ℕ → ℕ
@@ -49,7 +48,6 @@ pub record Carried (s : List ℕ) (at w i : ℕ) (place : BitPlace) : Type 0 whe
   pub words : ℕ
   pub inside : words ≤ w
   pub next : place .next ≡ at + 16 * words
-  pub few : place .left ≤ 32
   pub lane : (n : ℕ) → n < 4 → laneOf (i + n) ≡ n
   pub bits : (n : ℕ) → n < 4 → bitPlace w (i + n) + place .left ≡ 32 * words
   pub rest : (n : ℕ) → n < 4 → inLane (place .rest) n ≡ laneAt words s (at + 4 * n) / 2 ^ bitPlace w (i + n)
