@@ -1,7 +1,7 @@
 // Whether a bound lies below no score of a block: scores are compared in the loop that makes them, and no array of them is written.
 use crate::all_exact;
 use crate::exact;
-use crate::read_norms;
+use crate::norms::read_norms;
 use bm25::Bm25Weight;
 use fieldnorm::FieldNormReader;
 ghost use mathlib.Core.Path.{_≡_};

@@ -1,55 +1,24 @@
 // The scores of a block's postings: each posting's norm is read first, and the float work is a loop of its own.
 pub mod bound;
+mod norms;
 
+use crate::norms::all_at_most;
+use crate::norms::read_norms;
 use bm25::Bm25Weight;
 use bm25::Scoring;
 use fieldnorm::FieldNormReader;
 ghost use mathlib.Core.Path.{_≡_};
 ghost use mathlib.Core.Bool.{true};
-ghost use Prim.Native.Nat.{_<_, _≤_};
+ghost use Prim.Native.Nat.{_≤_};
 ghost use Rattle.arrays.specs.Lent.{before, after};
 ghost use Rattle.floats.specs.Whole.{wholeF32};
-ghost use Rattle.bm25_block.specs.Inner.Block.{Gathered, Weighed, CutDown, Scored, allExact};
-
-// A code as a place in the cache.
-fn place(id: u8) -> usize
-    ensures { λ r. ⌜ (r ≡ id) × (r < 256) ⌝ }
-{
-    id as usize
-}
-
-// The norm of each posting, by its document's code.
-fn read_norms(
-    file: &[u8],
-    reader: FieldNormReader,
-    cache: &[f32; 256],
-    docs: &[u32; 128],
-    norms: &mut [f32; 128],
-)
-    ensures { λ _. ⌜ Gathered reader (before file) (before cache) (before docs) (after norms) ⌝ }
-{
-    let n = (&norms[..]).len();
-    let mut i = 0usize;
-    while i < n {
-        let id = place(reader.fieldnorm_id(file, docs[i]));
-        norms[i] = cache[id];
-        i += 1;
-    }
-}
+ghost use Rattle.bm25_block.specs.Inner.Block.{Weighed, CutDown, Scored, allExact};
 
 // Whether every frequency is a whole number that f32 holds.
 fn all_exact(term_freqs: &[u32; 128]) -> bool
     ensures { λ r. ⌜ r ≡ allExact (before «term_freqs») ⌝ }
 {
-    let mut ok = true;
-    let mut i = 0usize;
-    while i < 128 {
-        if term_freqs[i] > 16777216 {
-            ok = false;
-        }
-        i += 1;
-    }
-    ok
+    all_at_most(term_freqs, 16777216)
 }
 
 // A whole number that f32 holds. By the remainder the compiler sees that it is small, and converts it as a signed one, four at a time.

@@ -7,14 +7,14 @@ use Prim.Native.Nat.{ℕ, _≤_, _<_}
 use lib.Dec.{T}
 use lib.ListN.{getD}
 use lib.Ieee.{Float, lt, le}
-use borrow.Author.Tests.{le-leb}
 use Rattle.arrays.proofs.Every.{each, all}
 use Rattle.floats.specs.Step.{within}
 use Rattle.floats.proofs.Order.{not-above, below-le, lower-below}
 use Rattle.fieldnorm.specs.declared.FieldNormReader.{FieldNormReader}
 use Rattle.bm25.specs.Inner.Bound.{allCovered}
 use Rattle.bm25.specs.declared.Bm25Weight.{Bm25Weight}
-use Rattle.bm25_block.specs.Inner.Block.{allExact, exactAt, postingScore}
+use Rattle.bm25_block.specs.Inner.Block.{allExact, postingScore}
+use Rattle.bm25_block.proofs.AtMost.{all-at-most}
 use Rattle.bm25_block.proofs.BoundTests.{covered-same}
 use Rattle.notefile.specs.Header.{normReader}
 use Rattle.notefile.specs.Inner.Structs.{skipEntryOf}
@@ -63,5 +63,4 @@ scores-are file x w W bytes reader er docs freqs bound n =
 -- f32 holds the frequencies of a full block whose width is at most 24
 pub narrow-exact : {file : List ℕ} {x : Part} {b at : ℕ} → PackedIn file x b at → (e : SkipEntry) → e ≡ skipEntryOf file x b → {r : Bool} {freqs : List ℕ} → FreqsRead file x b r freqs
     → r ≡ true → e .«freq_bits» ≤ 24 → allExact freqs ≡ true
-unfolding allExact
-narrow-exact P e ee {r} {freqs} F t n = all (exactAt freqs) 128 (λ i h. le-leb (getD freqs i 0) 16777216 (freqs-narrow P e ee F t n i h))
+narrow-exact P e ee {r} {freqs} F t n = all-at-most 16777216 freqs (freqs-narrow P e ee F t n)

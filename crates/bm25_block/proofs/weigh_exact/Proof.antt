@@ -9,7 +9,7 @@ use borrow.Author.Tests.{leb-true}
 use Rattle.arrays.proofs.Every.{each}
 use Rattle.arrays.proofs.Filling.{Filling, begun, goes-on, ended}
 use Rattle.bm25.specs.Score.{scoreAt}
-use Rattle.bm25_block.specs.Inner.Block.{exactAt, allExact}
+use Rattle.bm25_block.proofs.AtMost.{each-at-most}
 use Rattle.bm25_block.proofs.BlockScores.{weighed-one}
 use Rattle.bm25_block.proofs.weigh_exact.Statement.{statement}
 use Rattle.bm25_block.proofs.weigh_exact.Tie as tie
@@ -38,11 +38,10 @@ element-copy-out-exact : tie.Need-element-copy-out-exact Inv-loop μ-loop
 element-copy-out-exact c = search needs
 
 exact-requires : tie.Need-exact-requires Inv-loop μ-loop
-unfolding allExact
 exact-requires c κs =
     let a = c .before .before in
     let s = start a in
-    leb-true (getD (s .args .term-freqs .now) (a .loop .i) 0) 16777216 (each (exactAt (s .args .term-freqs .now)) 128 (a .loop .i) (s .pre) (omega arith))
+    each-at-most 16777216 (s .args .term-freqs .now) (s .pre) (a .loop .i) (omega arith)
 
 mul-score-at : tie.Need-mul-score-at Inv-loop μ-loop
 mul-score-at c = search needs

@@ -20,12 +20,13 @@ use Rattle.bm25.specs.declared.Scoring.{Scoring}
 abbrev pub Gathered : FieldNormReader → List ℕ → List Float → List ℕ → List Float → Type 0
 Gathered reader file cache docs out = Holds nan 128 (λ i. getD cache (fieldnormId reader file (getD docs i 0)) nan) out
 
--- f32 holds a frequency as it is: up to 2 ^ 24 it holds every whole number
-abbrev pub exactAt : List ℕ → ℕ → Bool
-exactAt freqs i = leb (getD freqs i 0) 16777216
+-- none of a block's numbers is over a limit
+unfoldable pub allAtMost : ℕ → List ℕ → Bool
+allAtMost limit xs = every 128 (λ i. leb (getD xs i 0) limit)
 
-unfoldable pub allExact : List ℕ → Bool
-allExact freqs = every 128 (exactAt freqs)
+-- f32 holds each frequency as it is: up to 2 ^ 24 it holds every whole number
+abbrev pub allExact : List ℕ → Bool
+allExact freqs = allAtMost 16777216 freqs
 
 -- each posting's score, at its norm
 abbrev pub weighedAt : Float → List ℕ → List Float → ℕ → Float

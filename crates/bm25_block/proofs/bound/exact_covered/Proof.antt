@@ -8,7 +8,8 @@ use borrow.Author.Tests.{leb-true}
 use borrow.Author.Needs.{needs}
 use Rattle.arrays.proofs.Every.{each}
 use Rattle.bm25.specs.Inner.Bound.{allCovered}
-use Rattle.bm25_block.specs.Inner.Block.{allExact, exactAt, weighedAt}
+use Rattle.bm25_block.specs.Inner.Block.{weighedAt}
+use Rattle.bm25_block.proofs.AtMost.{each-at-most}
 use Rattle.bm25_block.proofs.BoundTests.{compared}
 use Rattle.bm25_block.proofs.bound.exact_covered.Statement.{statement}
 use Rattle.bm25_block.proofs.bound.exact_covered.Tie as tie
@@ -33,11 +34,10 @@ element-copy-out-exact : tie.Need-element-copy-out-exact Inv-loop μ-loop
 element-copy-out-exact c = search needs
 
 exact-requires : tie.Need-exact-requires Inv-loop μ-loop
-unfolding allExact
 exact-requires c κs =
     let l = c .before .before in
     let a = l .before in
-    leb-true (getD (a .args .freqs .now) (l .loop .i) 0) 16777216 (each (exactAt (a .args .freqs .now)) 128 (l .loop .i) (a .pre .1) (omega arith))
+    each-at-most 16777216 (a .args .freqs .now) (a .pre .1) (l .loop .i) (omega arith)
 
 mul-score-at : tie.Need-mul-score-at Inv-loop μ-loop
 mul-score-at c = search needs

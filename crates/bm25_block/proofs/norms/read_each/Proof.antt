@@ -1,4 +1,4 @@
--- `bm25_block::read_norms` meets its contract: each turn puts the norm of one document's code.
+-- `norms::read_each` meets its contract: each turn puts the norm of one document's code.
 use mathlib.Core.Path.{_≡_, ap, _∙_}
 use Prim.Native.Nat.{ℕ, _-_, _≤_}
 use native.Mathlib.Omega.{arith}
@@ -7,8 +7,8 @@ use lib.Ieee.{nan}
 use borrow.Author.Needs.{needs}
 use Rattle.arrays.proofs.Filling.{Filling, begun, goes-on, ended}
 use Rattle.fieldnorm.specs.Reader.{fieldnormId}
-use Rattle.bm25_block.proofs.read_norms.Statement.{statement}
-use Rattle.bm25_block.proofs.read_norms.Tie as tie
+use Rattle.bm25_block.proofs.norms.read_each.Statement.{statement}
+use Rattle.bm25_block.proofs.norms.read_each.Tie as tie
 
 abbrev Inv-loop : tie.InvT-loop
 Inv-loop file reader cache docs norms₀ n i₀ norms i = (n ≡ 128) × ((i ≤ 128) × Filling nan 128 (λ k. getD cache (fieldnormId reader file (getD docs k 0)) nan) norms₀ i norms)
@@ -70,8 +70,8 @@ loop-again c =
 returns : tie.Need-returns Inv-loop μ-loop
 returns c = let l = c .before .loop in ended nan 128 _ _ (l .i) _ (omega arith) (l .inv .1 .1)
 
-pub read-norms-spec : {M : Type 1} → statement M
-read-norms-spec =
+pub read-each-spec : {M : Type 1} → statement M
+read-each-spec =
     tie.close
     (tie.spec
     Inv-loop

@@ -1,21 +1,24 @@
--- `bm25_block::all_exact` meets its contract: after each turn the flag is the test over the frequencies passed.
+-- `norms::all_at_most` meets its contract: after each turn the flag is the test over the numbers passed.
 use mathlib.Core.Path.{_≡_, refl, ap, _∙_}
+use mathlib.Core.Bool.{Bool}
 use mathlib.Core.Logic.{⊎-elim}
 use Prim.Native.Nat.{ℕ, _-_, _≤_}
 use native.Mathlib.Omega.{arith}
+use lib.Dec.{leb}
+use lib.ListN.{getD}
 use borrow.Author.Tests.{le-leb, lt-leb}
 use borrow.Author.Needs.{needs}
 use Rattle.arrays.specs.Every.{every}
 use Rattle.arrays.proofs.Every.{stays, lowered}
-use Rattle.bm25_block.specs.Inner.Block.{exactAt, allExact}
-use Rattle.bm25_block.proofs.all_exact.Statement.{statement}
-use Rattle.bm25_block.proofs.all_exact.Tie as tie
+use Rattle.bm25_block.specs.Inner.Block.{allAtMost}
+use Rattle.bm25_block.proofs.norms.all_at_most.Statement.{statement}
+use Rattle.bm25_block.proofs.norms.all_at_most.Tie as tie
 
 abbrev Inv-loop : tie.InvT-loop
-Inv-loop term-freqs ok₀ i₀ ok i = (i ≤ 128) × (ok ≡ every i (exactAt term-freqs))
+Inv-loop xs limit ok₀ i₀ ok i = (i ≤ 128) × (ok ≡ every i (λ k. leb (getD xs k 0) limit))
 
 abbrev μ-loop : tie.MeasureT-loop
-μ-loop term-freqs ok₀ i₀ ok i = 128 - i
+μ-loop xs limit ok₀ i₀ ok i = 128 - i
 
 -- the places that the answers look back to
 abbrev loop-of : tie.Joined1 Inv-loop μ-loop → tie.At-loop Inv-loop μ-loop
@@ -40,18 +43,20 @@ loop-again : tie.Need-loop-again Inv-loop μ-loop
 loop-again c =
     let a = loop-of c in
     let i = a .loop .i in
-    let exact = exactAt (a .before .args .term-freqs .now) in (
+    let args = a .before .args in
+    let limit = args .limit in
+    let under : ℕ → Bool = λ k. leb (getD (args .xs .now) k 0) limit in (
       search needs,
-      ⊎-elim (λ w. lowered exact i (lt-leb _ 16777216 (w .0 .taken)) (w .1)) (λ w. stays exact i (a .loop .inv .1) (le-leb _ 16777216 (w .0 .left)) (w .1))
+      ⊎-elim (λ w. lowered under i (lt-leb _ limit (w .0 .taken)) (w .1)) (λ w. stays under i (a .loop .inv .1) (le-leb _ limit (w .0 .left)) (w .1))
           (c .if1 .came),
     )
 
 returns : tie.Need-returns Inv-loop μ-loop
-unfolding allExact
-returns c = let l = c .before .loop in let e : l .i ≡ 128 = omega arith in l .inv .1 ∙ ap (λ (n : ℕ). every n (exactAt (c .before .before .args .term-freqs .now))) e
+unfolding allAtMost
+returns c = let l = c .before .loop in let e : l .i ≡ 128 = omega arith in l .inv .1 ∙ ap (λ (n : ℕ). every n (λ k. leb (getD (c .before .before .args .xs .now) k 0) (c .before .before .args .limit))) e
 
-pub all-exact-spec : {M : Type 1} → statement M
-all-exact-spec =
+pub all-at-most-spec : {M : Type 1} → statement M
+all-at-most-spec =
     tie.close
     (tie.spec
     Inv-loop
