@@ -119,13 +119,21 @@ impl Shape {
     }
 }
 
-/// The time of a call on this file, by the faster of two goes: the first may find the caches full
-/// of other work.
+/// A call with the stack so many bytes further down.
+#[inline(never)]
+fn lower<const BYTES: usize>(call: &mut dyn FnMut()) {
+    let room = [0u8; BYTES];
+    black_box(&room);
+    call();
+}
+
+/// The time of a call on this file, the least of one go at each of four places of the stack: a copy
+/// to the stack is faster where it begins on a cache line.
 fn least(time: &mut f64, prepared: &Prepared, mut call: impl FnMut()) {
     let calls = (TIMED / prepared.postings).max(1);
-    for _ in 0..2 {
+    for place in [lower::<16>, lower::<32>, lower::<48>, lower::<64>] {
         let start = clock::now();
-        (0..calls).for_each(|_| call());
+        place(&mut || (0..calls).for_each(|_| call()));
         *time = time.min((clock::now() - start).as_nanos() as f64 / calls as f64);
     }
 }

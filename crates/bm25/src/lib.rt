@@ -6,7 +6,10 @@ pub use limits::average_ok;
 pub use limits::weight_ok;
 ghost use mathlib.Core.Path.{_≡_};
 ghost use Prim.Native.Nat.{ℕ};
-ghost use lib.Ieee.{binary32, add, mul, div};
+ghost use mathlib.Core.Bool.{not};
+ghost use lib.Dec.{T};
+ghost use lib.Ieee.{binary32, add, mul, div, nanBits, ofBits};
+ghost use Rattle.arrays.specs.Lent.{after};
 ghost use Rattle.floats.specs.Whole.{wholeF32};
 ghost use Rattle.bm25.specs.Score.{normOf};
 ghost use Rattle.bm25.specs.Scoring.{scored};
@@ -45,7 +48,7 @@ fn cached_tf_component(fieldnorm: f32, average: f32) -> f32
 }
 
 // The norms of all codes.
-fn compute_tf_cache(average: f32) -> [f32; 256]
+pub fn compute_tf_cache(average: f32) -> [f32; 256]
     ensures { λ r. ⌜ NormsOf average r ⌝ }
 {
     let lengths = lengths::field_lengths();
@@ -56,6 +59,17 @@ fn compute_tf_cache(average: f32) -> [f32; 256]
         i += 1;
     }
     cache
+}
+
+// The norms of an average, made again only where those at hand are another's. Averages are told apart by their bits.
+pub fn renew_tf_cache(average: u32, at_hand: u32, cache: &mut [f32; 256])
+    requires { ⌜ T (not (nanBits binary32 average)) × NormsOf (ofBits binary32 «at_hand») (now cache) ⌝ }
+    ensures { λ _. ⌜ NormsOf (ofBits binary32 average) (after cache) ⌝ }
+{
+    if average == at_hand {
+        return;
+    }
+    *cache = compute_tf_cache(f32::from_bits(average));
 }
 
 // The score of a frequency, made f32, at a norm.

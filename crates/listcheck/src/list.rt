@@ -11,6 +11,7 @@ use notefile::block::packed_docs;
 use notefile::block::packed_freqs;
 use notefile::block::read_tail;
 use notefile::part::Part;
+use notefile::part::weight_of;
 use notefile::skip::last_before;
 use notefile::skip::read_skip_entry;
 ghost use mathlib.Core.Path.{_≡_};
@@ -20,7 +21,7 @@ ghost use Rattle.notefile.specs.Header.{documents, normReader};
 ghost use Rattle.notefile.specs.Lists.{fullBlocks, previousDoc};
 ghost use Rattle.notefile.specs.Inner.Order.{blocksRefusal, listRefusal};
 ghost use Rattle.notefile.specs.Inner.Structs.{lastBefore};
-ghost use Rattle.notefile.specs.Inner.Given.{Against, BlocksIn, Limits, PackedIn, Parted, Skipped};
+ghost use Rattle.notefile.specs.Inner.Given.{Against, BlocksIn, Limits, NormsIn, PackedIn, Parted, Skipped};
 ghost use Rattle.notefile.specs.Inner.Reads.{TailValues, blockRefusal, lower};
 
 // What full block b is refused for: 7, 8, 9 or nothing. Its scores are compared with the lower of its own bound and the list's.
@@ -134,9 +135,15 @@ fn check_blocks(
     lowest
 }
 
-// What a list is refused for: 5 to 9, or nothing.
-pub fn check_list(file: &[u8], limit: u32, reader: FieldNormReader, x: Part) -> u32
-    requires { ⌜ Parted (now file) x × Limits x
+// What a list is refused for: 5 to 9, or nothing. Its norms are lent, as those of other lists of the same average.
+pub fn check_list(
+    file: &[u8],
+    limit: u32,
+    reader: FieldNormReader,
+    x: Part,
+    norms: &[f32; 256],
+) -> u32
+    requires { ⌜ Parted (now file) x × Limits x × NormsIn x (now norms)
         × (limit ≡ documents (now file)) × (limit ≤ 1048576) × (reader ≡ normReader (now file)) ⌝ }
     ensures { λ r. ⌜ r ≡ listRefusal (before file) x ⌝ }
 {
@@ -149,7 +156,7 @@ pub fn check_list(file: &[u8], limit: u32, reader: FieldNormReader, x: Part) -> 
     if !read_tail(file, x, at, &mut docs, &mut freqs) {
         return 6;
     }
-    let w = Bm25Weight::new(f32::from_bits(x.weight), f32::from_bits(x.average));
+    let w = weight_of(x, norms);
     let max_score = w.max_score(Scoring::Unstepped);
     let full = check_blocks(file, limit, reader, x, w, max_score);
     if full == 7 {

@@ -1,6 +1,8 @@
 // Whether a file is accepted: the table's conditions 1 to 9 in its order.
 use crate::entry::entries_right;
 use crate::header::header_right;
+use bm25::compute_tf_cache;
+use bm25::renew_tf_cache;
 use listcheck::list::check_list;
 use notefile::header::ENTRY_LENGTH;
 use notefile::header::HEADER_LENGTH;
@@ -30,10 +32,14 @@ fn check_lists(file: &[u8], h: Header) -> u32
 {
     let lists = h.lists;
     let reader = norm_reader(file, h);
+    let mut average = read_average(file, 0);
+    let mut norms = compute_tf_cache(f32::from_bits(average));
     let mut l: usize = 0;
     while l < lists {
         let x = read_part(file, h, l);
-        let r = check_list(file, h.documents, reader, x);
+        renew_tf_cache(x.average, average, &mut norms);
+        average = x.average;
+        let r = check_list(file, h.documents, reader, x, &norms);
         if r != 0 {
             return r;
         }

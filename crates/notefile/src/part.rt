@@ -3,13 +3,14 @@ use crate::header::ENTRY_LENGTH;
 use crate::header::HEADER_LENGTH;
 use crate::header::Header;
 use crate::header::read_average;
+use bm25::Bm25Weight;
 use codec::bits::read_be;
 ghost use mathlib.Core.Path.{_≡_};
 ghost use Prim.Native.Nat.{_+_, _*_, _≤_, _<_};
 ghost use lib.ListN.{length};
 ghost use Rattle.arrays.specs.Lent.{before};
 ghost use Rattle.notefile.specs.Parts.{entryAt, skipsAt, partOf};
-ghost use Rattle.notefile.specs.Inner.Given.{HeaderIn};
+ghost use Rattle.notefile.specs.Inner.Given.{HeaderIn, Limits, NormsIn, WeightIn};
 
 // A list's entry, with the places of its skip bytes and its postings. Weight and average are bits; `skip_entry_len` is the length of one
 // skip entry.
@@ -70,4 +71,17 @@ pub fn read_part(file: &[u8], h: Header, l: usize) -> Part
     ensures { λ r. ⌜ r ≡ partOf (before file) l ⌝ }
 {
     part_at(file, l, skips_at(file, h, l))
+}
+
+// The struct of a list, with norms that stand ready.
+pub fn weight_of(x: Part, norms: &[f32; 256]) -> Bm25Weight
+    requires { ⌜ Limits x × NormsIn x (now norms) ⌝ }
+    ensures { λ r. ⌜ WeightIn x r ⌝ }
+{
+    let cache = *norms;
+    Bm25Weight {
+        weight: f32::from_bits(x.weight),
+        average: f32::from_bits(x.average),
+        cache,
+    }
 }

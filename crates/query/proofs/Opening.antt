@@ -28,7 +28,7 @@ use Rattle.notefile.specs.Header.{listCount}
 use Rattle.notefile.specs.Lists.{listBound, scoreFor}
 use Rattle.notefile.specs.Parts.{partOf}
 use Rattle.notefile.specs.Inner.Structs.{headerOf}
-use Rattle.notefile.specs.Inner.Given.{Limits, WeightIn}
+use Rattle.notefile.specs.Inner.Given.{Limits, NormsIn, WeightIn}
 use Rattle.notefile.specs.declared.header.Header.{Header}
 use Rattle.notefile.specs.declared.part.Part.{Part}
 use Rattle.notefile.proofs.Scores.{list-bound-by, list-bound-in}
@@ -37,7 +37,7 @@ use Rattle.skip_reader.specs.Inner.Decoded.{docIn, ListIn}
 use Rattle.slot_rows.specs.Inner.Rows.{partIn, partRow, PartRow}
 use Rattle.slot_rows.proofs.Rows.{part-back}
 use Rattle.term_scorer.specs.Inner.Slots.{Held, Sixteen, Opened, partAt, listAt, cursorAt, listsFrom}
-use Rattle.term_scorer.specs.Inner.Weights.{NormsIn, Weighed}
+use Rattle.term_scorer.specs.Inner.Weights.{Weighed}
 use Rattle.term_scorer.proofs.Scores.{top-kept}
 use Rattle.query.specs.Inner.Openings.{Tables, Room, openedScorer, unopened, OpenSlot, OnlySlot, OneOpened, QueryOpened, Untouched}
 

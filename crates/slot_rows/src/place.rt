@@ -1,11 +1,12 @@
 // A slot's two rows of numbers: those of its list's part, and those of its place. Structs are made of them at a block change only.
 use bm25::Bm25Weight;
+use notefile::part;
 use notefile::part::Part;
 use postings::cursor::SegmentPostings;
 use skip_reader::skip::SkipReader;
 ghost use mathlib.Core.Path.{_≡_};
 ghost use Rattle.arrays.specs.Lent.{before, after};
-ghost use Rattle.notefile.specs.Inner.Given.{BlocksIn, Limits, weightOf};
+ghost use Rattle.notefile.specs.Inner.Given.{BlocksIn, Limits, NormsIn, WeightIn};
 ghost use Rattle.slot_rows.specs.Inner.Rows.{partIn, partRow, PartRow, postingsIn, placeRow, Narrow, Standing};
 
 // A scorer's place, and those of all slots.
@@ -81,15 +82,11 @@ pub fn part_of(list: &[usize; 8]) -> Part
 
 // The struct of a row's list, with its norms.
 pub fn weight_of(list: &[usize; 8], norms: &[f32; 256]) -> Bm25Weight
-    requires { ⌜ PartRow (now list) × Limits (partIn (now list)) ⌝ }
-    ensures { λ r. ⌜ r ≡ weightOf (partIn (before list)) (before norms) ⌝ }
+    requires { ⌜ PartRow (now list) × Limits (partIn (now list)) × NormsIn (partIn (now list)) (now norms) ⌝ }
+    ensures { λ r. ⌜ WeightIn (partIn (before list)) r ⌝ }
 {
-    let cache = *norms;
-    Bm25Weight {
-        weight: f32::from_bits(list[0] as u32),
-        average: f32::from_bits(list[1] as u32),
-        cache,
-    }
+    let x = part_of(list);
+    part::weight_of(x, norms)
 }
 
 // A place's numbers, put into a row. Its bound is not known, and its scores are not made.

@@ -25,7 +25,7 @@ use Rattle.bm25.specs.declared.Scoring.{Scoring}
 use Rattle.bm25_block.specs.Inner.Block.{Scored}
 use Rattle.notefile.specs.Header.{normCodeOf, normReader}
 use Rattle.notefile.specs.Lists.{blockScore, fullBlocks}
-use Rattle.notefile.specs.Inner.Given.{weightOf, WeightIn}
+use Rattle.notefile.specs.Inner.Given.{WeightIn}
 use Rattle.notefile.specs.declared.part.Part.{Part}
 use Rattle.notefile.proofs.Headers.{norm-code-small}
 use Rattle.notefile.proofs.Scores.{score-by-code}
@@ -37,15 +37,11 @@ use Rattle.postings.proofs.BlockBounds.{score-at, score-is}
 use Rattle.slot_rows.specs.Inner.Rows.{cursorIn, partIn, postingsIn, PlaceIn}
 use Rattle.slot_rows.proofs.Rows.{cursor-is}
 use Rattle.term_scorer.specs.Inner.Slots.{listAt, partAt, cursorAt, Sixteen}
-use Rattle.term_scorer.specs.Inner.Weights.{blockMaxAt, BlockScores, BoundFound, Bounded, BoundKept, FloatRow, FloatRows, NormsIn, ScoresKept, ScoresMade, TopKept}
+use Rattle.term_scorer.specs.Inner.Weights.{blockMaxAt, BlockScores, BoundFound, Bounded, BoundKept, FloatRow, FloatRows, ScoresKept, ScoresMade, TopKept}
 use Rattle.term_scorer.proofs.Floats.{rows-set}
 use Rattle.term_scorer.specs.declared.score.BlockMax.{BlockMax}
 use Rattle.term_scorer.specs.declared.score.BlockMax.the-variants.{Known, Unknown}
 use Rattle.term_scorer.specs.declared.score.Bound.{Bound}
-
--- the struct that is made of a list's norms
-pub weight-in : (x : Part) (cache : List Float) → NormsIn x cache → {w : Bm25Weight} → w ≡ weightOf x cache → WeightIn x w
-weight-in x cache N e = subst (WeightIn x) (sym e) (record { weight-is = refl; average-is = refl; norms = N })
 
 -- a posting with a document stands inside its list
 inside-list : (file : List ℕ) (x : Part) (at : ℕ) → docIn file x at < 2147483647 → at < x .count

@@ -8,7 +8,7 @@ use lib.Ieee.{Float, binary32, ofBits}
 use Rattle.arrays.specs.Every.{every}
 use Rattle.fieldnorm.specs.declared.FieldNormReader.{FieldNormReader}
 use Rattle.bm25.specs.Limits.{weightOk, averageOk}
-use Rattle.bm25.specs.Inner.Weight.{WeightOf}
+use Rattle.bm25.specs.Inner.Weight.{NormsOf, WeightOf}
 use Rattle.bm25.specs.declared.Bm25Weight.{Bm25Weight}
 use Rattle.notefile.specs.Header.{headerLength, entryLength, documents, normReader}
 use Rattle.notefile.specs.Parts.{skipsAt}
@@ -66,13 +66,13 @@ pub record BlocksIn (file : List ℕ) (x : Part) : Type 0 where
   pub right : every (fullBlocks x) (skipRight file x) ≡ true
   pub inside : tailAt file x ≤ x .end
 
+-- a list's norms
+abbrev pub NormsIn : Part → List Float → Type 0
+NormsIn x norms = NormsOf (ofBits binary32 (x .average)) norms
+
 -- the struct of a list's weight and average
 abbrev pub WeightIn : Part → Bm25Weight → Type 0
 WeightIn x w = WeightOf (ofBits binary32 (x .weight)) (ofBits binary32 (x .average)) w
-
--- that struct, made of norms that stand ready
-abbrev pub weightOf : Part → List Float → Bm25Weight
-weightOf x norms = record { weight = ofBits binary32 (x .weight); average = ofBits binary32 (x .average); cache = norms }
 
 -- what a list's blocks are tested against: the header's number of documents, the norm codes, the list's struct, within its limits, and its
 -- bound

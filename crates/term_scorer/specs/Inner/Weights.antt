@@ -9,9 +9,9 @@ use lib.Ieee.{Float, nan, binary32, nanBits, ofBits}
 use Rattle.route.specs.Cursor.{blockMax}
 use Rattle.route.specs.F32.{f32}
 use Rattle.route.specs.Postings.{Postings, start}
-use Rattle.bm25.specs.Inner.Weight.{NormsOf}
 use Rattle.bm25.specs.declared.Scoring.{Scoring}
 use Rattle.notefile.specs.Lists.{fullBlocks}
+use Rattle.notefile.specs.Inner.Given.{NormsIn}
 use Rattle.notefile.specs.declared.part.Part.{Part}
 use Rattle.decoded.specs.Lists.{listOf}
 use Rattle.slot_rows.specs.Inner.Rows.{cursorIn}
@@ -28,10 +28,6 @@ FloatRow xs = length xs ≡ 128
 pub record FloatRows (floats : List (List Float)) : Type 0 where
   pub eighteen : length floats ≡ 18
   pub row : (r : ℕ) → r < 18 → FloatRow (getD floats r [])
-
--- a list's norms
-abbrev pub NormsIn : Part → List Float → Type 0
-NormsIn x cache = NormsOf (ofBits binary32 (x .average)) cache
 
 -- slot q has its list's norms
 abbrev pub Weighed : List (List ℕ) → List (List Float) → ℕ → Type 0

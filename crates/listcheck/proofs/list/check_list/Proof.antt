@@ -3,7 +3,6 @@ use mathlib.Core.Path.{_∙_}
 use native.Mathlib.Omega.{arith}
 use borrow.Author.Needs.{needs}
 use borrow.Author.Tests.{not-true, not-false}
-use Rattle.bm25.proofs.Numbers.{weight-number, average-number}
 use Rattle.notefile.specs.Lists.{fullBlocks}
 use Rattle.notefile.specs.Inner.Given.{Against, Skipped}
 use Rattle.notefile.proofs.FullBlocks.{previous-same}
@@ -13,9 +12,6 @@ use Rattle.listcheck.proofs.list.check_list.Statement.{statement}
 use Rattle.listcheck.proofs.list.check_list.Tie as tie
 
 -- the places that the answers look back to
-abbrev after-freqs : tie.After-struct-known → tie.After-freqs
-after-freqs c = c .before .before .before
-
 abbrev after-check-blocks : tie.After-lower-of → tie.After-check-blocks
 after-check-blocks c = c .before .before .before .before .before
 
@@ -58,33 +54,27 @@ returns-2 c =
     let k = known (t .before) in
     postings-wrong (a .args .file .now) (a .args .x) (placed k .tail-place .ensures) (k .before .place .given .1) (t .read-tail .ensures) (not-true _ (c .if1 .taken))
 
-float-from-bits-new : tie.Need-float-from-bits-new
-float-from-bits-new c = let a = start (after-freqs c) in weight-number (a .args .x .weight) (a .pre .1 .weight)
-
-float-from-bits-new-2 : tie.Need-float-from-bits-new-2
-float-from-bits-new-2 c = let a = start (after-freqs (c .before)) in average-number (a .args .x .average) (a .pre .1 .average)
-
-new-requires : tie.Need-new-requires
-new-requires c κs = search needs
+weight-of-requires : tie.Need-weight-of-requires
+weight-of-requires c κs = search needs
 
 max-score-requires : tie.Need-max-score-requires
 max-score-requires c κs = search needs
 
 -- the place behind the tail's test, from the list's bound
 abbrev read : tie.After-max-score → tie.Else1
-read c = c .before .before .before .before
+read c = c .before .before
 
 abbrev begun : tie.After-max-score → tie.Start
 begun c = start (read c .before .before)
 
-against : (c : tie.After-max-score) → Against (begun c .args .file .now) (begun c .args .x) (begun c .args .limit) (begun c .args .reader) (c .before .new .result) (c .max-score .result)
+against : (c : tie.After-max-score) → Against (begun c .args .file .now) (begun c .args .x) (begun c .args .limit) (begun c .args .reader) (c .before .weight-of .result) (c .max-score .result)
 against c =
     let a = begun c in
-    let w = c .before .new in
+    let w = c .before .weight-of in
     record {
-      limit-is = a .pre .2;
-      few = a .pre .3;
-      reader-is = a .pre .4;
+      limit-is = a .pre .3;
+      few = a .pre .4;
+      reader-is = a .pre .5;
       limits = a .pre .1;
       weighed = w .ensures;
       max-score-is = c .max-score .ensures ∙ list-bound-by (a .args .x) (w .result) (w .ensures);
@@ -144,9 +134,7 @@ check-list-spec =
     returns
     read-tail-requires
     returns-2
-    float-from-bits-new
-    float-from-bits-new-2
-    new-requires
+    weight-of-requires
     max-score-requires
     check-blocks-requires
     returns-3

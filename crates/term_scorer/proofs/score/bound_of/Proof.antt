@@ -5,7 +5,7 @@ use Rattle.notefile.specs.Inner.Given.{WeightIn}
 use Rattle.notefile.specs.declared.part.Part.{Part}
 use Rattle.slot_rows.specs.Inner.Rows.{partIn}
 use Rattle.slot_rows.proofs.Rows.{list-for, standing-for, placed-for}
-use Rattle.term_scorer.proofs.Scores.{full-found, tail-found, weight-in}
+use Rattle.term_scorer.proofs.Scores.{full-found, tail-found}
 use Rattle.term_scorer.proofs.score.bound_of.Statement.{statement}
 use Rattle.term_scorer.proofs.score.bound_of.Tie as tie
 
@@ -38,7 +38,7 @@ block-max-score-requires c κs =
     let list = a .args .list .now in (
       list-for file list (x .part-of .ensures) (a .pre .2),
       a .pre .0,
-      subst (λ (z : Part). WeightIn z (w .weight-of .result)) (sym (x .part-of .ensures)) (weight-in (partIn list) (a .args .cache .now) (a .pre .4) (w .weight-of .ensures)),
+      subst (λ (z : Part). WeightIn z (w .weight-of .result)) (sym (x .part-of .ensures)) (w .weight-of .ensures),
       placed-for file list (a .args .place .now) (λ l k. k) (x .part-of .ensures) (c .postings-of .ensures) (a .pre .3),
     )
 
