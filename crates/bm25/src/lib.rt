@@ -11,7 +11,7 @@ ghost use lib.Dec.{T};
 ghost use lib.Ieee.{binary32, add, mul, div, nanBits, ofBits};
 ghost use Rattle.arrays.specs.Lent.{after};
 ghost use Rattle.floats.specs.Whole.{wholeF32};
-ghost use Rattle.bm25.specs.Score.{normOf};
+ghost use Rattle.bm25.specs.Score.{normOf, scoreAt};
 ghost use Rattle.bm25.specs.Scoring.{scored};
 ghost use Rattle.bm25.specs.Bound.{maxTf};
 ghost use Rattle.bm25.specs.Inner.Weight.{NormsOf, WeightOf, scoreIn};
@@ -99,6 +99,14 @@ fn decode_block_wand_max_tf(max_tf_code: u8) -> u32
     max_tf_code as u32
 }
 
+// A full block's bound at the norm of its skip entry's code, from the entry's other code.
+pub fn bound_at(scoring: Scoring, weight: f32, norm: f32, max_tf_code: u8) -> f32
+    ensures { λ r. ⌜ r ≡ scored scoring (scoreAt weight norm (maxTf «max_tf_code»)) ⌝ }
+{
+    let tf = floats::u32_to_f32(decode_block_wand_max_tf(max_tf_code));
+    in_scoring(scoring, score_at(weight, norm, tf))
+}
+
 impl Bm25Weight {
     // The struct of a list's weight and average, with the norm of every code.
     pub fn new(weight: f32, average: f32) -> Self
@@ -132,6 +140,7 @@ impl Bm25Weight {
     pub fn block_max_score(self, scoring: Scoring, fieldnorm_id: u8, max_tf_code: u8) -> f32
         ensures { λ r. ⌜ r ≡ scored scoring (blockBoundIn self «fieldnorm_id» «max_tf_code») ⌝ }
     {
-        self.score(scoring, fieldnorm_id, decode_block_wand_max_tf(max_tf_code))
+        let i = fieldnorm_id as usize;
+        bound_at(scoring, self.weight, self.cache[i], max_tf_code)
     }
 }

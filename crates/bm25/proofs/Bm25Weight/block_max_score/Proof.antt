@@ -1,25 +1,23 @@
--- `Bm25Weight::block_max_score` meets its contract: it is the score of the decoded pair.
-use mathlib.Core.Path.{ap, _∙_}
-use Prim.Native.Nat.{ℕ}
+-- `Bm25Weight::block_max_score` meets its contract: the bound at the norm of the code is the score of the decoded pair.
 use borrow.Author.Needs.{needs}
-use Rattle.bm25.specs.Scoring.{scored}
 use Rattle.bm25.specs.Inner.Weight.{scoreIn}
 use Rattle.bm25.specs.Inner.Bound.{blockBoundIn}
 use Rattle.bm25.proofs.Bm25Weight.block_max_score.Statement.{statement}
 use Rattle.bm25.proofs.Bm25Weight.block_max_score.Tie as tie
 
-decode-block-wand-max-tf-requires : tie.Need-decode-block-wand-max-tf-requires
-decode-block-wand-max-tf-requires c κs = search needs
+mul-bound-at : tie.Need-mul-bound-at
+mul-bound-at c = search needs
 
-score-requires : tie.Need-score-requires
-score-requires c κs = search needs
+element-copy-out-bound-at : tie.Need-element-copy-out-bound-at
+element-copy-out-bound-at c = search needs
+
+bound-at-requires : tie.Need-bound-at-requires
+bound-at-requires c κs = search needs
 
 returns : tie.Need-returns
-unfolding blockBoundIn
-returns c =
-    let s = c .before .before in
-    c .score .ensures ∙ ap (λ (f : ℕ). scored (s .args .scoring) (scoreIn (s .args .self) (s .args .fieldnorm-id) f)) (c .before .decode-block-wand-max-tf .ensures)
+unfolding blockBoundIn scoreIn
+returns c = c .bound-at .ensures
 
 pub block-max-score-spec : {M : Type 1} → statement M
 block-max-score-spec =
-    tie.close (tie.spec decode-block-wand-max-tf-requires score-requires returns)
+    tie.close (tie.spec mul-bound-at element-copy-out-bound-at bound-at-requires returns)
