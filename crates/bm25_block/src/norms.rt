@@ -138,3 +138,23 @@ pub fn read_norms(
     }
     read_each(file, reader, cache, docs, norms);
 }
+
+// The norm of each posting, where every document is one of the first `limit`: one test says whether their codes stand in the file.
+pub fn read_norms_below(
+    file: &[u8],
+    reader: FieldNormReader,
+    cache: &[f32; 256],
+    docs: &[u32; 128],
+    limit: u32,
+    norms: &mut [f32; 128],
+)
+    requires { ⌜ Below limit (now docs) ⌝ }
+    ensures { λ _. ⌜ Gathered reader (before file) (before cache) (before docs) (after norms) ⌝ }
+{
+    let codes = codes_of(file, reader);
+    if limit <= codes.count {
+        read_within(file, reader, codes, cache, docs, norms);
+        return;
+    }
+    read_each(file, reader, cache, docs, norms);
+}

@@ -1,8 +1,7 @@
 -- Bounds and scores: what a test of a block's scores finds of a list's scores.
 use mathlib.Core.Path.{_≡_, refl, sym, ap, _∙_}
-use mathlib.Core.Bool.{Bool, true, false, _&&_, not}
+use mathlib.Core.Bool.{Bool, true, false, _&&_, not, cond}
 use mathlib.Core.List.{List}
-use mathlib.Core.Logic.{_⊎_, inl, inr}
 use Prim.Native.Nat.{ℕ, _≤_, _<_}
 use lib.Dec.{T}
 use lib.ListN.{getD}
@@ -13,17 +12,20 @@ use Rattle.floats.proofs.Order.{not-above, below-le, lower-below}
 use Rattle.fieldnorm.specs.declared.FieldNormReader.{FieldNormReader}
 use Rattle.bm25.specs.Inner.Bound.{allCovered}
 use Rattle.bm25.specs.declared.Bm25Weight.{Bm25Weight}
-use Rattle.bm25_block.specs.Inner.Block.{allExact, postingScore}
+use Rattle.bm25_block.specs.Inner.Block.{allExact, lowerBound, postingScore}
+use Rattle.bm25_block.specs.Inner.Codes.{Below}
 use Rattle.bm25_block.proofs.AtMost.{all-at-most}
 use Rattle.bm25_block.proofs.BoundTests.{covered-same}
-use Rattle.notefile.specs.Header.{normReader}
+use Rattle.notefile.specs.Header.{documents, normReader}
+use Rattle.notefile.specs.Lists.{blockSize}
 use Rattle.notefile.specs.Inner.Structs.{skipEntryOf}
 use Rattle.notefile.specs.Inner.Given.{PackedIn, WeightIn}
-use Rattle.notefile.specs.Inner.Reads.{FreqsRead, scoreAmong}
+use Rattle.notefile.specs.Inner.Reads.{DocsRead, FreqsRead, scoreAmong}
 use Rattle.notefile.specs.declared.part.Part.{Part}
 use Rattle.notefile.specs.declared.skip.SkipEntry.{SkipEntry}
 use Rattle.notefile.proofs.Scores.{score-of-doc}
-use Rattle.notefile.proofs.FullBlocks.{freqs-narrow}
+use Rattle.notefile.proofs.Decoded.{doc-low}
+use Rattle.notefile.proofs.FullBlocks.{full-size, freqs-narrow}
 
 first-both : (a b : Bool) → (a ≡ true → b ≡ true) → a ≡ a && b
 first-both true b f = sym (f refl)
@@ -50,9 +52,12 @@ module _ (maxScore own : Float) (t : T (within 1000 maxScore)) (b : T (within 10
   max-score-lower : lt own maxScore ≡ false → allCovered maxScore n score ≡ allCovered maxScore n score && allCovered own n score
   max-score-lower e = first-both (allCovered maxScore n score) (allCovered own n score) (lower-covers maxScore own t b (not-above 1000 maxScore own t b e) n score)
 
-  pub low-both : {low : Float} → ((lt own maxScore ≡ true) × (low ≡ own)) ⊎ ((lt own maxScore ≡ false) × (low ≡ maxScore)) → allCovered low n score ≡ allCovered maxScore n score && allCovered own n score
-  low-both (inl (e, f)) = rw f (own-lower e)
-  low-both (inr (e, f)) = rw f (max-score-lower e)
+  pub low-both : allCovered (lowerBound own maxScore) n score ≡ allCovered maxScore n score && allCovered own n score
+  low-both = by-test (lt own maxScore) refl
+    where
+      by-test : (z : Bool) → lt own maxScore ≡ z → allCovered (cond z own maxScore) n score ≡ allCovered maxScore n score && allCovered own n score
+      by-test true e = own-lower e
+      by-test false e = max-score-lower e
 
 -- the scores that the list's struct gives are the list's
 pub scores-are : (file : List ℕ) (x : Part) (w : Bm25Weight) → WeightIn x w → ((k : ℕ) → getD file k 0 < 256) → (reader : FieldNormReader) → reader ≡ normReader file
@@ -64,3 +69,9 @@ scores-are file x w W bytes reader er docs freqs bound n =
 pub narrow-exact : {file : List ℕ} {x : Part} {b at : ℕ} → PackedIn file x b at → (e : SkipEntry) → e ≡ skipEntryOf file x b → {r : Bool} {freqs : List ℕ} → FreqsRead file x b r freqs
     → r ≡ true → e .«freq_bits» ≤ 24 → allExact freqs ≡ true
 narrow-exact P e ee {r} {freqs} F t n = all-at-most 16777216 freqs (freqs-narrow P e ee F t n)
+
+-- the documents of a full block that row 7 lets through lie below the header's number
+pub docs-below : {file : List ℕ} {x : Part} {b at : ℕ} → PackedIn file x b at → {docs : List ℕ} → DocsRead file x b true docs → {limit : ℕ} → limit ≡ documents file → Below limit docs
+docs-below {file} {x} {b} P D e i h =
+    let l : i < blockSize x b = rw (sym (full-size x b (P .full))) h in
+    rw (e, D .at refl i l) (doc-low file x b (sym (D .same)) i l)

@@ -1,20 +1,22 @@
 -- What a block and the blocks before it are refused for, out of what the readers answered.
-use mathlib.Core.Path.{_≡_, refl, sym, ap, _∙_}
+use mathlib.Core.Path.{_≡_, refl, sym, ap, _∙_, subst}
 use mathlib.Core.Bool.{Bool, true, false, _&&_, cond}
 use mathlib.Core.List.{List}
-use mathlib.Core.Logic.{_⊎_}
 use Prim.Native.Nat.{ℕ, suc, _+_, _*_, _≤_, _<_}
 use native.Mathlib.Numerals.{add-one}
 use native.Mathlib.Omega.{arith}
 use lib.Dec.{T}
 use lib.ListN.{getD}
-use lib.Ieee.{Float, lt}
+use lib.Ieee.{Float}
 use borrow.Author.Tests.{lt-ltb, le-ltb}
 use Rattle.arrays.specs.Every.{every}
 use Rattle.arrays.proofs.Every.{fails, one-more}
 use Rattle.floats.specs.Step.{within}
+use Rattle.fieldnorm.specs.declared.FieldNormReader.{FieldNormReader}
 use Rattle.bm25.specs.Inner.Bound.{allCovered, blockBoundIn}
 use Rattle.bm25.specs.declared.Bm25Weight.{Bm25Weight}
+use Rattle.bm25_block.specs.Inner.Block.{lowerBound, blockCovered}
+use Rattle.notefile.specs.Header.{normReader}
 use Rattle.notefile.specs.Lists.{fullBlocks, blockSize, blockAt, blockScore, blockBound, listBound}
 use Rattle.notefile.specs.Conditions.{blockDocsRight, blockFreqsRight, covers, boundsRight}
 use Rattle.notefile.specs.Inner.Order.{firstOf, blocksRefusal}
@@ -24,8 +26,17 @@ use Rattle.notefile.specs.Inner.Reads.{DocsRead, FreqsRead, scoreAmong, blockRe
 use Rattle.notefile.specs.declared.part.Part.{Part}
 use Rattle.notefile.specs.declared.skip.SkipEntry.{SkipEntry}
 use Rattle.notefile.proofs.Decoded.{every-same}
+use Rattle.notefile.proofs.FullBlocks.{full-size}
 use Rattle.notefile.proofs.Scores.{block-bound-by, list-bound-in, block-bound-in}
-use Rattle.listcheck.proofs.Covers.{low-both}
+use Rattle.listcheck.specs.Inner.Answers.{PackedRead}
+use Rattle.listcheck.proofs.Covers.{low-both, scores-are}
+
+-- the bounds are scores, so they are numbers
+max-score-in : (x : Part) → Limits x → {maxScore : Float} → maxScore ≡ listBound x → T (within 1000 maxScore)
+max-score-in x L e = rw e (list-bound-in x L)
+
+bound-in : (file : List ℕ) (x : Part) (b : ℕ) → ((k : ℕ) → getD file k 0 < 256) → Limits x → {bound : Float} → bound ≡ blockBound file x b → T (within 1000 bound)
+bound-in file x b bytes L e = rw e (block-bound-in x L file bytes b)
 
 -- one block
 module _ (file : List ℕ) (x : Part) (b : ℕ) {docs : List ℕ} {d : Bool} (D : DocsRead file x b d docs) where
@@ -42,12 +53,12 @@ module _ (file : List ℕ) (x : Part) (b : ℕ) {docs : List ℕ} {d : Bool} (D 
       covers-is bound {n} e = ap (λ n. allCovered bound n (scoreAmong file x docs freqs)) e ∙ every-same _ _ (blockSize x b) (λ i h. rw (D .at d-right i h, F .at f-right i h))
 
       module _ {maxScore : Float} {n : ℕ} (max-score-is : maxScore ≡ listBound x) (size : n ≡ blockSize x b) where
-        -- the scores were compared with the lower of the two bounds
-        pub full-bounds : {own low : Float} {r : Bool} → b < fullBlocks x → own ≡ blockBound file x b → T (within 1000 maxScore) → T (within 1000 own)
-            → r ≡ allCovered low n (scoreAmong file x docs freqs) → ((lt own maxScore ≡ true) × (low ≡ own)) ⊎ ((lt own maxScore ≡ false) × (low ≡ maxScore)) → r ≡ boundsRight file x b
+        -- scores that were compared with the lower of the two bounds
+        lower-bounds : {own : Float} {r : Bool} → b < fullBlocks x → own ≡ blockBound file x b → T (within 1000 maxScore) → T (within 1000 own)
+            → r ≡ allCovered (lowerBound own maxScore) n (scoreAmong file x docs freqs) → r ≡ boundsRight file x b
         unfolding boundsRight
-        full-bounds {own} full e t o er w =
-            er ∙ low-both maxScore own t o n (scoreAmong file x docs freqs) w ∙ rw (covers-is maxScore size, covers-is own size, max-score-is, e, lt-ltb b (fullBlocks x) full)
+        lower-bounds {own} full e t o er =
+            er ∙ low-both maxScore own t o n (scoreAmong file x docs freqs) ∙ rw (covers-is maxScore size, covers-is own size, max-score-is, e, lt-ltb b (fullBlocks x) full)
 
         pub tail-bounds : {r : Bool} → fullBlocks x ≤ b → r ≡ allCovered maxScore n (scoreAmong file x docs freqs) → r ≡ boundsRight file x b
         unfolding boundsRight
@@ -59,6 +70,17 @@ module _ (file : List ℕ) (x : Part) (b : ℕ) {docs : List ℕ} {d : Bool} (D 
             alone true = refl
             alone false = refl
 
+      -- a full block's scores, by the list's struct, with the block's bound out of its entry
+      pub full-bounds : b < fullBlocks x → ((k : ℕ) → getD file k 0 < 256) → Limits x → (w : Bm25Weight) → WeightIn x w → {reader : FieldNormReader} → reader ≡ normReader file
+          → (e : SkipEntry) → e ≡ skipEntryOf file x b → {maxScore : Float} → maxScore ≡ listBound x
+          → {r : Bool} → r ≡ blockCovered reader file w docs freqs (e .«norm_code») (e .«freq_code») maxScore → r ≡ boundsRight file x b
+      unfolding blockCovered skipEntryOf
+      full-bounds full bytes L w W {reader} er e ee {maxScore} em g =
+          let own = blockBoundIn w (e .«norm_code») (e .«freq_code») in
+          let own-is : own ≡ blockBound file x b = rw ee (block-bound-by x w W file bytes b) in
+          lower-bounds em (full-size x b full) full own-is (max-score-in x L em) (bound-in file x b bytes L own-is)
+          (g ∙ scores-are file x w W bytes reader er docs freqs (lowerBound own maxScore) 128)
+
       module _ {r : Bool} (e : r ≡ boundsRight file x b) where
         pub bounds-wrong : r ≡ false → 9 ≡ blockRefusal file x b
         bounds-wrong f = rw (sym (D .same) ∙ d-right, sym (F .same) ∙ f-right, sym e ∙ f)
@@ -66,18 +88,27 @@ module _ (file : List ℕ) (x : Part) (b : ℕ) {docs : List ℕ} {d : Bool} (D 
         pub all-right : r ≡ true → 0 ≡ blockRefusal file x b
         all-right f = rw (sym (D .same) ∙ d-right, sym (F .same) ∙ f-right, sym e ∙ f)
 
--- a full block's bound, out of its entry
-pub bound-is : (file : List ℕ) (x : Part) (b : ℕ) → ((k : ℕ) → getD file k 0 < 256) → (w : Bm25Weight) → WeightIn x w → (e : SkipEntry) → e ≡ skipEntryOf file x b
-    → {bound : Float} → bound ≡ blockBoundIn w (e .«norm_code») (e .«freq_code») → bound ≡ blockBound file x b
-unfolding skipEntryOf
-bound-is file x b bytes w W e ee be = be ∙ rw ee (block-bound-by x w W file bytes b)
+-- a full block's documents and frequencies
+module _ (file : List ℕ) (x : Part) (b : ℕ) {docs freqs : List ℕ} {d : Bool} (D : DocsRead file x b d docs) where
+  pub docs-refused : d ≡ false → PackedRead file x b 7 docs freqs
+  docs-refused e = record { same = rw (sym (D .same) ∙ e); docs-read = λ z. absurd (omega arith); freqs-read = λ z. absurd (omega arith) }
 
--- the bounds are scores, so they are numbers
-pub max-score-in : (x : Part) → Limits x → {maxScore : Float} → maxScore ≡ listBound x → T (within 1000 maxScore)
-max-score-in x L e = rw e (list-bound-in x L)
+  module _ (d-right : d ≡ true) {f : Bool} (F : FreqsRead file x b f freqs) where
+    pub freqs-refused : f ≡ false → PackedRead file x b 8 docs freqs
+    freqs-refused e = record { same = rw (sym (D .same) ∙ d-right, sym (F .same) ∙ e); docs-read = λ z. absurd (omega arith); freqs-read = λ z. absurd (omega arith) }
 
-pub bound-in : (file : List ℕ) (x : Part) (b : ℕ) → ((k : ℕ) → getD file k 0 < 256) → Limits x → {bound : Float} → bound ≡ blockBound file x b → T (within 1000 bound)
-bound-in file x b bytes L e = rw e (block-bound-in x L file bytes b)
+    pub packed-right : f ≡ true → PackedRead file x b 0 docs freqs
+    packed-right e = record {
+      same = rw (sym (D .same) ∙ d-right, sym (F .same) ∙ e);
+      docs-read = λ _. subst (λ (z : Bool). DocsRead file x b z docs) d-right D;
+      freqs-read = λ _. subst (λ (z : Bool). FreqsRead file x b z freqs) e F;
+    }
+
+-- what they are refused for, the block is refused for
+pub refused-before : (d f c : Bool) {r : ℕ} → r ≡ firstOf d f true → (r ≡ 0 → ⊥) → r ≡ firstOf d f c
+refused-before true true c e n = absurd (n e)
+refused-before true false c e n = e
+refused-before false f c e n = e
 
 -- the lower of two is the first condition over both
 joins : (d f c d2 f2 c2 : Bool) → lower (firstOf d f c) (firstOf d2 f2 c2) ≡ firstOf (d && d2) (f && f2) (c && c2)
@@ -125,16 +156,17 @@ module _ (file : List ℕ) (x : Part) where
     pub all-judged : fullBlocks x ≤ b → lowest ≡ blocksRefusal file x (fullBlocks x)
     all-judged h = J .lowest-is ∙ ap (blocksRefusal file x) (omega (arith, J .within))
 
-    module _ (h : b < fullBlocks x) {r : ℕ} (er : r ≡ blockRefusal file x b) where
-      pub seven-found : r ≡ 7 → 7 ≡ blocksRefusal file x (fullBlocks x)
+    module _ (h : b < fullBlocks x) {found : ℕ} (ef : found ≡ firstOf (blockDocsRight file x b) (blockFreqsRight file x b) true) where
+      pub seven-found : found ≡ 7 → 7 ≡ blocksRefusal file x (fullBlocks x)
       unfolding blocksRefusal
-      seven-found e = rw (fails (blockDocsRight file x) (fullBlocks x) b h (docs-wrong-if (blockDocsRight file x b) (blockFreqsRight file x b) (boundsRight file x b) (sym er ∙ e)))
+      seven-found e = rw (fails (blockDocsRight file x) (fullBlocks x) b h (docs-wrong-if (blockDocsRight file x b) (blockFreqsRight file x b) true (sym ef ∙ e)))
 
-      pub one-judged : (r ≡ 7 → ⊥) → (e : SkipEntry) → e ≡ skipEntryOf file x b → {q : ℕ} → q ≡ lower lowest r → Judging q (at + 16 * (e .«doc_bits» + e .«freq_bits»)) (b + 1)
+      pub one-judged : (found ≡ 7 → ⊥) → {r : ℕ} → r ≡ blockRefusal file x b → (e : SkipEntry) → e ≡ skipEntryOf file x b → {q : ℕ} → q ≡ lower lowest r
+          → Judging q (at + 16 * (e .«doc_bits» + e .«freq_bits»)) (b + 1)
       unfolding blockAt skipEntryOf
-      one-judged n e ee {q} eq = record {
+      one-judged n er e ee {q} eq = record {
         within = omega arith;
         place = rw (add-one, J .place, ee);
         lowest-is = rw add-one (eq ∙ one-block-more b (J .lowest-is) er);
-        right = one-more (blockDocsRight file x) b (J .right) (docs-right-unless (blockDocsRight file x b) (blockFreqsRight file x b) (boundsRight file x b) (λ q. n (er ∙ q)));
+        right = one-more (blockDocsRight file x) b (J .right) (docs-right-unless (blockDocsRight file x b) (blockFreqsRight file x b) true (λ q. n (ef ∙ q)));
       }

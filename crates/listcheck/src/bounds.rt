@@ -3,29 +3,26 @@ use bm25::Bm25Weight;
 use fieldnorm::FieldNormReader;
 use notefile::part::Part;
 ghost use mathlib.Core.Path.{_≡_};
-ghost use mathlib.Core.Bool.{true};
 ghost use Prim.Native.Nat.{_≤_};
 ghost use Rattle.arrays.specs.Lent.{before};
 ghost use Rattle.bm25.specs.Inner.Bound.{allCovered};
-ghost use Rattle.bm25_block.specs.Inner.Block.{allExact};
 ghost use Rattle.notefile.specs.Header.{normReader};
 ghost use Rattle.notefile.specs.Inner.Given.{WeightIn};
 ghost use Rattle.notefile.specs.Inner.Reads.{scoreAmong};
 
-// Whether the bound lies below no score of the first n postings. `small` says that f32 holds each frequency.
+// Whether the bound lies below no score of the first n postings.
 pub fn scores_covered(
     file: &[u8],
     reader: FieldNormReader,
     x: Part,
     w: Bm25Weight,
-    small: bool,
     n: usize,
     bound: f32,
     docs: &[u32; 128],
     freqs: &[u32; 128],
 ) -> bool
-    requires { ⌜ (reader ≡ normReader (now file)) × WeightIn x w × (n ≤ 128) × (small ≡ true → allExact (now freqs) ≡ true) ⌝ }
+    requires { ⌜ (reader ≡ normReader (now file)) × WeightIn x w × (n ≤ 128) ⌝ }
     ensures { λ r. ⌜ r ≡ allCovered bound n (scoreAmong (before file) x (before docs) (before freqs)) ⌝ }
 {
-    bm25_block::bound::covered(file, reader, w, docs, freqs, small, n, bound)
+    bm25_block::bound::covered(file, reader, w, docs, freqs, n, bound)
 }

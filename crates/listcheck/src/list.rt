@@ -4,27 +4,58 @@ use crate::skip::TailPlace;
 use crate::skip::tail_place;
 use bm25::Bm25Weight;
 use bm25::Scoring;
+use bm25_block::bound::block_covered;
 use compression::documents::documents;
 use compression::frequencies::frequencies;
 use fieldnorm::FieldNormReader;
 use notefile::block::packed_docs;
 use notefile::block::packed_freqs;
+use notefile::block::places;
 use notefile::block::read_tail;
 use notefile::part::Part;
 use notefile::part::weight_of;
+use notefile::skip::SkipEntry;
 use notefile::skip::last_before;
 use notefile::skip::read_skip_entry;
 ghost use mathlib.Core.Path.{_≡_};
 ghost use Prim.Native.Nat.{_≤_};
-ghost use Rattle.arrays.specs.Lent.{before};
+ghost use Rattle.arrays.specs.Lent.{before, after};
 ghost use Rattle.notefile.specs.Header.{documents, normReader};
-ghost use Rattle.notefile.specs.Lists.{fullBlocks, previousDoc};
+ghost use Rattle.notefile.specs.Lists.{blockAt, fullBlocks, previousDoc};
 ghost use Rattle.notefile.specs.Inner.Order.{blocksRefusal, listRefusal};
-ghost use Rattle.notefile.specs.Inner.Structs.{lastBefore};
+ghost use Rattle.notefile.specs.Inner.Structs.{lastBefore, skipEntryOf};
 ghost use Rattle.notefile.specs.Inner.Given.{Against, BlocksIn, Limits, NormsIn, PackedIn, Parted, Skipped};
 ghost use Rattle.notefile.specs.Inner.Reads.{TailValues, blockRefusal, lower};
+ghost use Rattle.listcheck.specs.Inner.Answers.{PackedRead};
 
-// What full block b is refused for: 7, 8, 9 or nothing. Its scores are compared with the lower of its own bound and the list's.
+// What the documents and frequencies of full block b are refused for: 7, 8 or nothing. They are left in the arrays.
+fn check_packed(
+    file: &[u8],
+    limit: u32,
+    x: Part,
+    e: SkipEntry,
+    b: usize,
+    at: usize,
+    docs: &mut [u32; 128],
+    freqs: &mut [u32; 128],
+) -> u32
+    requires { ⌜ PackedIn (now file) x b at × (e ≡ skipEntryOf (now file) x b) × (limit ≡ documents (now file)) × (limit ≤ 1048576)
+        × (lastBefore (now file) x b ≡ previousDoc (now file) x b) × (lastBefore (now file) x b ≤ 1048576) ⌝ }
+    ensures { λ r. ⌜ PackedRead (before file) x b r (after docs) (after freqs) ⌝ }
+{
+    places(docs);
+    places(freqs);
+    let previous = last_before(file, x, b);
+    if !packed_docs(file, x, b, at, e, previous, limit, docs) {
+        return 7;
+    }
+    if !packed_freqs(file, x, b, at, e, freqs) {
+        return 8;
+    }
+    0
+}
+
+// What full block b is refused for: what was found of its documents and frequencies, or else 9 or nothing.
 fn check_block(
     file: &[u8],
     limit: u32,
@@ -32,28 +63,33 @@ fn check_block(
     x: Part,
     w: Bm25Weight,
     max_score: f32,
+    e: SkipEntry,
     b: usize,
-    at: usize,
+    found: u32,
+    docs: &[u32; 128],
+    freqs: &[u32; 128],
 ) -> u32
-    requires { ⌜ Against (now file) x limit reader w «max_score» × PackedIn (now file) x b at
-        × (lastBefore (now file) x b ≡ previousDoc (now file) x b) × (lastBefore (now file) x b ≤ 1048576) ⌝ }
+    requires { ⌜ Against (now file) x limit reader w «max_score» × PackedIn (now file) x b (blockAt (now file) x b)
+        × (e ≡ skipEntryOf (now file) x b) × PackedRead (now file) x b found (now docs) (now freqs) ⌝ }
     ensures { λ r. ⌜ r ≡ blockRefusal (before file) x b ⌝ }
 {
-    let e = read_skip_entry(file, x, b);
-    let previous = last_before(file, x, b);
-    let mut docs = [0u32; 128];
-    let mut freqs = [0u32; 128];
-    if !packed_docs(file, x, b, at, e, previous, limit, &mut docs) {
-        return 7;
+    if found != 0 {
+        return found;
     }
-    if !packed_freqs(file, x, b, at, e, &mut freqs) {
-        return 8;
-    }
-    let own = w.block_max_score(Scoring::Unstepped, e.norm_code, e.freq_code);
-    let low = if own < max_score { own } else { max_score };
     // Of at most 24 bits, and the 1 of a strict block: f32 holds every whole number up to 2^24.
     let small = e.freq_bits <= 24;
-    if !scores_covered(file, reader, x, w, small, 128, low, &docs, &freqs) {
+    if !block_covered(
+        file,
+        reader,
+        w,
+        limit,
+        docs,
+        freqs,
+        small,
+        e.norm_code,
+        e.freq_code,
+        max_score,
+    ) {
         return 9;
     }
     0
@@ -84,7 +120,7 @@ fn check_tail(
     if !frequencies(freqs, n, false) {
         return 8;
     }
-    if !scores_covered(file, reader, x, w, false, n, max_score, docs, freqs) {
+    if !scores_covered(file, reader, x, w, n, max_score, docs, freqs) {
         return 9;
     }
     0
@@ -119,15 +155,30 @@ fn check_blocks(
     ensures { λ r. ⌜ r ≡ blocksRefusal (before file) x (fullBlocks x) ⌝ }
 {
     let blocks = x.count / 128;
+    let mut docs = [0u32; 128];
+    let mut freqs = [0u32; 128];
     let mut lowest: u32 = 0;
     let mut at = x.postings;
     let mut b: usize = 0;
     while b < blocks {
-        let r = check_block(file, limit, reader, x, w, max_score, b, at);
-        if r == 7 {
+        let e = read_skip_entry(file, x, b);
+        let found = check_packed(file, limit, x, e, b, at, &mut docs, &mut freqs);
+        if found == 7 {
             return 7;
         }
-        let e = read_skip_entry(file, x, b);
+        let r = check_block(
+            file,
+            limit,
+            reader,
+            x,
+            w,
+            max_score,
+            e,
+            b,
+            found,
+            &docs,
+            &freqs,
+        );
         lowest = lower_of(lowest, r);
         at += 16 * ((e.doc_bits + e.freq_bits) as usize);
         b += 1;

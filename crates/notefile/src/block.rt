@@ -103,7 +103,7 @@ pub fn pad(values: &mut [u32; 128], n: usize)
 }
 
 // An array of 128 has 128 places.
-fn places(values: &[u32; 128]) -> usize
+pub fn places(values: &[u32; 128]) -> usize
     ensures { λ r. ⌜ (r ≡ 128) × (length (before values) ≡ 128) ⌝ }
 {
     (&values[..]).len()

@@ -58,7 +58,7 @@ docs-right c = c .before .before .before
 scores-covered-requires : tie.Need-scores-covered-requires
 scores-covered-requires c κs =
     let a = start (docs-right (freqs-right c) .before .before) in
-    (a .pre .0 .reader-is, a .pre .0 .weighed, search needs, λ s. absurd (true≢false (sym s)))
+    (a .pre .0 .reader-is, a .pre .0 .weighed, search needs)
 
 judged : (c : tie.After-scores-covered)
     → (c .scores-covered .result ≡ false → 9 ≡ refusal-of (docs-right (freqs-right (c .before)) .before)) × (c .scores-covered .result ≡ true → 0 ≡ refusal-of (docs-right (freqs-right (c .before)) .before))
