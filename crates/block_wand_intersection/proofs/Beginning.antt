@@ -23,6 +23,7 @@ use Rattle.ordering.proofs.Places.{all-at, all-drop, all-first}
 use Rattle.decoded.specs.Lists.{listOf}
 use Rattle.skip_reader.specs.Inner.Decoded.{doc-is}
 use Rattle.slot_rows.specs.Inner.Rows.{partIn}
+use Rattle.term_scorer.proofs.Bounds.{kept-none}
 use Rattle.term_scorer.specs.Inner.Slots.{Held, cursorAt, listsFrom, partAt, slotsFrom}
 use Rattle.term_scorer.specs.Inner.Weights.{TopKept, topAt, TopRead}
 use Rattle.intersection_window.specs.Inner.Scorers.{InOrder, Query, SlotsIn, leaderIn, listIn, placeAt, scorerAt, secondariesIn, slotAt}
@@ -134,11 +135,11 @@ module _ {x₀ : Query} {h : Held} (F : FreshSlots x₀ h) {order : List ℕ} (S
         distinct-at (take n order) (distinct-perm perm (slots-distinct 0 n)) i j (omega (arith, taken-long)) (omega (arith, taken-long))
         (getD-take n order i 0 hi ∙ e ∙ sym (getD-take n order j 0 hj));
     norms-are = F .norms-are;
-    weighed = F .weighed;
+    weighed = λ q hq. F .each q hq .weighed;
   }
 
   kept : All (TopKept (x₀ .scoring) (x₀ .file) (x₀ .lists)) (take n order)
-  kept = all-imp (λ r. r < n) (TopKept (x₀ .scoring) (x₀ .file) (x₀ .lists)) (take n order) (λ q hq. F .top q hq) (all-perm (λ r. r < n) perm (slots-below n 0 n (omega arith)))
+  kept = all-imp (λ r. r < n) (TopKept (x₀ .scoring) (x₀ .file) (x₀ .lists)) (take n order) (λ q hq. F .each q hq .top) (all-perm (λ r. r < n) perm (slots-below n 0 n (omega arith)))
 
   pub tops-read : All (TopRead (x₀ .lists)) (take n order)
   tops-read = all-imp (TopKept (x₀ .scoring) (x₀ .file) (x₀ .lists)) (TopRead (x₀ .lists)) (take n order) (λ _ k. k .read) kept
@@ -152,14 +153,14 @@ module _ {x₀ : Query} {h : Held} (F : FreshSlots x₀ h) {order : List ℕ} (S
       rw (first, same-map (topAt (x₀ .lists)) (λ q. listIn x q .top) (drop 1 (take n order)) (all-drop Same 1 (take n order) same))
 
   pub seated : SlotsIn x h
-  seated = record { sixteen = F .sixteen; slot = F .slot }
+  seated = record { sixteen = F .sixteen; slot = λ q hq. F .each q hq .slot }
 
   -- ---- the scorers
 
   fresh-scorers : (a m : ℕ) → a + m ≤ n → map (scorerAt x (h .places)) (slotsFrom a m) ≡ scorersFrom a (map (listIn x) (slotsFrom a m))
   fresh-scorers a zero k = refl
   fresh-scorers a (suc m) k =
-      ap (λ (c : Cursor). record { ord = a; list = listIn x a; cur = c } ∷ map (scorerAt x (h .places)) (slotsFrom (suc a) m)) (F .first a (omega arith))
+      ap (λ (c : Cursor). record { ord = a; list = listIn x a; cur = c } ∷ map (scorerAt x (h .places)) (slotsFrom (suc a) m)) (F .each a (omega arith) .first)
       ∙ ap (λ (z : List (Scorer Float)). record { ord = a; list = listIn x a; cur = fresh } ∷ z) (fresh-scorers (suc a) m (omega arith))
 
   same-sizes : (l : List ℕ) → All (λ q. sizeHint (scorerAt x (h .places) q) ≡ sizeIn (x₀ .lists) q) l
@@ -191,7 +192,7 @@ module _ {x₀ : Query} {h : Held} (F : FreshSlots x₀ h) {order : List ℕ} (S
       len-is = refl;
       stands = λ floats R. record {
         order = in-order;
-        ready = record { seated = seated; kept = λ q hq k. absurd (let u = F .unknown q hq in omega arith); long = R .row 0 (omega arith) };
+        ready = record { seated = seated; kept = λ q hq. kept-none (listIn x q) q (F .each q hq .unkept); long = R .row 0 (omega arith) };
         rows = R;
         len-is = refl;
         max-is = em ∙ sum-is;

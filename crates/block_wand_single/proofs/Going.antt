@@ -1,10 +1,9 @@
 -- The scan by turns: it begins at the route's first place, and goes on stretch by stretch.
 use mathlib.Core.Path.{_≡_, refl, sym, ap, _∙_, subst}
 use mathlib.Core.Bool.{Bool, true, false, false≢true, true≢false}
-use mathlib.Core.List.{List, []}
+use mathlib.Core.List.{List}
 use Prim.Native.Nat.{ℕ, suc, _+_, _-_, _≤_, _<_}
 use native.Mathlib.Omega.{arith}
-use lib.ListN.{getD}
 use lib.Ieee.{Float}
 use Rattle.route.specs.F32.{f32}
 use Rattle.route.specs.Postings.{Postings}
@@ -19,8 +18,8 @@ use Rattle.reports.specs.declared.Event.{Event}
 use Rattle.reports.specs.declared.Event.the-variants.{Over, Paused, Report}
 use Rattle.reports.proofs.TurnLaws.{Quietly, and-then, at-end, at-pause, at-report, none-yet, one-more}
 use Rattle.skip_reader.specs.Inner.Decoded.{doc-is, docIn}
-use Rattle.term_scorer.specs.Inner.Slots.{Held, cursorAt, listAt, partAt, SlotIn}
-use Rattle.term_scorer.specs.Inner.Weights.{FloatRows, Weighed}
+use Rattle.term_scorer.specs.Inner.Slots.{Held, cursorAt, listAt, partAt}
+use Rattle.term_scorer.specs.Inner.Weights.{FloatRows, FreshSlot}
 use Rattle.term_scorer.specs.declared.score.Similarity.{Similarity}
 use Rattle.block_wand_single.specs.Inner.Places.{isDone, isReport, onWalk, phaseOf, placeOf, singleRoute}
 use Rattle.block_wand_single.specs.Inner.Stands.{Goes, Hunted, Stands, Steps, Strode}
@@ -28,7 +27,9 @@ use Rattle.block_wand_single.specs.declared.Gone.{Gone}
 use Rattle.block_wand_single.specs.declared.Phase.{Phase}
 use Rattle.block_wand_single.specs.declared.Phase.the-variants.{Called, Hunt, Over as Done, Walk}
 use Rattle.block_wand_single.specs.declared.Single.{Single}
-use Rattle.block_wand_single.proofs.Scorers.{right, standing-in}
+use Rattle.block_wand_single.proofs.Scorers.{right}
+use Rattle.term_scorer.proofs.Bounds.{kept-none}
+use Rattle.term_scorer.proofs.Slots.{standing-in}
 
 -- a scan that has not returned and is on no walk hunts
 pub is-hunt : (phase : Phase) → onWalk phase ≡ false → isDone phase ≡ false → phase ≡ Hunt
@@ -69,17 +70,17 @@ module _ {file : List ℕ} {similarity : Similarity} {lists : List (List ℕ)} {
           subst (λ (z : Phase). Quietly (w .turn) (w .ended) t (record { phase = phaseOf z; cur = cursorAt (h .places) (x .slot); doc = x .doc }) 1 (placeOf r (h′ .places))) (sym e)
           (one-more (w .turn) (w .ended) t (none-yet (w .turn) (w .ended) t _) refl refl (H .next-is))
 
-  -- A SCAN BEGINS AT ITS ROUTE'S FIRST PLACE: its slot is open on the list's first posting, with no bound known.
-  pub single-begins : {q : ℕ} {h : Held} {floats : List (List Float)} {doc : ℕ} → similarity .norms ≡ normReader file → q < 16 → SlotIn file lists h q
-      → cursorAt (h .places) q ≡ fresh → getD (getD (h .places) q []) 7 0 ≡ 0 → Weighed lists caches q → FloatRows floats → doc ≡ docIn file (partAt lists q) 0
+  -- A SCAN BEGINS AT ITS ROUTE'S FIRST PLACE: its slot is open on the list's first posting, with nothing kept of it.
+  pub single-begins : {q : ℕ} {h : Held} {floats : List (List Float)} {doc : ℕ} → similarity .norms ≡ normReader file
+      → FreshSlot (similarity .scoring) file lists caches h q → FloatRows floats → doc ≡ docIn file (partAt lists q) 0
       → Stands file similarity lists caches (record { slot = q; doc = doc; phase = Hunt }) h floats
       × ((ord : ℕ) → placeOf (record { slot = q; doc = doc; phase = Hunt }) (h .places) ≡ singleRoute (similarity .scoring) file lists q ord .first)
-  single-begins {q} {h} {floats} {doc} norms small S c unknown W rows d = (
+  single-begins {q} {h} {floats} {doc} norms F rows d = (
     record {
-      ready = record { small = small; norms-are = norms; slot = S; weighed = W; rows = rows; bound = λ k. absurd (omega arith) };
+      ready = record { small = F .slot-in; norms-are = norms; slot = F .slot; weighed = F .weighed; rows = rows; bound = kept-none l q (F .unkept) };
       scores = λ w. absurd (false≢true w);
       kept = subst (λ (p : route.SinglePlace). SingleKept 128 l (p .phase) (p .cur) (p .doc)) (sym first)
-          (single-nears 128 (documents file) f32 l (right (standing-in S) (similarity .scoring)) 0 .begins);
+          (single-nears 128 (documents file) f32 l (right (standing-in (F .slot)) (similarity .scoring)) 0 .begins);
     },
     λ ord. first,
   )
@@ -88,7 +89,7 @@ module _ {file : List ℕ} {similarity : Similarity} {lists : List (List ℕ)} {
       l = listAt (similarity .scoring) file lists q
 
       first : placeOf (record { slot = q; doc = doc; phase = Hunt }) (h .places) ≡ record { phase = route.hunt; cur = fresh; doc = docHere l fresh }
-      first = ap (λ (z : Cursor). record { phase = route.hunt; cur = z; doc = doc }) c
+      first = ap (λ (z : Cursor). record { phase = route.hunt; cur = z; doc = doc }) (F .first)
           ∙ ap (λ (z : ℕ). record { phase = route.hunt; cur = fresh; doc = z }) (d ∙ sym (doc-is file (partAt lists q) (similarity .scoring) 0))
 
 -- ---- the loop

@@ -29,7 +29,8 @@ use Rattle.block_wand_single.specs.Inner.Stands.{Entered, Hunted, Ready,
 use Rattle.block_wand_single.specs.declared.Phase.{Phase}
 use Rattle.block_wand_single.specs.declared.Phase.the-variants.{Hunt, Over, Walk}
 use Rattle.block_wand_single.specs.declared.Single.{Single}
-use Rattle.block_wand_single.proofs.Scorers.{bounded-cursor, moved-to, ready-bounded, ready-moved, ready-scored, right, standing-in}
+use Rattle.block_wand_single.proofs.Scorers.{bounded-cursor, moved-to, ready-bounded, ready-moved, ready-scored, right}
+use Rattle.term_scorer.proofs.Slots.{standing-in}
 
 module _ {file : List ℕ} {similarity : Similarity} {lists : List (List ℕ)} {caches : List (List Float)} where
   -- ---- the way into a block

@@ -7,11 +7,10 @@ use native.Mathlib.Numerals.{add-one}
 use native.Mathlib.Omega.{arith}
 use lib.ListN.{getD, length, length-set, set}
 use lib.Seq.{getD-set-other, getD-set-same}
-use lib.Ieee.{Float, nan}
+use lib.Ieee.{Float}
 use borrow.Author.Tests.{eq-eqb, le-ltb, lt-ltb, ne-eqb}
-use Rattle.route.specs.F32.{f32}
 use Rattle.route.specs.Postings.{Postings, TERMINATED, lastDoc}
-use Rattle.route.specs.Cursor.{Cursor, blockMax, seekBlockIn}
+use Rattle.route.specs.Cursor.{Cursor, seekBlockIn}
 use Rattle.route.specs.Single.{SinglePlace}
 use Rattle.route.specs.Inner.Lists.{ListOk}
 use Rattle.route.proofs.Places.{last-cap}
@@ -24,9 +23,10 @@ use Rattle.postings.specs.Inner.Places.{cursorOf, Moved}
 use Rattle.postings.specs.declared.cursor.SegmentPostings.{SegmentPostings}
 use Rattle.skip_reader.proofs.Readers.{end-is}
 use Rattle.slot_rows.specs.Inner.Rows.{cursorIn, partIn, postingsIn, MovedRow, PlaceIn}
-use Rattle.slot_rows.proofs.Rows.{bound-in, last-is, moves-in}
+use Rattle.slot_rows.proofs.Rows.{last-is, moves-in}
 use Rattle.term_scorer.specs.Inner.Slots.{Held, cursorAt, held, lastAt, listAt, partAt, Shallowed, Sixteen, SlotIn, StandingIn}
-use Rattle.term_scorer.specs.Inner.Weights.{Bounded, FloatRow}
+use Rattle.term_scorer.specs.Inner.Weights.{Bounded, FloatRow, KeptBounds}
+use Rattle.term_scorer.proofs.Bounds.{bounded-kept, bounded-place, bounded-sixteen, kept-moved}
 use Rattle.term_scorer.proofs.Floats.{rows-set}
 use Rattle.term_scorer.specs.declared.score.Similarity.{Similarity}
 use Rattle.block_wand_single.specs.Inner.Places.{onPlace, phaseOf, skipped, MovedTo, Skips, ToPlace}
@@ -47,9 +47,6 @@ module _ {file : List ℕ} {lists places : List (List ℕ)} {q : ℕ} (T : Stand
 
   pub last-low : lastAt places q ≤ 2147483647
   last-low = subst (λ (z : ℕ). z ≤ 2147483647) last-here (last-cap 128 (documents file) (listAt scoring file lists q) right (cursorAt places q .blk))
-
-pub standing-in : {file : List ℕ} {lists : List (List ℕ)} {q : ℕ} {h : Held} → SlotIn file lists h q → StandingIn file lists (h .places) q
-standing-in S = record { sixteen = S .sixteen .0; part-row = S .part-row; list = S .list; standing = S .place .standing }
 
 -- ---- moves
 
@@ -80,12 +77,13 @@ module _ {file : List ℕ} {lists : List (List ℕ)} {q : ℕ} {h : Held} (S : S
       place-is = λ s. ap (λ (z : Cursor). record { phase = phaseOf phase; cur = z; doc = doc }) (M .cursor-is s) ∙ e s;
       slot = record { sixteen = sixteen; part-row = S .part-row; list = S .list; place = M .place };
       bound-is = M .bound-is;
+      ahead-is = M .ahead-is;
     }
 
   -- nothing moves
   stay : MovedRow file (partAt lists q) (λ _. cursorAt (h .places) q) (getD (h .places) q []) (getD (h .places) q []) (getD (h .docs) q []) (getD (h .freqs) q [])
       (docIn file (partAt lists q) (cursorAt (h .places) q .at))
-  stay = record { place = S .place; cursor-is = λ _. refl; doc-is = refl; bound-is = λ k. (k, refl, refl); scores-is = λ k. (k, refl) }
+  stay = record { place = S .place; cursor-is = λ _. refl; doc-is = refl; bound-is = λ k. (k, refl, refl); scores-is = λ k. (k, refl); ahead-is = λ e k. k }
 
   -- its skip reader alone
   module _ {to : Scoring → Cursor} {places′ : List (List ℕ)} (M : Shallowed file lists q to (h .places) places′) where
@@ -131,6 +129,7 @@ module _ {file : List ℕ} {lists : List (List ℕ)} {q : ℕ} {h : Held} (S : S
           let v = M .bound-is k in
           let w = put-row .bound-is (v .0) in
           (w .0, v .1 ∙ w .1, v .2 ∙ w .2);
+      ahead-is = λ e k. put-row .ahead-is e (M .ahead-is e k);
     }
 
 -- ---- past a block
@@ -169,14 +168,12 @@ module _ {file : List ℕ} {lists places docs : List (List ℕ)} {q : ℕ} (smal
               ∙ ap (λ (z : ℕ). skipped (listAt s file lists q) (onPlace (cursorAt places q) z) TERMINATED) e ∙ sym (rw (le-ltb i n h));
           slot = M .slot;
           bound-is = M .bound-is;
+          ahead-is = M .ahead-is;
         };
     same-block = λ freqs S w. absurd (true≢false (sym w ∙ K .off));
   }
 
 -- ---- ready again
-
-bound-same : (l : Postings Float) (c c′ : Cursor) → c′ .blk ≡ c .blk → c′ .loaded ≡ c .loaded → blockMax 128 f32 l c′ ≡ blockMax 128 f32 l c
-bound-same l c c′ e f = rw (e, f)
 
 module _ {file : List ℕ} {similarity : Similarity} {lists : List (List ℕ)} {caches : List (List Float)} {q : ℕ} {h : Held} {floats : List (List Float)}
     (R : Ready file similarity lists caches q h floats) where
@@ -191,7 +188,7 @@ module _ {file : List ℕ} {similarity : Similarity} {lists : List (List ℕ)} {
     slot = M .slot;
     weighed = R .weighed;
     rows = R .rows;
-    bound = λ k. let w = M .bound-is k in R .bound (w .0) ∙ sym (bound-same list (cursorAt (h .places) q) (cursorAt (h′ .places) q) (w .1) (w .2));
+    bound = kept-moved list q (M .bound-is) (M .ahead-is) (R .bound);
   }
 
   -- with the scores of a block
@@ -204,38 +201,29 @@ module _ {file : List ℕ} {similarity : Similarity} {lists : List (List ℕ)} {
         slot = R .slot;
         weighed = R .weighed;
         rows = rows-set 2 values (R .rows) (omega arith) l;
-        bound = λ k. ap (λ (z : List Float). getD z q nan) other ∙ R .bound k;
+        bound = subst (KeptBounds list q (getD (h .places) q [])) (sym other) (R .bound);
       }
 
   -- with its block's bound
   module _ {places′ : List (List ℕ)} {bounds : List Float} {b : Float} (B : Bounded (similarity .scoring) file lists q (h .places) (getD floats 0 []) places′ bounds b) where
-    flag-there : getD places′ q [] ≡ set (getD (h .places) q []) 7 (B .flag)
-    flag-there =
-        let s = R .slot .sixteen .0 in
-        let m = R .small in
-        ap (λ (z : List (List ℕ)). getD z q []) (B .places-are) ∙ getD-set-same (h .places) q (set (getD (h .places) q []) 7 (B .flag)) [] (omega arith)
-
     pub bounded-cursor : cursorAt places′ q ≡ cursorAt (h .places) q
-    bounded-cursor = ap cursorIn flag-there ∙ bound-in file (partAt lists q) (B .flag) (R .slot .place) .1
+    bounded-cursor = bounded-place B (R .small) (R .slot .sixteen .0) (R .slot .place) .1
 
     pub ready-bounded : Ready file similarity lists caches q (held places′ (h .docs) (h .freqs)) (set floats 0 bounds)
     ready-bounded =
-        let l = R .rows .row 0 (omega arith) in
+        let s = R .slot .sixteen in
         let t = R .rows .eighteen in
-        let m = R .small in
         let row : getD (set floats 0 bounds) 0 [] ≡ bounds = getD-set-same floats 0 bounds [] (omega arith) in
         record {
           small = R .small;
           norms-are = R .norms-are;
           slot = record {
-            sixteen = (ap length (B .places-are) ∙ length-set (h .places) q _ ∙ R .slot .sixteen .0, R .slot .sixteen .1, R .slot .sixteen .2);
+            sixteen = (bounded-sixteen B (s .0), s .1, s .2);
             part-row = R .slot .part-row;
             list = R .slot .list;
-            place = rw flag-there (bound-in file (partAt lists q) (B .flag) (R .slot .place) .0);
+            place = bounded-place B (R .small) (s .0) (R .slot .place) .0;
           };
           weighed = R .weighed;
-          rows = rows-set 0 bounds (R .rows) (omega arith) (ap length (B .bounds-are) ∙ length-set (getD floats 0 []) q b ∙ l);
-          bound = λ k.
-              ap (λ (z : List Float). getD z q nan) (row ∙ B .bounds-are) ∙ getD-set-same (getD floats 0 []) q b nan (omega arith) ∙ B .bound-is
-              ∙ ap (blockMax 128 f32 list) (sym bounded-cursor);
+          rows = rows-set 0 bounds (R .rows) (omega arith) (B .long ∙ R .rows .row 0 (omega arith));
+          bound = subst (KeptBounds list q (getD places′ q [])) (sym row) (bounded-kept B (R .small) (s .0) (R .slot .place));
         }

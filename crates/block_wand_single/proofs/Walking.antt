@@ -35,7 +35,8 @@ use Rattle.block_wand_single.specs.Inner.Walks.{FirstAbove, Tables}
 use Rattle.block_wand_single.specs.declared.Phase.{Phase}
 use Rattle.block_wand_single.specs.declared.Phase.the-variants.{Called, Hunt, Over as Done, Walk}
 use Rattle.block_wand_single.specs.declared.Single.{Single}
-use Rattle.block_wand_single.proofs.Scorers.{put-cursor, put-to, ready-moved, right, standing-in}
+use Rattle.block_wand_single.proofs.Scorers.{put-cursor, put-to, ready-moved, right}
+use Rattle.term_scorer.proofs.Slots.{standing-in}
 use Rattle.block_wand_single.proofs.Hunting.{cur-small, keeps, stands-in}
 use Rattle.block_wand_single.proofs.BlockTurns.{Passes, called-turn, doc, due-turn, here, inside, on-place, placeIn, stretch}
 

@@ -7,7 +7,7 @@ use term_scorer::BOUNDS;
 use term_scorer::Floats;
 use term_scorer::SCORES;
 use term_scorer::score::Similarity;
-use term_scorer::score::block_max;
+use term_scorer::score::new_block_max;
 use term_scorer::score::score_block;
 use term_scorer::slot;
 ghost use mathlib.Core.Path.{_≡_};
@@ -114,7 +114,7 @@ pub fn hunt(
         ⌜ Hunted (before file) similarity (before lists) (before caches) threshold single old r new (after floats) ⌝ }
 {
     let q = single.slot;
-    let bound = block_max(
+    let bound = new_block_max(
         file,
         similarity,
         lists,

@@ -1,9 +1,8 @@
 -- How a union's run begins: scorers that were just opened stand at the first place of the route.
-use mathlib.Core.List.{List, [], map}
+use mathlib.Core.List.{List, map}
 use mathlib.Core.Path.{ap, subst, sym, _∙_, _≡_}
-use Prim.Native.Nat.{ℕ, _≤_, _<_}
+use Prim.Native.Nat.{ℕ, _≤_}
 use native.Mathlib.Omega.{arith}
-use lib.ListN.{getD}
 use lib.Ieee.{Float}
 use Rattle.arrays.specs.Every.{All}
 use Rattle.route.specs.F32.{f32}
@@ -21,9 +20,10 @@ use Rattle.ordering.proofs.Kept.{kept-all, kept-apart, sort-kept}
 use Rattle.ordering.proofs.OnRoute.{SameDoc, sorted-on-route}
 use Rattle.notefile.specs.Header.{documents}
 use Rattle.decoded.proofs.AcceptedLists.{list-ok}
-use Rattle.term_scorer.specs.Inner.Slots.{Held, SlotIn, cursorAt, listAt, partAt}
-use Rattle.term_scorer.specs.Inner.Weights.{FloatRows, TopKept, Weighed}
+use Rattle.term_scorer.specs.Inner.Slots.{Held, listAt, partAt}
+use Rattle.term_scorer.specs.Inner.Weights.{FloatRows, FreshSlot}
 use Rattle.block_wand_union.specs.Inner.Seats.{Seat, Seated, Terms, onRoute, placeIn, scorerAt, termAt}
+use Rattle.term_scorer.proofs.Bounds.{kept-none}
 use Rattle.block_wand_union.specs.Inner.Runs.{Begins, Stands, placeOf}
 use Rattle.block_wand_union.specs.declared.Stage.the-variants.{Looking}
 use Rattle.block_wand_union.specs.declared.Union.{Union}
@@ -31,15 +31,9 @@ use Rattle.block_wand_union.proofs.Seats.{same-doc}
 use Rattle.block_wand_union.proofs.Runs.{place-kept, stands-kept}
 
 module _ (file : List ℕ) (lists : List (List ℕ)) (T : Terms) (h : Held) where
-  -- a scorer as its slot was opened: on its list's first posting, with the list's norms; no block bound is known, and no scores are made
+  -- a scorer as its slot was opened
   pub record Fresh (s : TermScorer) : Type 0 where
-    pub slot-in : s .slot < 16
-    pub slot : SlotIn file lists h (s .slot)
-    pub first : cursorAt (h .places) (s .slot) ≡ fresh
-    pub weighed : Weighed lists (T .caches) (s .slot)
-    pub top : TopKept (T .scoring) file lists (s .slot)
-    pub unknown : getD (getD (h .places) (s .slot) []) 7 0 ≡ 0
-    pub unscored : getD (getD (h .places) (s .slot) []) 8 0 ≡ 0
+    pub opened : FreshSlot (T .scoring) file lists (T .caches) h (s .slot)
     pub scorer-is : s ≡ termAt file lists (T .scoring) (h .places) (s .slot)
 
   abbrev f : TermScorer → Scorer Float
@@ -47,21 +41,21 @@ module _ (file : List ℕ) (lists : List (List ℕ)) (T : Terms) (h : Held) wher
 
   fresh-seat : (s : TermScorer) → Fresh s → Seat file lists T h s
   fresh-seat s F = record {
-    stand = record { slot-in = F .slot-in; slot = F .slot; doc-is = ap (λ (z : TermScorer). z .doc) (F .scorer-is) };
-    weighed = F .weighed;
-    bound = λ k. absurd (omega (arith, k, F .unknown));
-    scores = λ k. absurd (omega (arith, k, F .unscored));
+    stand = record { slot-in = F .opened .slot-in; slot = F .opened .slot; doc-is = ap (λ (z : TermScorer). z .doc) (F .scorer-is) };
+    weighed = F .opened .weighed;
+    bound = kept-none (listAt (T .scoring) file lists (s .slot)) (s .slot) (F .opened .unkept);
+    scores = λ k. absurd (omega (arith, k, F .opened .unkept .scores));
     max-is = sym (ap (λ (z : TermScorer). z .«max_score») (F .scorer-is));
-    top = F .top;
+    top = F .opened .top;
   }
 
   fresh-safe : (s : TermScorer) → Fresh s → SafeS 128 (documents file) (f s)
   fresh-safe s F =
       let l = listAt (T .scoring) file lists (s .slot) in
-      let ok = list-ok (T .scoring) file (partAt lists (s .slot)) (F .slot .list .right) (F .slot .list .few) in
+      let ok = list-ok (T .scoring) file (partAt lists (s .slot)) (F .opened .slot .list .right) (F .opened .slot .list .few) in
       let w = fresh-is 128 (documents file) l ok .0 in
       let safe : Safe 128 (documents file) l fresh = record { lo = w .lo; hi = w .hi; order = w .order; in-list = omega (arith, w .in-list); edge = λ z. absurd (omega arith) } in
-      record { ok = ok; safe = subst (Safe 128 (documents file) l) (sym (F .first)) safe }
+      record { ok = ok; safe = subst (Safe 128 (documents file) l) (sym (F .opened .first)) safe }
 
   module _ (l : List TermScorer) (a : All Fresh l) (apart : Apart l) (rows : FloatRows (T .floats)) where
     seats : All (Seat file lists T h) l

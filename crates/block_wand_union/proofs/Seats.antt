@@ -1,13 +1,12 @@
 -- A move of one slot's scorer, seen from all the scorers of a union: the others stand as before, and the route's scorers with them.
 use mathlib.Core.List.{List, [], _∷_}
-use mathlib.Core.Path.{ap, refl, sym, _∙_, _≡_}
+use mathlib.Core.Path.{ap, refl, subst, sym, _∙_, _≡_}
 use Prim.Native.Nat.{ℕ, _+_, _<_}
 use native.Mathlib.Omega.{arith}
 use lib.ListN.{drop, getD, length, length-set, set, take, take-append-drop}
 use lib.Seq.{getD-set-other, getD-set-same, set-getD}
-use lib.Ieee.{Float, nan}
+use lib.Ieee.{Float}
 use Rattle.arrays.specs.Every.{All}
-use Rattle.route.specs.Postings.{Postings}
 use Rattle.route.specs.Cursor.{Cursor, blockMax}
 use Rattle.route.specs.F32.{f32}
 use Rattle.route.specs.Scorer.{onCur}
@@ -21,10 +20,11 @@ use Rattle.ordering.proofs.Places.{all-at}
 use Rattle.ordering.proofs.Turns.{SameOff, replaced-all, replaced-slots}
 use Rattle.skip_reader.specs.Inner.Decoded.{docIn, doc-is}
 use Rattle.slot_rows.specs.Inner.Rows.{cursorIn, PlaceIn}
-use Rattle.slot_rows.proofs.Rows.{bound-in}
 use Rattle.term_scorer.specs.Inner.Slots.{cursorAt, held, Held, listAt, partAt, MovedSlot, Shallowed, Sixteen, StandingIn}
-use Rattle.term_scorer.specs.Inner.Weights.{Bounded, FloatRows}
+use Rattle.term_scorer.specs.Inner.Weights.{Bounded, FloatRows, KeptBounds, SameCells}
+use Rattle.term_scorer.proofs.Bounds.{bounded-kept, bounded-off, bounded-place, bounded-scores, bounded-sixteen, kept-moved, kept-same}
 use Rattle.term_scorer.proofs.Floats.{rows-set}
+use Rattle.term_scorer.proofs.Slots as slots
 use Rattle.block_wand_union.specs.Inner.Seats.{Carried, MaxScoreAt, Seat, Seated, Stand, Terms, TopIs, scorerAt, terms}
 
 -- ---- rows
@@ -44,10 +44,6 @@ still-sixteen xs ys q y e h = ap length e ∙ length-set xs q y ∙ h
 abbrev AllSixteen : Held → Type 0
 AllSixteen h = Sixteen (h .places) × Sixteen (h .docs) × Sixteen (h .freqs)
 
--- a bound is that of the skip reader's block, loaded or not
-same-bound : (l : Postings Float) (c c′ : Cursor) → c′ .blk ≡ c .blk → c′ .loaded ≡ c .loaded → blockMax 128 f32 l c ≡ blockMax 128 f32 l c′
-same-bound l c c′ b k = rw (b, k)
-
 -- the first of scorers in slots of their own
 pub first-apart : (len : ℕ) (l : List TermScorer) → Apart l → Apart (take len l)
 first-apart len l a =
@@ -64,14 +60,12 @@ module _ (file : List ℕ) (lists : List (List ℕ)) where
   }
 
   seat-same : (T : Terms) (floats′ : List (List Float)) (h h′ : Held) (s : TermScorer) → AllSixteen h′ → SameRows h h′ (s .slot)
-      → getD (getD floats′ 0 []) (s .slot) nan ≡ getD (getD (T .floats) 0 []) (s .slot) nan → getD floats′ (2 + s .slot) [] ≡ getD (T .floats) (2 + s .slot) []
+      → SameCells (s .slot) (getD (T .floats) 0 []) (getD floats′ 0 []) → getD floats′ (2 + s .slot) [] ≡ getD (T .floats) (2 + s .slot) []
       → Seat file lists T h s → Seat file lists (terms (T .scoring) (T .caches) floats′) h′ s
   seat-same T floats′ h h′ s n R e m S = record {
     stand = stand-same h h′ s n R (S .stand);
     weighed = S .weighed;
-    bound = λ k.
-        e ∙ S .bound (sym (ap (λ (row : List ℕ). getD row 7 0) (R .places)) ∙ k)
-        ∙ ap (λ (row : List ℕ). blockMax 128 f32 (listAt (T .scoring) file lists (s .slot)) (cursorIn row)) (sym (R .places));
+    bound = kept-same (listAt (T .scoring) file lists (s .slot)) (s .slot) (R .places) e (S .bound);
     scores = λ k. rw (m, R .places) (S .scores (sym (ap (λ (row : List ℕ). getD row 8 0) (R .places)) ∙ k));
     max-is = S .max-is;
     top = S .top;
@@ -113,9 +107,7 @@ module _ (file : List ℕ) (lists : List (List ℕ)) where
     moved-seat T S = record {
       stand = moved-stand (S .stand);
       weighed = S .weighed;
-      bound = λ k.
-          let w = M .moved .bound-is k in
-          S .bound (w .0) ∙ same-bound (listAt (T .scoring) file lists (s .slot)) (cursorAt (h .places) (s .slot)) (cursorAt (h′ .places) (s .slot)) (w .1) (w .2);
+      bound = kept-moved (listAt (T .scoring) file lists (s .slot)) (s .slot) (M .moved .bound-is) (M .moved .ahead-is) (S .bound);
       scores = λ k. let w = M .moved .scores-is k in rw (w .1) (S .scores (w .0));
       max-is = S .max-is;
       top = S .top;
@@ -131,7 +123,7 @@ module _ (file : List ℕ) (lists : List (List ℕ)) where
 
   -- where its skip reader stands
   pub standing-in : (h : Held) (s : TermScorer) → Stand file lists h s → StandingIn file lists (h .places) (s .slot)
-  standing-in h s S = record { sixteen = S .slot .sixteen .0; part-row = S .slot .part-row; list = S .slot .list; standing = S .slot .place .standing }
+  standing-in h s S = slots.standing-in (S .slot)
 
   -- ---- the scorer whose skip reader moves, and whose bound is then known
 
@@ -172,68 +164,46 @@ module _ (file : List ℕ) (lists : List (List ℕ)) where
       scores-there : (q : ℕ) → getD floats₂ (2 + q) [] ≡ getD (T .floats) (2 + q) []
       scores-there q = getD-set-other (T .floats) 0 (2 + q) bounds₂ [] (λ z. omega (arith, z))
 
-      abbrev row₁ : List ℕ
-      row₁ = getD places₁ (s .slot) []
+      seat₁ : Seat file lists T (held places₁ docs freqs) s
+      seat₁ = shallow-seat T S
 
-      place₁ : PlaceIn file (partAt lists (s .slot)) row₁ (getD docs (s .slot) []) (getD freqs (s .slot) [])
-      place₁ = shallow-seat T S .stand .slot .place
-
-      row₂ : getD places₂ (s .slot) [] ≡ set row₁ 7 (B .flag)
-      row₂ =
-          let l = shallow-seat T S .stand .slot .sixteen .0 in
-          let h = S .stand .slot-in in
-          ap (λ (z : List (List ℕ)). getD z (s .slot) []) (B .places-are) ∙ getD-set-same places₁ (s .slot) (set row₁ 7 (B .flag)) [] (omega arith)
+      there : PlaceIn file (partAt lists (s .slot)) (getD places₂ (s .slot) []) (getD docs (s .slot) []) (getD freqs (s .slot) []) × (cursorAt places₂ (s .slot) ≡ cursorAt places₁ (s .slot))
+      there = bounded-place B (S .stand .slot-in) (seat₁ .stand .slot .sixteen .0) (seat₁ .stand .slot .place)
 
       cursor₂ : cursorAt places₂ (s .slot) ≡ cursorAt places₁ (s .slot)
-      cursor₂ = ap cursorIn row₂ ∙ bound-in file (partAt lists (s .slot)) (B .flag) place₁ .1
+      cursor₂ = there .1
 
       sixteen₂ : AllSixteen (held places₂ docs freqs)
-      sixteen₂ =
-          let l = shallow-seat T S .stand .slot .sixteen in
-          (still-sixteen places₁ places₂ (s .slot) (set row₁ 7 (B .flag)) (B .places-are) (l .0), l .1, l .2)
+      sixteen₂ = let l = seat₁ .stand .slot .sixteen in (bounded-sixteen B (l .0), l .1, l .2)
 
       pub bounded-seat : Seat file lists (terms (T .scoring) (T .caches) floats₂) (held places₂ docs freqs) s
       bounded-seat =
-          let Z = shallow-seat T S in
-          let h = Z .stand .slot-in in
+          let Z = seat₁ in
+          let n₁ = Z .stand .slot .sixteen .0 in
           record {
             stand = record {
               slot-in = Z .stand .slot-in;
-              slot = record {
-                sixteen = sixteen₂;
-                part-row = Z .stand .slot .part-row;
-                list = Z .stand .slot .list;
-                place = rw row₂ (bound-in file (partAt lists (s .slot)) (B .flag) place₁ .0);
-              };
+              slot = record { sixteen = sixteen₂; part-row = Z .stand .slot .part-row; list = Z .stand .slot .list; place = there .0 };
               doc-is = Z .stand .doc-is ∙ ap (λ (c : Cursor). docIn file (partAt lists (s .slot)) (c .at)) (sym cursor₂);
             };
             weighed = Z .weighed;
-            bound = λ _.
-                ap (λ (z : List Float). getD z (s .slot) nan) (bounds-there ∙ B .bounds-are)
-                ∙ getD-set-same (getD (T .floats) 0 []) (s .slot) r nan (omega (arith, h, n .row 0 (omega arith))) ∙ B .bound-is
-                ∙ ap (blockMax 128 f32 (listAt (T .scoring) file lists (s .slot))) (sym cursor₂);
-            scores = λ k.
-                rw (scores-there (s .slot), ap (λ (c : Cursor). c .dec) cursor₂)
-                (Z .scores (sym (getD-set-other row₁ 7 8 (B .flag) 0 (λ z. omega (arith, z))) ∙ sym (ap (λ (z : List ℕ). getD z 8 0) row₂) ∙ k));
+            bound = subst (KeptBounds (listAt (T .scoring) file lists (s .slot)) (s .slot) (getD places₂ (s .slot) [])) (sym bounds-there) (bounded-kept B (Z .stand .slot-in) n₁ (Z .stand .slot .place));
+            scores = λ k. rw (scores-there (s .slot), ap (λ (c : Cursor). c .dec) cursor₂) (Z .scores (sym (bounded-scores B (Z .stand .slot-in) n₁) ∙ k));
             max-is = Z .max-is;
             top = Z .top;
           }
 
       -- the other slots
       other-rows : (z : ℕ) → (z ≡ (s .slot) → ⊥) → SameRows (held places docs freqs) (held places₂ docs freqs) z
-      other-rows z o = record {
-        places = ap (λ (y : List (List ℕ)). getD y z []) (B .places-are) ∙ getD-set-other places₁ (s .slot) z (set row₁ 7 (B .flag)) [] o ∙ row-off places places₁ (s .slot) z (M .only) o;
-        docs = refl;
-        freqs = refl;
-      }
+      other-rows z o = record { places = bounded-off B z o ∙ row-off places places₁ (s .slot) z (M .only) o; docs = refl; freqs = refl }
 
       pub other-seat : (z : TermScorer) → Off (s .slot) z → Seat file lists T (held places docs freqs) z → Seat file lists (terms (T .scoring) (T .caches) floats₂) (held places₂ docs freqs) z
       other-seat z o R =
           seat-same T floats₂ (held places docs freqs) (held places₂ docs freqs) z sixteen₂ (other-rows (z .slot) o)
-          (ap (λ (y : List Float). getD y (z .slot) nan) (bounds-there ∙ B .bounds-are) ∙ getD-set-other (getD (T .floats) 0 []) (s .slot) (z .slot) r nan o) (scores-there (z .slot)) R
+          (subst (SameCells (z .slot) (getD (T .floats) 0 [])) (sym bounds-there) (B .others (z .slot) (R .stand .slot-in) o)) (scores-there (z .slot)) R
 
       pub bounded-rows : FloatRows floats₂
-      bounded-rows = rows-set 0 bounds₂ n (omega arith) (ap length (B .bounds-are) ∙ length-set (getD (T .floats) 0 []) (s .slot) r ∙ n .row 0 (omega arith))
+      bounded-rows = rows-set 0 bounds₂ n (omega arith) (B .long ∙ n .row 0 (omega arith))
 
       pub other-scorers : SameOff (s .slot) (scorerAt file lists (T .scoring) places) (scorerAt file lists (T .scoring) places₂)
       other-scorers z o =
@@ -302,5 +272,5 @@ module _ (file : List ℕ) (lists : List (List ℕ)) where
           apart = slots-apart l (set l i x′) slots apart;
           topped = λ k t b. slots-all (TopIs file lists k t) l (set l i x′) slots b;
           seats = λ T s. replaced-all l i x′ inside apart (Seat file lists T h) (Seat file lists T h′)
-              (λ z o R. seat-same T (T .floats) h h′ z n (others-rows M (z .slot) o) refl refl R) (moved-seat x M T (all-at (Seat file lists T h) l i noScorer inside s)) s;
+              (λ z o R. seat-same T (T .floats) h h′ z n (others-rows M (z .slot) o) (record { bound = refl; ahead = λ k u. refl }) refl R) (moved-seat x M T (all-at (Seat file lists T h) l i noScorer inside s)) s;
         }

@@ -2,17 +2,15 @@
 use mathlib.Core.List.{List, [], _∷_, map}
 use mathlib.Core.Path.{ap, refl, sym, _∙_, _≡_}
 use Prim.Native.Nat.{ℕ, _<_}
-use lib.ListN.{getD}
-use lib.Ieee.{Float, nan}
-use Rattle.route.specs.Cursor.{Cursor, blockMax}
-use Rattle.route.specs.F32.{f32}
+use lib.Ieee.{Float}
+use Rattle.route.specs.Cursor.{Cursor}
 use Rattle.route.proofs.Lists.{all-imp}
 use Rattle.bm25.specs.declared.Scoring.{Scoring}
 use Rattle.term_scorer.specs.declared.TermScorer.{TermScorer}
 use Rattle.skip_reader.specs.Inner.Decoded.{docIn}
 use Rattle.term_scorer.specs.Inner.Slots.{held, Held, listAt, partAt, Sixteen}
 use Rattle.term_scorer.specs.Inner.Weights.{FloatRows, ScoresMade}
-use Rattle.term_scorer.proofs.Made.{made-bounds, made-cursor, made-known, made-scores, made-slot}
+use Rattle.term_scorer.proofs.Made.{made-cursor, made-kept, made-scores, made-slot}
 use Rattle.block_wand_union.specs.Inner.Seats.{Seat, Seated, Unmoved, scorerAt, termAt, terms, termsOf}
 
 -- ---- one posting
@@ -31,9 +29,7 @@ unmoved file lists scoring caches small docs freqs n M = record {
           doc-is = S .stand .doc-is ∙ ap (λ (z : Cursor). docIn file (partAt lists (s .slot)) (z .at)) (sym c);
         };
         weighed = S .weighed;
-        bound = λ k.
-            ap (λ (z : List Float). getD z (s .slot) nan) (made-bounds small n M) ∙ S .bound (sym (made-known small n M (s .slot)) ∙ k)
-            ∙ ap (blockMax 128 f32 (listAt scoring file lists (s .slot))) (sym c);
+        bound = made-kept small n M (s .slot) (S .bound);
         scores = made-scores small n M (s .slot) (S .scores);
         max-is = S .max-is;
         top = S .top;

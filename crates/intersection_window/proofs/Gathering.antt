@@ -241,8 +241,8 @@ module _ (x : Query) (d leaderEnd : ℕ) (h₀ : Held) where
                     rest = λ k u v. row-stays k v (λ z. omega arith) ∙ G .rest k (omega arith) v;
                     known = λ k u v.
                         below-or-at v
-                        (λ w. known-others x (O .few) seated-there hq B (G .ready .long) (slotAt x k) (apart k (omega arith) (λ z. omega arith)) ∙ G .known k u w)
-                        (λ w. rw w (known-bound x (O .few) seated-there hq B (G .ready .long) ∙ ap (blockMaxScore 128 f32) sought-is));
+                        (λ w. known-others x (O .few) seated-there hq B (slotAt x k) (O .below k (omega arith)) (apart k (omega arith) (λ z. omega arith)) ∙ G .known k u w)
+                        (λ w. rw w (known-bound x (O .few) seated-there hq B ∙ ap (blockMaxScore 128 f32) sought-is));
                     has = λ k u v. below-or-at v (λ w. G .has k u w) (λ w. rw w t);
                     remain = G .remain ∙ ap (allRemain 128 d) here ∙ rw (t, add-one);
                     ends =

@@ -5,11 +5,10 @@ use Prim.Native.Nat.{ℕ, _<_, _≤_}
 use native.Mathlib.Omega.{arith}
 use lib.Dec.{eqb}
 use lib.ListN.{getD, length, length-set, set}
-use lib.Seq.{getD-set-other, getD-set-same, set-getD}
+use lib.Seq.{getD-set-other, set-getD}
 use lib.Ieee.{Float, nan}
 use borrow.Author.Tests.{eqb-false, eqb-true}
 use Rattle.route.specs.F32.{f32}
-use Rattle.route.specs.Postings.{Postings}
 use Rattle.route.specs.Cursor.{Cursor, blockMax}
 use Rattle.route.specs.Scorer.{lastDocInBlock}
 use Rattle.route.specs.Inner.Lists.{ListOk}
@@ -21,9 +20,10 @@ use Rattle.decoded.proofs.AcceptedLists.{list-ok}
 use Rattle.skip_reader.specs.Inner.Decoded.{docIn}
 use Rattle.skip_reader.proofs.Readers.{end-is}
 use Rattle.slot_rows.specs.Inner.Rows.{PlaceIn, cursorIn}
-use Rattle.slot_rows.proofs.Rows.{bound-in, cur-inside, doc-in-array, last-is, last-small}
-use Rattle.term_scorer.specs.Inner.Slots.{Held, MovedSlot, Shallowed, Sixteen, SlotIn, StandingIn, cursorAt, held, lastAt, partAt}
+use Rattle.slot_rows.proofs.Rows.{cur-inside, doc-in-array, last-is, last-small}
+use Rattle.term_scorer.specs.Inner.Slots.{Held, MovedSlot, Shallowed, Sixteen, SlotIn, cursorAt, held, lastAt, partAt}
 use Rattle.term_scorer.specs.Inner.Weights.{Bounded, BoundKept, FloatRow}
+use Rattle.term_scorer.proofs.Bounds.{bounded-kept, bounded-off, bounded-place, bounded-sixteen, kept-moved, others-kept}
 use Rattle.intersection_window.specs.Inner.Scorers.{InOrder, Query, Ready, SlotsIn, StillKept, BoundsKept, Unmoved, listIn, scorerAt, scorersBetween, slotAt}
 use Rattle.intersection_window.proofs.Parts.{part-same}
 
@@ -44,9 +44,6 @@ unmoved-trans u v = record { place = v .place ∙ u .place; docs = v .docs ∙ u
 other : {A : Type 0} (xss yss : List (List A)) (q r : ℕ) (row : List A) → yss ≡ set xss q row → (r ≡ q → ⊥) → getD yss r [] ≡ getD xss r []
 other xss yss q r row e n = ap (λ (z : List (List _)). getD z r []) e ∙ getD-set-other xss q r row [] n
 
-bound-same : (l : Postings Float) (c c′ : Cursor) → c′ .blk ≡ c .blk → c′ .loaded ≡ c .loaded → blockMax 128 f32 l c′ ≡ blockMax 128 f32 l c
-bound-same l c c′ e f = rw (e, f)
-
 -- a skip reader that moves alone moves its scorer
 pub shallow-moves : {file : List ℕ} {lists : List (List ℕ)} {q : ℕ} {to : Scoring → Cursor} {h : Held} {places′ : List (List ℕ)} → SlotIn file lists h q
     → Shallowed file lists q to (h .places) places′ → MovedSlot file lists q to h (held places′ (h .docs) (h .freqs)) (docIn file (partAt lists q) (cursorAt (h .places) q .at))
@@ -56,9 +53,6 @@ shallow-moves {q = q} {h = h} S M = record {
   freqs-only = sym (set-getD (h .freqs) q []);
   moved = M .moved (getD (h .docs) q []) (getD (h .freqs) q []) (S .place);
 }
-
-pub standing-in : {file : List ℕ} {lists : List (List ℕ)} {q : ℕ} {h : Held} → SlotIn file lists h q → StandingIn file lists (h .places) q
-standing-in S = record { sixteen = S .sixteen .0; part-row = S .part-row; list = S .list; standing = S .place .standing }
 
 module _ (x : Query) {h h′ : Held} (S : SlotsIn x h) {q : ℕ} (hq : q < x .len) where
   seated-by : Sixteen (h′ .places) × Sixteen (h′ .docs) × Sixteen (h′ .freqs) → Only q h h′
@@ -95,7 +89,7 @@ module _ (x : Query) {h h′ : Held} (S : SlotsIn x h) {q : ℕ} (hq : q < x .le
     pub still-kept : StillKept x (h .places) (h′ .places)
     still-kept bounds B =
         at-slot (λ r. r < x .len → BoundKept (x .scoring) (x .file) (x .lists) (h′ .places) bounds r) q
-        (λ _ known. let w = M .moved .bound-is known in B q hq (w .0) ∙ sym (bound-same (listIn x q) (cursorAt (h .places) q) (cursorAt (h′ .places) q) (w .1) (w .2)))
+        (λ _. kept-moved (listIn x q) q (M .moved .bound-is) (M .moved .ahead-is) (B q hq))
         (λ r n hr. let u = moved-only r n .place in rw u (B r hr))
 
     -- the moved scorer is the route's
@@ -145,33 +139,30 @@ module _ (x : Query) (few : x .len ≤ 16) {h : Held} (S : SlotsIn x h) {q : ℕ
   abbrev h′ : Held
   h′ = held places′ (h .docs) (h .freqs)
 
-  row-there : getD places′ q [] ≡ set (getD (h .places) q []) 7 (B .flag)
-  row-there = let s = S .sixteen .0 in ap (λ (z : List (List ℕ)). getD z q []) (B .places-are) ∙ getD-set-same (h .places) q (set (getD (h .places) q []) 7 (B .flag)) [] (omega arith)
-
   pub known-only : Only q h h′
-  known-only r n = record { place = other (h .places) places′ q r _ (B .places-are) n; docs = refl; freqs = refl }
+  known-only r n = record { place = bounded-off B r n; docs = refl; freqs = refl }
+
+  there : PlaceIn (x .file) (partAt (x .lists) q) (getD places′ q []) (getD (h .docs) q []) (getD (h .freqs) q []) × (cursorAt places′ q ≡ cursorAt (h .places) q)
+  there = bounded-place B (omega arith) (S .sixteen .0) (S .slot q hq .place)
 
   pub known-cursor : cursorAt places′ q ≡ cursorAt (h .places) q
-  known-cursor = ap cursorIn row-there ∙ bound-in (x .file) (partAt (x .lists) q) (B .flag) (S .slot q hq .place) .1
+  known-cursor = there .1
 
   known-seated : SlotsIn x h′
-  known-seated =
-      seated-by x S hq (ap length (B .places-are) ∙ length-set (h .places) q _ ∙ S .sixteen .0, S .sixteen .1, S .sixteen .2) known-only
-      (rw row-there (bound-in (x .file) (partAt (x .lists) q) (B .flag) (S .slot q hq .place) .0))
+  known-seated = seated-by x S hq (bounded-sixteen B (S .sixteen .0), S .sixteen .1, S .sixteen .2) known-only (there .0)
 
-  module _ (long : FloatRow bounds) where
-    pub known-bound : getD bounds′ q nan ≡ blockMax 128 f32 (listIn x q) (cursorAt (h .places) q)
-    known-bound = ap (λ (z : List Float). getD z q nan) (B .bounds-are) ∙ getD-set-same bounds q b nan (omega arith) ∙ B .bound-is
+  pub known-bound : getD bounds′ q nan ≡ blockMax 128 f32 (listIn x q) (cursorAt (h .places) q)
+  known-bound = B .bound-there ∙ B .bound-is
 
-    pub known-others : (r : ℕ) → (r ≡ q → ⊥) → getD bounds′ r nan ≡ getD bounds r nan
-    known-others r n = ap (λ (z : List Float). getD z r nan) (B .bounds-are) ∙ getD-set-other bounds q r b nan n
+  pub known-others : (r : ℕ) → r < x .len → (r ≡ q → ⊥) → getD bounds′ r nan ≡ getD bounds r nan
+  known-others r hr n = B .others r (omega arith) n .bound
 
-    pub known-ready : BoundsKept x (h .places) bounds → Ready x h′ bounds′
-    known-ready K = record {
-      seated = known-seated;
-      kept =
-          at-slot (λ r. r < x .len → BoundKept (x .scoring) (x .file) (x .lists) places′ bounds′ r) q
-          (λ _ _. known-bound ∙ ap (blockMax 128 f32 (listIn x q)) (sym known-cursor))
-          (λ r n hr. let u = known-only r n .place in rw u (λ k. known-others r n ∙ K r hr k));
-      long = ap length (B .bounds-are) ∙ length-set bounds q b ∙ long;
-    }
+  pub known-ready : FloatRow bounds → BoundsKept x (h .places) bounds → Ready x h′ bounds′
+  known-ready long K = record {
+    seated = known-seated;
+    kept =
+        at-slot (λ r. r < x .len → BoundKept (x .scoring) (x .file) (x .lists) places′ bounds′ r) q
+        (λ _. bounded-kept B (omega arith) (S .sixteen .0) (S .slot q hq .place))
+        (λ r n hr. others-kept B (omega arith) (S .sixteen .0) r (omega arith) n (K r hr));
+    long = B .long ∙ long;
+  }

@@ -120,7 +120,7 @@ pub fn next_window(
 {
     let leader = order[0];
     slot::seek_block(file, lists, leader, doc, places);
-    let leader_block_max = score::block_max(
+    let leader_block_max = score::new_block_max(
         file,
         similarity,
         lists,

@@ -49,18 +49,18 @@ module _ (scoring : Scoring) (file query : List ℕ) (a : Tables) (scorers : Lis
   -- on its first posting a scorer has passed nothing
   rests : (q : ℕ) → q < length query → RestsFrom scoring file (a .lists) 0 (a .held) q
   rests q l =
-      let S = Q .open-slots q l in
+      let S = Q .open-slots q l .fresh in
       let F = fresh-is 128 (documents file) (listAt scoring file (a .lists) q) (ok scoring file (a .lists) q (S .slot)) in
       record {
         slot = S .slot;
-        wf = subst (Wf 128 (listAt scoring file (a .lists) q)) (sym (S .cursor-is)) (F .0);
-        past = subst (λ (c : Cursor). Past 128 (listAt scoring file (a .lists) q) c 0) (sym (S .cursor-is)) (F .1 0);
+        wf = subst (Wf 128 (listAt scoring file (a .lists) q)) (sym (S .first)) (F .0);
+        past = subst (λ (c : Cursor). Past 128 (listAt scoring file (a .lists) q) c 0) (sym (S .first)) (F .1 0);
         low = omega arith;
       }
 
   -- lists as `open_lists` leaves them stand at document 0
   pub scan-begins : length query ≤ 16 → (all : Bool) → PlainStands scoring file (a .lists) (a .caches) (a .held) (record { len = length query; all = all; doc = 0 })
-  scan-begins few all = record { few = few; cap = omega arith; weighed = λ q l. Q .open-slots q l .weighed; each = rests }
+  scan-begins few all = record { few = few; cap = omega arith; weighed = λ q l. Q .open-slots q l .fresh .weighed; each = rests }
 
   as-many : (numbers : List ℕ) → length (queried scoring file numbers) ≡ length numbers
   unfolding queried

@@ -4,20 +4,22 @@ use bm25::Bm25Weight;
 use bm25::Scoring;
 use fieldnorm::FieldNormReader;
 use notefile::part::Part;
+use notefile::skip::read_skip_entry;
 use skip_reader::skip::BlockInfo;
 ghost use mathlib.Core.Path.{_≡_};
-ghost use Prim.Native.Nat.{_≤_};
-ghost use lib.ListN.{getD};
+ghost use Prim.Native.Nat.{min, _-_, _≤_};
+ghost use lib.ListN.{getD, length};
 ghost use lib.Ieee.{nan};
-ghost use Rattle.arrays.specs.Lent.{before};
+ghost use Rattle.arrays.specs.Lent.{before, after};
 ghost use Rattle.route.specs.Cursor.{blockMax};
 ghost use Rattle.route.specs.F32.{f32};
 ghost use Rattle.bm25.specs.Scoring.{scored};
 ghost use Rattle.notefile.specs.Header.{normReader};
+ghost use Rattle.notefile.specs.Lists.{fullBlocks};
 ghost use Rattle.notefile.specs.Inner.Given.{WeightIn};
 ghost use Rattle.notefile.specs.Inner.Reads.{scoreAmong};
 ghost use Rattle.decoded.specs.Lists.{listOf};
-ghost use Rattle.postings.specs.Inner.Bounds.{mostOf};
+ghost use Rattle.postings.specs.Inner.Bounds.{BoundsAhead, mostOf};
 ghost use Rattle.skip_reader.specs.Inner.Decoded.{ListIn};
 ghost use Rattle.postings.specs.Inner.Places.{Placed, cursorOf};
 
@@ -87,5 +89,40 @@ pub fn block_max_score(
             }
             w.max_score(scoring)
         }
+    }
+}
+
+// How many of the seven blocks from block b on are full.
+fn full_ahead(blocks: usize, b: usize) -> usize
+    requires { ⌜ b ≤ blocks ⌝ }
+    ensures { λ r. ⌜ r ≡ min (blocks - b) 7 ⌝ }
+{
+    if blocks - b < 7 {
+        return blocks - b;
+    }
+    7
+}
+
+// The bounds of the seven blocks from block b on, as far as they are full, into a row from place `at` on: one struct serves them all.
+pub fn bounds_ahead(
+    file: &[u8],
+    x: Part,
+    w: Bm25Weight,
+    scoring: Scoring,
+    b: usize,
+    at: usize,
+    bounds: &mut [f32; 128],
+)
+    requires { ⌜ ListIn (now file) x × WeightIn x w × (b ≤ fullBlocks x) × (at ≤ 121) × (length (now bounds) ≡ 128) ⌝ }
+    ensures { λ _. ⌜ BoundsAhead (listOf scoring (before file) x) b at (before bounds) (after bounds) ⌝ }
+{
+    let n = full_ahead(x.count / 128, b);
+    let mut k = 0usize;
+    while k < n {
+        let e = read_skip_entry(file, x, b + k);
+        let code = e.norm_code as usize;
+        let bound = bm25::bound_at(scoring, w.weight, w.cache[code], e.freq_code);
+        bounds[at + k] = bound;
+        k += 1;
     }
 }

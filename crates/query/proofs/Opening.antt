@@ -101,18 +101,20 @@ module _ (scoring : Scoring) (file : List ℕ) (l q : ℕ) (h : q < 16) {x : Par
   pub one-opened : OneOpened scoring file l q a b (record { doc = doc; «max_score» = max-score; slot = q })
   one-opened = record {
     open-slot = record {
-      slot = record {
-        sixteen = (same-long (a .held .places) q _ (O .opened .places-only) (R .places), same-long (a .held .docs) q _ (O .opened .docs-only) (R .docs), same-long (a .held .freqs) q _ (O .opened .freqs-only) (R .freqs));
-        part-row = subst PartRow (sym row-is) (O .part-row);
-        list = subst (ListIn file) (sym part-there) L;
-        place = O .opened .moved .place;
+      fresh = record {
+        slot-in = h;
+        slot = record {
+          sixteen = (same-long (a .held .places) q _ (O .opened .places-only) (R .places), same-long (a .held .docs) q _ (O .opened .docs-only) (R .docs), same-long (a .held .freqs) q _ (O .opened .freqs-only) (R .freqs));
+          part-row = subst PartRow (sym row-is) (O .part-row);
+          list = subst (ListIn file) (sym part-there) L;
+          place = O .opened .moved .place;
+        };
+        first = O .opened .moved .cursor-is Unstepped;
+        weighed = norms-there;
+        top = top-kept scoring file lists′ q max-score h (ap (λ (z : List ℕ). getD z 7 0) row-is) (max-fits scoring K W max-known) (max-number scoring K W max-known) part-there max-there;
+        unkept = O .unkept;
       };
       part-is = part-there ∙ part-is;
-      cursor-is = O .opened .moved .cursor-is Unstepped;
-      weighed = norms-there;
-      top = top-kept scoring file lists′ q max-score h (ap (λ (z : List ℕ). getD z 7 0) row-is) (max-fits scoring K W max-known) (max-number scoring K W max-known) part-there max-there;
-      unknown = O .unknown;
-      unscored = O .unscored;
     };
     only = record {
       lists = O .lists-only ∙ ap (set (a .lists) q) (sym row-is);
@@ -148,17 +150,20 @@ module _ (scoring : Scoring) (file : List ℕ) (a b : Tables) (n : ℕ) (O : Onl
       let ep = other (a .held .places) q n _ [] (O .places) ne in
       let ed = other (a .held .docs) q n _ [] (O .docs) ne in
       let ef = other (a .held .freqs) q n _ [] (O .freqs) ne in
+      let F = S .fresh in
       record {
-        slot = record { sixteen = (R .places, R .docs, R .freqs); part-row = rw el (S .slot .part-row); list = rw el (S .slot .list); place = rw (el, ep, ed, ef) (S .slot .place) };
-        part-is = rw el (S .part-is);
-        cursor-is = rw ep (S .cursor-is);
-        weighed = rw (el, ec) (S .weighed);
-        top = record {
-          read = record { slot-in = S .top .read .slot-in; small = rw el (S .top .read .small); number = subst (λ (z : List ℕ). T (not (nanBits binary32 (getD z 7 0)))) (sym el) (S .top .read .number) };
-          top-is = rw el (S .top .top-is);
+        fresh = record {
+          slot-in = F .slot-in;
+          slot = record { sixteen = (R .places, R .docs, R .freqs); part-row = rw el (F .slot .part-row); list = rw el (F .slot .list); place = rw (el, ep, ed, ef) (F .slot .place) };
+          first = rw ep (F .first);
+          weighed = rw (el, ec) (F .weighed);
+          top = record {
+            read = record { slot-in = F .slot-in; small = rw el (F .top .read .small); number = subst (λ (z : List ℕ). T (not (nanBits binary32 (getD z 7 0)))) (sym el) (F .top .read .number) };
+            top-is = rw el (F .top .top-is);
+          };
+          unkept = rw ep (F .unkept);
         };
-        unknown = rw ep (S .unknown);
-        unscored = rw ep (S .unscored);
+        part-is = rw el (S .part-is);
       }
 
 -- and so are the slots behind
@@ -244,7 +249,7 @@ module _ (scoring : Scoring) (file query : List ℕ) (a : Tables) (scorers : Lis
       let F = Q .open-slots q h in
       ap scorerIn (Q .scorers-are q h)
       ∙ ap (λ (x : Part). record { ord = q; list = listOf scoring file x; cur = cursorAt (a .held .places) q }) (F .part-is ∙ ap (partOf file) e)
-      ∙ ap (λ (c : Cursor). record { ord = q; list = postingsOf scoring file l; cur = c }) (F .cursor-is)
+      ∙ ap (λ (c : Cursor). record { ord = q; list = postingsOf scoring file l; cur = c }) (F .fresh .first)
 
   scorers-from : (ls : List ℕ) (i : ℕ) → length query ≤ 16 → i + length ls ≡ length query → ((k : ℕ) → k < length ls → getD query (i + k) 0 ≡ getD ls k 0)
       → map scorerIn (take (length ls) (drop i scorers)) ≡ scorersFrom i (queried scoring file ls)

@@ -112,11 +112,7 @@ module _ (similarity : Similarity) (file query : List ℕ) (norms-are : similari
     long = room;
     norms-are = norms-are;
     sixteen = (Q .room .places, Q .room .docs, Q .room .freqs);
-    slot = λ q h. Q .open-slots q h .slot;
-    weighed = λ q h. Q .open-slots q h .weighed;
-    top = λ q h. Q .open-slots q h .top;
-    unknown = λ q h. Q .open-slots q h .unknown;
-    first = λ q h. Q .open-slots q h .cursor-is;
+    each = λ q h. Q .open-slots q h .fresh;
   }
 
 module _ (similarity : Similarity) (file query : List ℕ) (norms-are : similarity .norms ≡ normReader file) (few : length query ≤ 16)
@@ -157,25 +153,19 @@ module _ (similarity : Similarity) (file query : List ℕ) (norms-are : similari
   one-opened : (q : ℕ) → q < n → Opened (getD scorers q noScorer)
   one-opened q h =
       let S = Q .open-slots q h in
-      let at-is : cursorAt (a .held .places) q .at ≡ 0 = ap (λ (c : Cursor). c .at) (S .cursor-is) in
+      let at-is : cursorAt (a .held .places) q .at ≡ 0 = ap (λ (c : Cursor). c .at) (S .fresh .first) in
       let d : docIn file (partOf file (getD query q 0)) 0 ≡ docIn file (partAt (a .lists) q) (cursorAt (a .held .places) q .at) =
       first-doc q h ∙ ap (docIn file (partAt (a .lists) q)) (sym at-is) in
       subst Opened (sym (Q .scorers-are q h))
       (record {
         as-opened = record {
-          slot-in = omega (arith, h, few);
-          slot = S .slot;
-          first = S .cursor-is;
-          weighed = S .weighed;
-          top = S .top;
-          unknown = S .unknown;
-          unscored = S .unscored;
+          opened = S .fresh;
           scorer-is = ap (λ (k : ℕ). record { doc = k; «max_score» = listOf scoring file (partOf file (getD query q 0)) .top; slot = q }) d
               ∙ ap (λ (x : Part). record { doc = docIn file (partAt (a .lists) q) (cursorAt (a .held .places) q .at); «max_score» = listOf scoring file x .top; slot = q }) (sym (S .part-is));
         };
         doc = doc-is file (partAt (a .lists) q) scoring (cursorAt (a .held .places) q .at) ∙ sym d;
         slot-in = h;
-        scorer-is = ap (λ (c : Cursor). record { ord = q; list = listAt scoring file (a .lists) q; cur = c }) (S .cursor-is);
+        scorer-is = ap (λ (c : Cursor). record { ord = q; list = listAt scoring file (a .lists) q; cur = c }) (S .fresh .first);
         doc-is = first-doc q h;
       })
 
@@ -201,11 +191,11 @@ module _ (similarity : Similarity) (file query : List ℕ) (norms-are : similari
     single-begun : (m : Mode) → W₁ ≡ route 128 f32 (modeOf m) (queried scoring file query) → Begins m (singleFrom s)
     single-begun m e =
         let F = O .as-opened in
-        let z = single-begins norms-are (F .slot-in) (F .slot) (F .first) (F .unknown) (F .weighed) rows (O .doc-is) in
+        let z = single-begins norms-are (F .opened) rows (O .doc-is) in
         let first : at (singleFrom s) ≡ place.single (onlyScorer file similarity (a .lists) (a .caches) (s .slot)) (W₁ .first) =
         ap (place.single (onlyScorer file similarity (a .lists) (a .caches) (s .slot))) (z .1 (s .slot)) in
         let R = runs-by e (subst (Runs W₁) (sym first) (runs-single (onlyScorer file similarity (a .lists) (a .caches) (s .slot)))) in
-        record { stands = z .0; kept = (ok scoring file (a .lists) (s .slot) (F .slot), z .0 .kept); runs-are = R; list-is = lists-by R }
+        record { stands = z .0; kept = (ok scoring file (a .lists) (s .slot) (F .opened .slot), z .0 .kept); runs-are = R; list-is = lists-by R }
 
   by-query : (qs : List ℕ) → length qs ≡ 1 → listAt scoring file (a .lists) 0 ≡ postingsOf scoring file (getD qs 0 0)
       → blockWandSingleScorer 128 f32 (onlyScorer file similarity (a .lists) (a .caches) 0) ≡ ofOne 128 f32 (scorersFrom 0 (queried scoring file qs))
@@ -321,5 +311,5 @@ module _ (similarity : Similarity) (file query : List ℕ) (norms-are : similari
             ends-in (runs-plain H) K [] list
             (subst (Ends K (scanRoute H) []) (scan-ext f32 K H (plain.hit f32 (modeOf m) (queried scoring file query))
             (λ d. ap (λ (b : Bool). hitsOf scoring file (a .lists) n b d) e ∙ same-hits scoring file query a scorers Q (modeOf m) d) (documents file) 0 [] ∙ sym l)
-            (scan-ends H K (documents file) small (none-behind scoring file (a .lists) n all (λ q h. Q .open-slots q h .slot)) []));
+            (scan-ends H K (documents file) small (none-behind scoring file (a .lists) n all (λ q h. Q .open-slots q h .fresh .slot)) []));
       }

@@ -40,7 +40,7 @@ pub fn answer(
     let mut lists = [[0usize; 8]; 16];
     let mut caches = [[0.0f32; 256]; 16];
     let mut order = [0usize; 16];
-    let mut places = [[0usize; 9]; 16];
+    let mut places = [[0usize; 10]; 16];
     let mut docs = [[0u32; 128]; 16];
     let mut freqs = [[0u32; 128]; 16];
     let mut floats = [[0.0f32; 128]; 18];

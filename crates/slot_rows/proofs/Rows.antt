@@ -60,37 +60,41 @@ module _ (file : List ℕ) (x : Part) where
     unfolding postingsIn readerAt
     last-is = ap (λ (z : List ℕ). getD z 3 0) (S .row-is)
 
-  place-back : (p : SegmentPostings) (k m : ℕ) → Stands file x (p .«skip_reader») → postingsIn file x (placeRow p k m) ≡ p
+  place-back : (p : SegmentPostings) (k m a : ℕ) → Stands file x (p .«skip_reader») → postingsIn file x (placeRow p k m a) ≡ p
   unfolding postingsIn
-  place-back p k m s =
+  place-back p k m a s =
       ap (λ (r : SkipReader). record { «skip_reader» = r; «block_loaded» = eqb (flag (p .«block_loaded»)) 1; decoded = p .decoded; cur = p .cur }) (sym s)
       ∙ ap (λ (b : Bool). record { «skip_reader» = p .«skip_reader»; «block_loaded» = b; decoded = p .decoded; cur = p .cur }) (flag-back (p .«block_loaded»))
 
   -- the row of a place that the arrays hold
-  kept-in : (p : SegmentPostings) (k m : ℕ) {docs freqs : List ℕ} → Narrow p → Placed file x p docs freqs → PlaceIn file x (placeRow p k m) docs freqs
-  kept-in p k m {docs} {freqs} n P =
-      let e = place-back p k m (P .stands) in
+  kept-in : (p : SegmentPostings) (k m a : ℕ) {docs freqs : List ℕ} → Narrow p → Placed file x p docs freqs → PlaceIn file x (placeRow p k m a) docs freqs
+  kept-in p k m a {docs} {freqs} n P =
+      let e = place-back p k m a (P .stands) in
       record {
-        standing = record { row-is = ap (λ (q : SegmentPostings). placeRow q k m) (sym e); narrow = subst Narrow (sym e) n; low = P .low };
+        standing = record { row-is = ap (λ (q : SegmentPostings). placeRow q k m a) (sym e); narrow = subst Narrow (sym e) n; low = P .low };
         placed = subst (λ (q : SegmentPostings). Placed file x q docs freqs) (sym e) P;
       }
 
   -- what is known of its blocks moves nothing
-  told-in : {row row′ docs freqs : List ℕ} (k m : ℕ) → row′ ≡ placeRow (postingsIn file x row) k m → PlaceIn file x row docs freqs
+  told-in : {row row′ docs freqs : List ℕ} (k m a : ℕ) → row′ ≡ placeRow (postingsIn file x row) k m a → PlaceIn file x row docs freqs
       → PlaceIn file x row′ docs freqs × (cursorIn row′ ≡ cursorIn row)
-  told-in {row} {row′} {docs} {freqs} k m e P =
+  told-in {row} {row′} {docs} {freqs} k m a e P =
       let p = postingsIn file x row in (
-        subst (λ (z : List ℕ). PlaceIn file x z docs freqs) (sym e) (kept-in p k m (P .standing .narrow) (P .placed)),
-        ap cursorIn e ∙ sym (cursor-is (placeRow p k m)) ∙ ap cursorOf (place-back p k m (P .placed .stands)) ∙ cursor-is row,
+        subst (λ (z : List ℕ). PlaceIn file x z docs freqs) (sym e) (kept-in p k m a (P .standing .narrow) (P .placed)),
+        ap cursorIn e ∙ sym (cursor-is (placeRow p k m a)) ∙ ap cursorOf (place-back p k m a (P .placed .stands)) ∙ cursor-is row,
       )
 
   -- to know its bound, or not
   pub bound-in : (k : ℕ) {row docs freqs : List ℕ} → PlaceIn file x row docs freqs → PlaceIn file x (set row 7 k) docs freqs × (cursorIn (set row 7 k) ≡ cursorIn row)
-  bound-in k {row} P = told-in k (getD row 8 0) (ap (λ (z : List ℕ). set z 7 k) (P .standing .row-is)) P
+  bound-in k {row} P = told-in k (getD row 8 0) (getD row 9 0) (ap (λ (z : List ℕ). set z 7 k) (P .standing .row-is)) P
 
   -- to have made the scores of its decoded block, or not
   pub scores-in : (k : ℕ) {row docs freqs : List ℕ} → PlaceIn file x row docs freqs → PlaceIn file x (set row 8 k) docs freqs × (cursorIn (set row 8 k) ≡ cursorIn row)
-  scores-in k {row} P = told-in (getD row 7 0) k (ap (λ (z : List ℕ). set z 8 k) (P .standing .row-is)) P
+  scores-in k {row} P = told-in (getD row 7 0) k (getD row 9 0) (ap (λ (z : List ℕ). set z 8 k) (P .standing .row-is)) P
+
+  -- to have bounds that stand ready, or not
+  pub ahead-in : (k : ℕ) {row docs freqs : List ℕ} → PlaceIn file x row docs freqs → PlaceIn file x (set row 9 k) docs freqs × (cursorIn (set row 9 k) ≡ cursorIn row)
+  ahead-in k {row} P = told-in (getD row 7 0) (getD row 8 0) k (ap (λ (z : List ℕ). set z 9 k) (P .standing .row-is)) P
 
   -- a row's document, whatever the scoring
   here : (p : SegmentPostings) {docs freqs : List ℕ} → Placed file x p docs freqs → {doc : ℕ} → Here p docs doc → doc ≡ docIn file x (cursorOf p .at)
@@ -98,14 +102,14 @@ module _ (file : List ℕ) (x : Part) where
 
   module _ (p : SegmentPostings) {docs freqs : List ℕ} (n : Narrow p) (to : Scoring → Cursor) (M : Moved file x to p docs freqs) where
     -- a place that has moved, kept in a row
-    kept-row : {row row′ : List ℕ} (k m : ℕ) → row′ ≡ placeRow p k m → {doc : ℕ} → Here p docs doc
+    kept-row : {row row′ : List ℕ} (k m a : ℕ) → row′ ≡ placeRow p k m a → {doc : ℕ} → Here p docs doc
         → (k ≡ 1 → (getD row 7 0 ≡ 1) × (cursorOf p .blk ≡ cursorIn row .blk) × (cursorOf p .loaded ≡ cursorIn row .loaded))
-        → (m ≡ 1 → (getD row 8 0 ≡ 1) × (cursorOf p .dec ≡ cursorIn row .dec)) → MovedRow file x to row row′ docs freqs doc
-    kept-row {row} {row′} k m e {doc} h known made =
+        → (m ≡ 1 → (getD row 8 0 ≡ 1) × (cursorOf p .dec ≡ cursorIn row .dec)) → ((b : ℕ) → a ≡ suc b → getD row 9 0 ≡ suc b) → MovedRow file x to row row′ docs freqs doc
+    kept-row {row} {row′} k m a e {doc} h known made ready =
         let P = M .placed in
-        let c : cursorIn row′ ≡ cursorOf p = ap cursorIn e ∙ sym (cursor-is (placeRow p k m)) ∙ ap cursorOf (place-back p k m (P .stands)) in
+        let c : cursorIn row′ ≡ cursorOf p = ap cursorIn e ∙ sym (cursor-is (placeRow p k m a)) ∙ ap cursorOf (place-back p k m a (P .stands)) in
         record {
-          place = subst (λ (z : List ℕ). PlaceIn file x z docs freqs) (sym e) (kept-in p k m n P);
+          place = subst (λ (z : List ℕ). PlaceIn file x z docs freqs) (sym e) (kept-in p k m a n P);
           cursor-is = λ s. c ∙ M .cursor-is s;
           doc-is = here p P h ∙ ap (λ (z : Cursor). docIn file x (z .at)) (sym c);
           bound-is = λ b.
@@ -114,10 +118,12 @@ module _ (file : List ℕ) (x : Part) where
           scores-is = λ b.
               let w = made (sym (ap (λ (z : List ℕ). getD z 8 0) e) ∙ b) in
               (w .0, ap (λ (z : Cursor). z .dec) c ∙ w .1);
+          ahead-is = λ b u. ready b (sym (ap (λ (z : List ℕ). getD z 9 0) e) ∙ u);
         }
 
-    pub moved-row : {row row′ : List ℕ} → row′ ≡ placeRow p 0 0 → {doc : ℕ} → Here p docs doc → MovedRow file x to row row′ docs freqs doc
-    moved-row e h = kept-row 0 0 e h (λ k. absurd (omega (arith, k))) (λ k. absurd (omega (arith, k)))
+    pub moved-row : {row row′ : List ℕ} (a : ℕ) → row′ ≡ placeRow p 0 0 a → {doc : ℕ} → Here p docs doc → ((b : ℕ) → a ≡ suc b → getD row 9 0 ≡ suc b)
+        → MovedRow file x to row row′ docs freqs doc
+    moved-row a e h ready = kept-row 0 0 a e h (λ k. absurd (omega (arith, k))) (λ k. absurd (omega (arith, k))) ready
 
 -- what functions of a part ask of the one that a row stands for
 module _ (file list : List ℕ) {y : Part} (part-is : y ≡ partIn list) where
@@ -142,8 +148,8 @@ module _ (file list row : List ℕ) (move : Postings Float → Cursor → Cursor
         let e = subst (λ (z : Part). q ≡ postingsIn file z row) part-is place-is in
         record { cursor-is = λ s. N .cursor-is s ∙ ap (move (listOf s file x)) (ap cursorOf e ∙ cursor-is file x row); placed = N .placed }
 
-    pub moves : (p : SegmentPostings) {docs freqs : List ℕ} → Moved file y (λ s. move (listOf s file y) (cursorOf q)) p docs freqs → {row′ : List ℕ} → (row′ ≡ placeRow p 0 0) × Narrow p → {doc : ℕ} → Here p docs doc → MovedRow file x To row row′ docs freqs doc
-    moves p M k h = moved-row file x p (k .1) To (carried p M) (k .0) h
+    pub moves : (p : SegmentPostings) {docs freqs : List ℕ} → Moved file y (λ s. move (listOf s file y) (cursorOf q)) p docs freqs → {row′ : List ℕ} → (row′ ≡ placeRow p 0 0 (getD row 9 0)) × Narrow p → {doc : ℕ} → Here p docs doc → MovedRow file x To row row′ docs freqs doc
+    moves p M k h = moved-row file x p (k .1) To (carried p M) (getD row 9 0) (k .0) h (λ b u. u)
 
     -- what functions of a place ask of the one that a row stands for
     reader-is : q .«skip_reader» ≡ readerAt file y (getD row 0 0)
@@ -163,7 +169,7 @@ module _ (file list row : List ℕ) (move : Postings Float → Cursor → Cursor
 
     -- a move of the reader alone, which keeps the place
     module _ (same-at : (s : Scoring) → To s .at ≡ cursorIn row .at) where
-      pub moves-shallow : (p : SegmentPostings) → Shallow file y (λ s. move (listOf s file y) (cursorOf q)) q p → {row′ : List ℕ} → (row′ ≡ placeRow p 0 0) × Narrow p → ShallowRow file x To row row′
+      pub moves-shallow : (p : SegmentPostings) → Shallow file y (λ s. move (listOf s file y) (cursorOf q)) q p → {row′ : List ℕ} → (row′ ≡ placeRow p 0 0 (getD row 9 0)) × Narrow p → ShallowRow file x To row row′
       moves-shallow p M {row′} k docs freqs P =
           let R = moves p (M docs freqs (placed-for P)) k (doc-here p docs) in
           record {
@@ -172,6 +178,7 @@ module _ (file list row : List ℕ) (move : Postings Float → Cursor → Cursor
             doc-is = ap (docIn file x) (sym (ap (λ (c : Cursor). c .at) (R .cursor-is Unstepped) ∙ same-at Unstepped));
             bound-is = R .bound-is;
             scores-is = R .scores-is;
+            ahead-is = R .ahead-is;
           }
 
   -- moves within the block decoded last
@@ -191,7 +198,7 @@ module _ (file list row : List ℕ) (move : Postings Float → Cursor → Cursor
     narrow-in : (cur : ℕ) → Narrow (at-cur cur)
     narrow-in cur = record { previous = P .standing .narrow .previous; last = P .standing .narrow .last }
 
-    set-cur : (cur : ℕ) → set row 6 cur ≡ placeRow (at-cur cur) (getD row 7 0) (getD row 8 0)
+    set-cur : (cur : ℕ) → set row 6 cur ≡ placeRow (at-cur cur) (getD row 7 0) (getD row 8 0) (getD row 9 0)
     set-cur cur = ap (λ (z : List ℕ). set z 6 cur) (P .standing .row-is)
 
     same-block : (cur : ℕ) → (cursorOf (at-cur cur) .blk ≡ cursorIn row .blk) × (cursorOf (at-cur cur) .loaded ≡ cursorIn row .loaded) × (cursorOf (at-cur cur) .dec ≡ cursorIn row .dec)
@@ -201,8 +208,8 @@ module _ (file list row : List ℕ) (move : Postings Float → Cursor → Cursor
     -- another posting of it
     pub moves-in : (cur : ℕ) → Moved file x To-p (at-cur cur) docs freqs → {doc : ℕ} → doc ≡ getD docs cur 0 → MovedRow file x To row (set row 6 cur) docs freqs doc
     moves-in cur M {doc} e =
-        kept-row file x (at-cur cur) (narrow-in cur) To (to-row cur M) (getD row 7 0) (getD row 8 0) (set-cur cur) (subst (Here (at-cur cur) docs) (sym e) (doc-here (at-cur cur) docs))
-        (λ k. (k, same-block cur .0, same-block cur .1)) (λ k. (k, same-block cur .2))
+        kept-row file x (at-cur cur) (narrow-in cur) To (to-row cur M) (getD row 7 0) (getD row 8 0) (getD row 9 0) (set-cur cur) (subst (Here (at-cur cur) docs) (sym e) (doc-here (at-cur cur) docs))
+        (λ k. (k, same-block cur .0, same-block cur .1)) (λ k. (k, same-block cur .2)) (λ b u. u)
 
     -- the same posting
     pub stays-in : Moved file x To-p p docs freqs → {doc : ℕ} → doc ≡ docIn file x (cursorIn row .at) → MovedRow file x To row row docs freqs doc
@@ -212,6 +219,7 @@ module _ (file list row : List ℕ) (move : Postings Float → Cursor → Cursor
       doc-is = e;
       bound-is = λ k. (k, refl, refl);
       scores-is = λ k. (k, refl);
+      ahead-is = λ b u. u;
     }
 
 -- the fast moves of a row: no struct is made
@@ -315,7 +323,7 @@ module _ (file list row : List ℕ) where
   -- it has just been decoded
   module _ {y : Part} (part-is : y ≡ partIn list) {q : SegmentPostings} (place-is : q ≡ postingsIn file y row) where
     pub first-loaded : {d f docs freqs : List ℕ} → PlaceIn file (partIn list) row d f → Decoded file y (q .«skip_reader» .block) docs freqs
-        → {row′ : List ℕ} → (row′ ≡ placeRow (on-first file y q) 0 0) × Narrow (on-first file y q)
+        → {row′ : List ℕ} → (row′ ≡ placeRow (on-first file y q) 0 0 (getD row 9 0)) × Narrow (on-first file y q)
         → MovedRow file (partIn list) (λ _. firstOf (cursorIn row)) row row′ docs freqs (getD docs 0 0)
     first-loaded {docs = docs} P D k =
         moves file list row first part-is place-is (on-first file y q) (first-of file y q (placed-for file list row first part-is place-is P) D) k

@@ -5,17 +5,18 @@ use notefile::part::Part;
 use postings::cursor::SegmentPostings;
 use skip_reader::skip::SkipReader;
 ghost use mathlib.Core.Path.{_≡_};
+ghost use lib.ListN.{getD};
 ghost use Rattle.arrays.specs.Lent.{before, after};
 ghost use Rattle.notefile.specs.Inner.Given.{BlocksIn, Limits, NormsIn, WeightIn};
 ghost use Rattle.slot_rows.specs.Inner.Rows.{partIn, partRow, PartRow, postingsIn, placeRow, Narrow, Standing};
 
 // A scorer's place, and those of all slots.
-pub type Place = [usize; 9];
+pub type Place = [usize; 10];
 
-pub type Places = [[usize; 9]; 16];
+pub type Places = [[usize; 10]; 16];
 
-// Where a place's numbers stand in its row. The last two say whether the block's bound is known,
-// and whether the scores of the block decoded last are made.
+// Where a place's numbers stand in its row. The last three say what is kept of its list: whether the block's bound is known,
+// whether the scores of the block decoded last are made, and the block behind those whose bounds stand ready, or 0.
 pub const BLOCK: usize = 0;
 
 const BYTE_OFFSET: usize = 1;
@@ -34,7 +35,9 @@ pub const BOUND: usize = 7;
 
 pub const SCORED: usize = 8;
 
-// The two values of each.
+pub const AHEAD: usize = 9;
+
+// The two values of the first two; and of the third where no bounds stand ready.
 const UNKNOWN: usize = 0;
 
 pub const KNOWN: usize = 1;
@@ -42,6 +45,8 @@ pub const KNOWN: usize = 1;
 const UNMADE: usize = 0;
 
 pub const MADE: usize = 1;
+
+pub const NOWHERE: usize = 0;
 
 // Where a part's number of postings stands in its row, and its list bound.
 pub const COUNT: usize = 2;
@@ -89,11 +94,12 @@ pub fn weight_of(list: &[usize; 8], norms: &[f32; 256]) -> Bm25Weight
     part::weight_of(x, norms)
 }
 
-// A place's numbers, put into a row. Its bound is not known, and its scores are not made.
+// A place's numbers, put into a row. Its bound is not known, and its scores are not made; bounds that stand ready still do.
 pub fn keep(p: SegmentPostings, place: &mut Place)
-    ensures { λ _. ⌜ (after place ≡ placeRow p 0 0) × Narrow p ⌝ }
+    ensures { λ _. ⌜ (after place ≡ placeRow p 0 0 (getD (before place) 9 0)) × Narrow p ⌝ }
 {
     let reader = p.skip_reader;
+    let ahead = place[AHEAD];
     let mut loaded = 0usize;
     if p.block_loaded {
         loaded = 1;
@@ -108,6 +114,7 @@ pub fn keep(p: SegmentPostings, place: &mut Place)
         p.cur,
         UNKNOWN,
         UNMADE,
+        ahead,
     ];
 }
 

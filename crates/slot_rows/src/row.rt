@@ -1,7 +1,9 @@
 // A scorer's moves over its slot's rows and arrays. Within a block they change one number or none.
+use crate::place::AHEAD;
 use crate::place::CUR;
 use crate::place::LAST;
 use crate::place::LOADED;
+use crate::place::NOWHERE;
 use crate::place::Place;
 use crate::place::keep;
 use crate::place::part_of;
@@ -20,9 +22,9 @@ ghost use Rattle.bm25.specs.declared.Scoring.{Scoring};
 ghost use Rattle.notefile.specs.Lists.{fullBlocks};
 ghost use Rattle.decoded.specs.Lists.{listOf};
 ghost use Rattle.skip_reader.specs.Inner.Decoded.{docIn, ListIn};
-ghost use Rattle.slot_rows.specs.Inner.Rows.{cursorIn, firstOf, partIn, MovedRow, PartRow, PlaceIn, ShallowRow, Standing};
+ghost use Rattle.slot_rows.specs.Inner.Rows.{cursorIn, firstOf, partIn, MovedRow, PartRow, PlaceIn, ShallowRow, Standing, Unkept};
 
-// On the list's first posting.
+// On the list's first posting. Nothing is kept of the list that had the row before.
 pub fn open(
     file: &[u8],
     x: Part,
@@ -32,10 +34,11 @@ pub fn open(
 ) -> u32
     requires { ⌜ ListIn (now file) x ⌝ }
     ensures { λ r. ⌜ MovedRow (before file) x (λ _. fresh) (before place) (after place) (after docs) (after freqs) r
-        × (getD (after place) 7 0 ≡ 0) × (getD (after place) 8 0 ≡ 0) ⌝ }
+        × Unkept (after place) ⌝ }
 {
     let p = SegmentPostings::open(file, x, docs, freqs);
     keep(p, place);
+    place[AHEAD] = NOWHERE;
     p.doc(docs)
 }
 

@@ -2,4 +2,5 @@
 pub mod Slots
 pub mod Scores
 pub mod Made
+pub mod Bounds
 pub mod Floats

@@ -8,13 +8,15 @@ use lib.ListN.{getD, length, length-set, set}
 use lib.Seq.{getD-set-other, getD-set-same}
 use lib.Ieee.{Float}
 use borrow.Author.Tests.{eqb-false, eqb-true}
+use Rattle.route.specs.Cursor.{Cursor}
 use Rattle.route.proofs.Cases.{on-test}
 use Rattle.bm25.specs.declared.Scoring.{Scoring}
 use Rattle.notefile.specs.declared.part.Part.{Part}
 use Rattle.slot_rows.specs.Inner.Rows.{cursorIn, PlaceIn}
 use Rattle.slot_rows.proofs.Rows.{scores-in}
-use Rattle.term_scorer.specs.Inner.Slots.{cursorAt, held, partAt, Sixteen, SlotIn}
-use Rattle.term_scorer.specs.Inner.Weights.{ScoresKept, ScoresMade}
+use Rattle.term_scorer.specs.Inner.Slots.{cursorAt, held, listAt, partAt, Sixteen, SlotIn}
+use Rattle.term_scorer.specs.Inner.Weights.{BoundKept, ScoresKept, ScoresMade}
+use Rattle.term_scorer.proofs.Bounds.{kept-moved}
 
 -- whether scores are made changes nothing of a place
 cursor-told : (row : List ℕ) → cursorIn (set row 8 1) ≡ cursorIn row
@@ -42,13 +44,11 @@ module _ {scoring : Scoring} {file : List ℕ} {lists : List (List ℕ)} {q : �
       (λ e. let z = eqb-true r q e in rw z (ap cursorIn row-there ∙ cursor-told (getD places q [])))
       (λ e. ap cursorIn (row-other r (eqb-false r q e)))
 
-  pub made-known : (r : ℕ) → getD (getD places′ r []) 7 0 ≡ getD (getD places r []) 7 0
-  made-known r =
+  made-number : (k : ℕ) → (k ≡ 8 → ⊥) → (r : ℕ) → getD (getD places′ r []) k 0 ≡ getD (getD places r []) k 0
+  made-number k other r =
       on-test (eqb r q)
-      (λ e.
-      let z = eqb-true r q e in
-      rw z (ap (λ (row : List ℕ). getD row 7 0) row-there ∙ getD-set-other (getD places q []) 8 7 1 0 (λ k. omega (arith, k))))
-      (λ e. ap (λ (row : List ℕ). getD row 7 0) (row-other r (eqb-false r q e)))
+      (λ e. let z = eqb-true r q e in rw z (ap (λ (row : List ℕ). getD row k 0) row-there ∙ getD-set-other (getD places q []) 8 k 1 0 other))
+      (λ e. ap (λ (row : List ℕ). getD row k 0) (row-other r (eqb-false r q e)))
 
   place-there : (x : Part) (r : ℕ) {d f : List ℕ} → PlaceIn file x (getD places r []) d f → PlaceIn file x (getD places′ r []) d f
   place-there x r P =
@@ -64,8 +64,14 @@ module _ {scoring : Scoring} {file : List ℕ} {lists : List (List ℕ)} {q : �
     place = place-there (partAt lists r) r (S .place);
   }
 
-  pub made-bounds : getD floats′ 0 [] ≡ getD floats 0 []
+  made-bounds : getD floats′ 0 [] ≡ getD floats 0 []
   made-bounds = ap (λ (z : List (List Float)). getD z 0 []) (M .floats-are) ∙ getD-set-other floats (2 + q) 0 (getD floats′ (2 + q) []) [] (λ z. omega (arith, z))
+
+  pub made-kept : (r : ℕ) → BoundKept scoring file lists places (getD floats 0 []) r → BoundKept scoring file lists places′ (getD floats′ 0 []) r
+  made-kept r K =
+      let c = made-cursor r in
+      rw made-bounds (kept-moved (listAt scoring file lists r) r
+      (λ k. (sym (made-number 7 (λ z. omega (arith, z)) r) ∙ k, ap (λ (z : Cursor). z .blk) c, ap (λ (z : Cursor). z .loaded) c)) (λ e k. sym (made-number 9 (λ z. omega (arith, z)) r) ∙ k) K)
 
   scores-other : (r : ℕ) → (r ≡ q → ⊥) → getD floats′ (2 + r) [] ≡ getD floats (2 + r) []
   scores-other r o =

@@ -1,47 +1,38 @@
 -- Scores and bounds by slot are the route's.
 use mathlib.Core.Path.{_≡_, refl, sym, ap, _∙_, subst}
-use mathlib.Core.Bool.{Bool, true, false, false≢true, cond, not, _||_}
+use mathlib.Core.Bool.{Bool, not}
 use mathlib.Core.List.{List, []}
 use mathlib.Core.Logic.{inl, inr}
-use Prim.Native.Nat.{ℕ, _+_, _≤_, _<_}
+use Prim.Native.Nat.{ℕ, _+_, _<_}
 use native.Mathlib.Omega.{arith}
-use lib.Dec.{T, eqb, ltb}
+use lib.Dec.{T}
 use lib.ListN.{getD, set}
 use lib.Seq.{getD-set-other, getD-set-same, set-getD}
 use lib.Ieee.{Float, nan, binary32, fits, isNan, nanBits, ofBits, toBits}
 use lib.Ieee.Bits.{nanBits-is, ofBits-toBits, toBits-lt}
-use borrow.Author.Tests.{eqb-true, lt-ltb, le-ltb}
+use borrow.Author.Tests.{lt-ltb, le-ltb}
 use Rattle.arrays.proofs.Order.{lt-or-ge}
 use Rattle.fieldnorm.specs.Reader.{fieldnormId}
 use Rattle.fieldnorm.specs.declared.FieldNormReader.{FieldNormReader}
-use Rattle.route.specs.Cursor.{blockMax}
-use Rattle.route.specs.F32.{f32}
 use Rattle.route.specs.Postings.{start}
-use Rattle.route.proofs.Cases.{by-test}
 use Rattle.bm25.specs.Scoring.{scored}
 use Rattle.bm25.specs.Inner.Weight.{scoreIn}
 use Rattle.bm25.specs.declared.Bm25Weight.{Bm25Weight}
 use Rattle.bm25.specs.declared.Scoring.{Scoring}
 use Rattle.bm25_block.specs.Inner.Block.{Scored}
 use Rattle.notefile.specs.Header.{normCodeOf, normReader}
-use Rattle.notefile.specs.Lists.{blockScore, fullBlocks}
+use Rattle.notefile.specs.Lists.{blockScore}
 use Rattle.notefile.specs.Inner.Given.{WeightIn}
 use Rattle.notefile.specs.declared.part.Part.{Part}
 use Rattle.notefile.proofs.Headers.{norm-code-small}
 use Rattle.notefile.proofs.Scores.{score-by-code}
 use Rattle.decoded.specs.Lists.{listOf}
 use Rattle.skip_reader.specs.Inner.Decoded.{docIn}
-use Rattle.postings.specs.Inner.Places.{cursorOf}
-use Rattle.postings.specs.declared.cursor.SegmentPostings.{SegmentPostings}
 use Rattle.postings.proofs.BlockBounds.{score-at, score-is}
-use Rattle.slot_rows.specs.Inner.Rows.{cursorIn, partIn, postingsIn, PlaceIn}
-use Rattle.slot_rows.proofs.Rows.{cursor-is}
+use Rattle.slot_rows.specs.Inner.Rows.{cursorIn, postingsIn, PlaceIn}
 use Rattle.term_scorer.specs.Inner.Slots.{listAt, partAt, cursorAt, Sixteen}
-use Rattle.term_scorer.specs.Inner.Weights.{blockMaxAt, BlockScores, BoundFound, Bounded, BoundKept, FloatRow, FloatRows, ScoresKept, ScoresMade, TopKept}
+use Rattle.term_scorer.specs.Inner.Weights.{BlockScores, FloatRow, FloatRows, ScoresKept, ScoresMade, TopKept}
 use Rattle.term_scorer.proofs.Floats.{rows-set}
-use Rattle.term_scorer.specs.declared.score.BlockMax.{BlockMax}
-use Rattle.term_scorer.specs.declared.score.BlockMax.the-variants.{Known, Unknown}
-use Rattle.term_scorer.specs.declared.score.Bound.{Bound}
 
 -- a posting with a document stands inside its list
 inside-list : (file : List ℕ) (x : Part) (at : ℕ) → docIn file x at < 2147483647 → at < x .count
@@ -125,88 +116,6 @@ module _ (scoring : Scoring) (file : List ℕ) (lists : List (List ℕ)) (q : �
         scores = rw e S;
         rows = rows-set (2 + q) scores F (omega (arith, h)) l;
       }
-
-module _ (scoring : Scoring) (file : List ℕ) (lists : List (List ℕ)) (q : ℕ) (places : List (List ℕ)) (bounds : List Float) where
-  abbrev kept : Bool
-  kept = ltb (cursorAt places q .blk) (fullBlocks (partAt lists q)) || cursorAt places q .loaded
-
-  abbrev flag : ℕ
-  flag = getD (getD places q []) 7 0
-
-  same-places : (k : ℕ) → k ≡ flag → places ≡ set places q (set (getD places q []) 7 k)
-  same-places k e = sym (ap (λ (z : ℕ). set places q (set (getD places q []) 7 z)) e ∙ ap (set places q) (set-getD (getD places q []) 7 0) ∙ set-getD places q [])
-
-  -- a bound that was known
-  pub bound-known : flag ≡ 1 → BoundKept scoring file lists places bounds q → Bounded scoring file lists q places bounds places bounds (getD bounds q nan)
-  bound-known k B = record {
-    flag = flag;
-    bound-is = B k;
-    places-are = same-places flag refl;
-    bounds-are = sym (set-getD bounds q nan);
-    flag-is = by-test (λ z. flag ≡ z) kept 1 flag (λ _. k) (λ _. refl);
-  }
-
-  -- the same, by what the slot keeps
-  pub bound-cached : BoundKept scoring file lists places bounds q → {bound : Float} {r : BlockMax} → r ≡ blockMaxAt places bounds q → r ≡ Known bound
-      → Bounded scoring file lists q places bounds places bounds bound
-  bound-cached B {bound} c e =
-      by-test (λ (z : BlockMax). z ≡ Known bound → Bounded scoring file lists q places bounds places bounds bound) (eqb flag 1) (Known (getD bounds q nan)) Unknown
-      (λ k f. subst (Bounded scoring file lists q places bounds places bounds) (known-in f) (bound-known (eqb-true flag 1 k) B))
-      (λ _ f. absurd (false≢true (ap isKnown f))) (sym c ∙ e)
-    where
-      isKnown : BlockMax → Bool
-      isKnown Unknown = false
-      isKnown (Known x) = true
-
-      valueOf : BlockMax → Float
-      valueOf Unknown = nan
-      valueOf (Known x) = x
-
-      known-in : {x y : Float} → Known x ≡ Known y → x ≡ y
-      known-in f = ap valueOf f
-
-  module _ {r : Bound} (F : BoundFound scoring file (partAt lists q) (getD places q []) r) where
-    -- one that was worked out, and is kept
-    pub bound-new : r .lasts ≡ true → Bounded scoring file lists q places bounds (set places q (set (getD places q []) 7 1)) (set bounds q (r .score)) (r .score)
-    bound-new e = record {
-      flag = 1;
-      bound-is = F .score-is;
-      places-are = refl;
-      bounds-are = refl;
-      flag-is = sym (ap (λ b. cond b 1 flag) (sym (F .lasts-is) ∙ e));
-    }
-
-    -- one of a tail that is not loaded
-    pub bound-passing : r .lasts ≡ false → Bounded scoring file lists q places bounds places (set bounds q (r .score)) (r .score)
-    bound-passing e = record {
-      flag = flag;
-      bound-is = F .score-is;
-      places-are = same-places flag refl;
-      bounds-are = refl;
-      flag-is = sym (ap (λ b. cond b 1 flag) (sym (F .lasts-is) ∙ e));
-    }
-
--- a bound of the place that a row stands for is the row's
-module _ (scoring : Scoring) (file list row : List ℕ) {y : Part} (part-is : y ≡ partIn list) {p : SegmentPostings} (place-is : p ≡ postingsIn file y row)
-    {score : Float} (score-is : score ≡ blockMax 128 f32 (listOf scoring file y) (cursorOf p)) where
-  abbrev Found : Bool → Type 0
-  Found b = BoundFound scoring file (partIn list) row (record { score = score; lasts = b })
-
-  bound-for : score ≡ blockMax 128 f32 (listOf scoring file (partIn list)) (cursorIn row)
-  bound-for =
-      let q = subst (λ (z : Part). p ≡ postingsIn file z row) part-is place-is in
-      score-is ∙ ap (λ (z : Part). blockMax 128 f32 (listOf scoring file z) (cursorOf p)) part-is ∙ ap (blockMax 128 f32 (listOf scoring file (partIn list))) (ap cursorOf q ∙ cursor-is file (partIn list) row)
-
-  pub full-found : getD row 0 0 < fullBlocks y → Found true
-  unfolding cursorIn
-  full-found h = record { score-is = bound-for; lasts-is = sym (rw (← part-is, lt-ltb (getD row 0 0) (fullBlocks y) h)) }
-
-  pub tail-found : fullBlocks y ≤ getD row 0 0 → Found (p .«block_loaded»)
-  unfolding cursorIn postingsIn
-  tail-found h = record {
-    score-is = bound-for;
-    lasts-is = ap (λ (z : SegmentPostings). z .«block_loaded») place-is ∙ sym (rw (← part-is, le-ltb (getD row 0 0) (fullBlocks y) h));
-  }
 
 -- a list bound whose bits stand in the slot's row
 pub top-kept : (scoring : Scoring) (file : List ℕ) (lists : List (List ℕ)) (q : ℕ) {x : Part} (top : Float) → q < 16 → getD (getD lists q []) 7 0 ≡ toBits binary32 top → T (fits binary32 top)

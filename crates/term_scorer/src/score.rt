@@ -5,8 +5,11 @@ use bm25::Bm25Weight;
 use bm25::Scoring;
 use fieldnorm::FieldNormReader;
 use postings::bound::block_max_score;
+use postings::bound::bounds_ahead;
+use slot_rows::place::AHEAD;
 use slot_rows::place::BLOCK;
 use slot_rows::place::BOUND;
+use slot_rows::place::COUNT;
 use slot_rows::place::CUR;
 use slot_rows::place::KNOWN;
 use slot_rows::place::MADE;
@@ -24,11 +27,12 @@ ghost use lib.Ieee.{nan};
 ghost use lib.ListN.{getD};
 ghost use Rattle.arrays.specs.Lent.{before, after};
 ghost use Rattle.notefile.specs.Header.{normReader};
+ghost use Rattle.notefile.specs.Lists.{fullBlocks};
 ghost use Rattle.notefile.specs.Inner.Given.{Limits, NormsIn, WeightIn};
 ghost use Rattle.skip_reader.specs.Inner.Decoded.{docIn, ListIn};
 ghost use Rattle.slot_rows.specs.Inner.Rows.{partIn, PartRow, PlaceIn};
-ghost use Rattle.term_scorer.specs.Inner.Slots.{cursorAt, held, listAt, partAt, SlotIn};
-ghost use Rattle.term_scorer.specs.Inner.Weights.{blockMaxAt, BlockScores, BoundFound, Bounded, BoundKept, FloatRow, FloatRows};
+ghost use Rattle.term_scorer.specs.Inner.Slots.{cursorAt, held, listAt, partAt, SlotIn, StandingIn};
+ghost use Rattle.term_scorer.specs.Inner.Weights.{blockMaxAt, BlockScores, BoundFound, Bounded, BoundKept, FloatRow, FloatRows, Readied};
 ghost use Rattle.term_scorer.specs.Inner.Weights.{ScoresKept, ScoresMade, topAt, TopRead, Weighed};
 
 // What every score of a run is made with: the file's norm codes, and stepped scores or unstepped ones.
@@ -43,7 +47,7 @@ pub enum BlockMax {
     Known(f32),
 }
 
-// The bound of a skip reader's block, and whether it is kept: that of a tail changes when the tail is loaded, so until then it is not.
+// The bound of a tail, and whether it is kept: it changes when the tail is loaded, so until then it is not.
 struct Bound {
     score: f32,
     lasts: bool,
@@ -206,8 +210,8 @@ pub fn kept_score(
     score_in(q, places, floats)
 }
 
-// The bound of the skip reader's block. It lasts unless the block is a tail that is not loaded.
-fn bound_of(
+// The bound of a tail. It lasts once the tail is loaded.
+fn tail_bound(
     file: &[u8],
     similarity: Similarity,
     list: &[usize; 8],
@@ -226,9 +230,6 @@ fn bound_of(
     let x = part_of(list);
     let p = postings_of(file, x, place);
     let score = block_max_score(file, norms, x, w, scoring, p, docs, freqs);
-    if place[BLOCK] < x.count / 128 {
-        return Bound { score, lasts: true };
-    }
     Bound {
         score,
         lasts: p.block_loaded,
@@ -246,8 +247,39 @@ fn cached(q: usize, places: &Places, bounds: &[f32; 128]) -> BlockMax
     BlockMax::Unknown
 }
 
-// The bound of slot q's block, worked out and kept.
-fn new_block_max(
+// The bound of slot q's block, a full one, where it stands ready. Else it is worked out, and those of the six blocks that follow,
+// with one copy of the struct: a skip reader goes on block by block.
+fn ready_bound(
+    file: &[u8],
+    scoring: Scoring,
+    lists: &[[usize; 8]; 16],
+    caches: &[[f32; 256]; 16],
+    q: usize,
+    block: usize,
+    places: &mut Places,
+    bounds: &mut [f32; 128],
+) -> f32
+    requires { ⌜ (q < 16) × StandingIn (now file) (now lists) (now places) q × Weighed (now lists) (now caches) q × FloatRow (now bounds)
+        × BoundKept scoring (now file) (now lists) (now places) (now bounds) q
+        × (block ≡ cursorAt (now places) q .blk) × (block < fullBlocks (partAt (now lists) q)) ⌝ }
+    ensures { λ r. ⌜ Readied scoring (before file) (before lists) q (before places) (before bounds) (after places) (after bounds) r ⌝ }
+{
+    let first = 16 + 7 * q;
+    let end = places[q][AHEAD];
+    if block < end {
+        if end <= block + 7 {
+            return bounds[first + (block + 7 - end)];
+        }
+    }
+    let x = part_of(&lists[q]);
+    let w = weight_in(lists, caches, q);
+    bounds_ahead(file, x, w, scoring, block, first, bounds);
+    places[q][AHEAD] = block + 7;
+    bounds[first]
+}
+
+// The bound of slot q's block, found and kept.
+pub fn new_block_max(
     file: &[u8],
     similarity: Similarity,
     lists: &[[usize; 8]; 16],
@@ -260,11 +292,20 @@ fn new_block_max(
 ) -> f32
     requires { let slots = held (now places) (now docs) (now freqs) in
         ⌜ (q < 16) × (similarity .norms ≡ normReader (now file)) × SlotIn (now file) (now lists) slots q
-        × Weighed (now lists) (now caches) q × FloatRow (now bounds) ⌝ }
+        × Weighed (now lists) (now caches) q
+        × BoundKept (similarity .scoring) (now file) (now lists) (now places) (now bounds) q × FloatRow (now bounds) ⌝ }
     ensures { λ r.
         ⌜ Bounded (similarity .scoring) (before file) (before lists) q (before places) (before bounds) (after places) (after bounds) r ⌝ }
 {
-    let bound = bound_of(
+    let block = places[q][BLOCK];
+    if block < lists[q][COUNT] / 128 {
+        let scoring = similarity.scoring;
+        let bound = ready_bound(file, scoring, lists, caches, q, block, places, bounds);
+        bounds[q] = bound;
+        places[q][BOUND] = KNOWN;
+        return bound;
+    }
+    let bound = tail_bound(
         file,
         similarity,
         &lists[q],
@@ -280,8 +321,7 @@ fn new_block_max(
     bound.score
 }
 
-// The bound of slot q's block, worked out once for each block that its skip reader comes to or loads.
-// In a loop over scorers most bounds are known, and this much can stand in the loop.
+// `new_block_max` for a loop over scorers: most bounds are known, and this much can stand in the loop.
 pub fn block_max(
     file: &[u8],
     similarity: Similarity,

@@ -1,18 +1,17 @@
 -- Where a run begins: what its slots hold, and the route's first place.
 use mathlib.Core.Path.{_≡_}
-use mathlib.Core.List.{List, [], _∷_, map}
+use mathlib.Core.List.{List, _∷_, map}
 use Prim.Native.Nat.{ℕ, _≤_, _<_}
 use lib.ListN.{drop, getD, take}
 use lib.Ieee.{Float}
 use Rattle.route.specs.F32.{f32}
 use Rattle.route.specs.Ordering.{sortBy}
 use Rattle.route.specs.Score.{sum}
-use Rattle.route.specs.Cursor.{fresh}
 use Rattle.route.specs.Scorer.{scorersFrom, sizeHint}
 use Rattle.route.specs.Intersection.{leaderRoute}
 use Rattle.notefile.specs.Header.{normReader}
-use Rattle.term_scorer.specs.Inner.Slots.{Held, Sixteen, SlotIn, cursorAt, listsFrom}
-use Rattle.term_scorer.specs.Inner.Weights.{FloatRows, TopKept, topAt, Weighed}
+use Rattle.term_scorer.specs.Inner.Slots.{Held, Sixteen, listsFrom}
+use Rattle.term_scorer.specs.Inner.Weights.{FloatRows, FreshSlot, topAt}
 use Rattle.intersection_window.specs.Inner.Scorers.{Query, leaderIn, scorerAt, scorersBetween, secondariesIn, slotAt}
 use Rattle.block_wand_intersection.specs.Inner.Stands.{Stands, placeOf}
 use Rattle.block_wand_intersection.specs.declared.Intersection.{Intersection}
@@ -28,11 +27,7 @@ pub record FreshSlots (x : Query) (h : Held) : Type 0 where
   pub long : Sixteen (x .order)
   pub norms-are : x .norms ≡ normReader (x .file)
   pub sixteen : Sixteen (h .places) × Sixteen (h .docs) × Sixteen (h .freqs)
-  pub slot : (q : ℕ) → q < x .len → SlotIn (x .file) (x .lists) h q
-  pub weighed : (q : ℕ) → q < x .len → Weighed (x .lists) (x .caches) q
-  pub top : (q : ℕ) → q < x .len → TopKept (x .scoring) (x .file) (x .lists) q
-  pub unknown : (q : ℕ) → q < x .len → getD (getD (h .places) q []) 7 0 ≡ 0
-  pub first : (q : ℕ) → q < x .len → cursorAt (h .places) q ≡ fresh
+  pub each : (q : ℕ) → q < x .len → FreshSlot (x .scoring) (x .file) (x .lists) (x .caches) h q
 
 -- the run stands at the first place of the query's route, whatever the floats hold: that of the scorers by size
 pub record Begins (x : Query) (h : Held) (v : Intersection) : Type 0 where

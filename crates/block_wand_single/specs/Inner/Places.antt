@@ -2,7 +2,7 @@
 use mathlib.Core.Path.{_≡_}
 use mathlib.Core.Bool.{Bool, true, false, cond}
 use mathlib.Core.List.{List, []}
-use Prim.Native.Nat.{ℕ, min, _+_}
+use Prim.Native.Nat.{ℕ, suc, min, _+_}
 use lib.Dec.{eqb, ltb}
 use lib.ListN.{getD}
 use lib.Ieee.{Float}
@@ -84,6 +84,7 @@ pub record MovedTo (file : List ℕ) (lists : List (List ℕ)) (q : ℕ) (to : S
   pub bound-is : getD (getD (after .places) q []) 7 0 ≡ 1
       → (getD (getD (before .places) q []) 7 0 ≡ 1) × (cursorAt (after .places) q .blk ≡ cursorAt (before .places) q .blk)
       × (cursorAt (after .places) q .loaded ≡ cursorAt (before .places) q .loaded)
+  pub ahead-is : (e : ℕ) → getD (getD (after .places) q []) 9 0 ≡ suc e → getD (getD (before .places) q []) 9 0 ≡ suc e
 
 module _ (file : List ℕ) (lists : List (List ℕ)) (q : ℕ) where
   -- what `skip` leaves, whatever the slots have decoded

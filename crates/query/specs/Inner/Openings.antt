@@ -4,7 +4,6 @@ use mathlib.Core.List.{List, []}
 use Prim.Native.Nat.{ℕ, _≤_, _<_}
 use lib.ListN.{length, getD, set}
 use lib.Ieee.{Float}
-use Rattle.route.specs.Cursor.{fresh}
 use Rattle.route.specs.F32.{f32}
 use Rattle.bm25.specs.declared.Scoring.{Scoring}
 use Rattle.ordering.specs.Inner.Scorers.{noScorer}
@@ -13,8 +12,8 @@ use Rattle.notefile.specs.Header.{listCount}
 use Rattle.notefile.specs.Parts.{partOf}
 use Rattle.decoded.specs.Lists.{listOf}
 use Rattle.skip_reader.specs.Inner.Decoded.{docIn}
-use Rattle.term_scorer.specs.Inner.Slots.{Held, held, Sixteen, SlotIn, partAt, cursorAt, Blank}
-use Rattle.term_scorer.specs.Inner.Weights.{TopKept, Weighed}
+use Rattle.term_scorer.specs.Inner.Slots.{Held, held, Sixteen, partAt, Blank}
+use Rattle.term_scorer.specs.Inner.Weights.{FreshSlot}
 
 -- the lent tables of a run's slots
 pub record Tables : Type 0 where
@@ -33,15 +32,10 @@ pub record Room (a : Tables) : Type 0 where
   pub docs : Sixteen (a .held .docs)
   pub freqs : Sixteen (a .held .freqs)
 
--- slot q has list l of the file, on its first posting, with its norms and its list bound; no block bound is known, and no scores are made
+-- slot q has just been given list l of the file
 pub record OpenSlot (scoring : Scoring) (file : List ℕ) (a : Tables) (l q : ℕ) : Type 0 where
-  pub slot : SlotIn file (a .lists) (a .held) q
+  pub fresh : FreshSlot scoring file (a .lists) (a .caches) (a .held) q
   pub part-is : partAt (a .lists) q ≡ partOf file l
-  pub cursor-is : cursorAt (a .held .places) q ≡ fresh
-  pub weighed : Weighed (a .lists) (a .caches) q
-  pub top : TopKept scoring file (a .lists) q
-  pub unknown : getD (getD (a .held .places) q []) 7 0 ≡ 0
-  pub unscored : getD (getD (a .held .places) q []) 8 0 ≡ 0
 
 -- its scorer
 abbrev pub openedScorer : Scoring → List ℕ → ℕ → ℕ → TermScorer

@@ -41,11 +41,17 @@ abbrev pub flag : Bool → ℕ
 flag true = 1
 flag false = 0
 
--- a place's numbers, whether its block's bound is known, and whether the scores of its decoded block are made
-abbrev pub placeRow : SegmentPostings → ℕ → ℕ → List ℕ
-placeRow p bound scores =
+-- a place's numbers, whether its block's bound is known, whether the scores of its decoded block are made, and up to where bounds stand ready
+abbrev pub placeRow : SegmentPostings → ℕ → ℕ → ℕ → List ℕ
+placeRow p bound scores ahead =
     p .«skip_reader» .block ∷ p .«skip_reader» .«byte_offset» ∷ p .«skip_reader» .«last_doc_in_previous_block»
-    ∷ p .«skip_reader» .«last_doc_in_block» ∷ flag (p .«block_loaded») ∷ p .decoded ∷ p .cur ∷ bound ∷ scores ∷ []
+    ∷ p .«skip_reader» .«last_doc_in_block» ∷ flag (p .«block_loaded») ∷ p .decoded ∷ p .cur ∷ bound ∷ scores ∷ ahead ∷ []
+
+-- nothing is kept of the list: no bound, no scores, and no bounds that stand ready
+pub record Unkept (row : List ℕ) : Type 0 where
+  pub bound : getD row 7 0 ≡ 0
+  pub scores : getD row 8 0 ≡ 0
+  pub ahead : getD row 9 0 ≡ 0
 
 -- its documents are 32 bits each
 pub record Narrow (p : SegmentPostings) : Type 0 where
@@ -77,7 +83,7 @@ module _ (file : List ℕ) (x : Part) where
 
   -- a row is that of the place made of it
   pub record Standing (row : List ℕ) : Type 0 where
-    pub row-is : row ≡ placeRow (postingsIn row) (getD row 7 0) (getD row 8 0)
+    pub row-is : row ≡ placeRow (postingsIn row) (getD row 7 0) (getD row 8 0) (getD row 9 0)
     pub narrow : Narrow (postingsIn row)
     pub low : getD row 0 0 ≤ suc (fullBlocks x)
 
@@ -87,7 +93,7 @@ module _ (file : List ℕ) (x : Part) where
     pub placed : Placed file x (postingsIn row) docs freqs
 
   -- after a move: where the route's cursor is, whatever the scoring; a bound known before is known still only for the same block,
-  -- and scores that were made only for the same decoded block
+  -- scores that were made only for the same decoded block, and bounds that stand ready are those that did
   pub record MovedRow (to : Scoring → Cursor) (row row′ docs′ freqs′ : List ℕ) (doc : ℕ) : Type 0 where
     pub place : PlaceIn row′ docs′ freqs′
     pub cursor-is : (scoring : Scoring) → cursorIn row′ ≡ to scoring
@@ -95,6 +101,7 @@ module _ (file : List ℕ) (x : Part) where
     pub bound-is : getD row′ 7 0 ≡ 1
         → (getD row 7 0 ≡ 1) × (cursorIn row′ .blk ≡ cursorIn row .blk) × (cursorIn row′ .loaded ≡ cursorIn row .loaded)
     pub scores-is : getD row′ 8 0 ≡ 1 → (getD row 8 0 ≡ 1) × (cursorIn row′ .dec ≡ cursorIn row .dec)
+    pub ahead-is : (b : ℕ) → getD row′ 9 0 ≡ suc b → getD row 9 0 ≡ suc b
 
   -- the same of a move that leaves the decoded block and the document as they are, whatever they are
   abbrev pub ShallowRow : (Scoring → Cursor) → List ℕ → List ℕ → Type 0

@@ -10,7 +10,7 @@ use Rattle.bm25.specs.declared.Scoring.{Scoring}
 use Rattle.notefile.specs.declared.part.Part.{Part}
 use Rattle.decoded.specs.Lists.{listOf}
 use Rattle.skip_reader.specs.Inner.Decoded.{ListIn}
-use Rattle.slot_rows.specs.Inner.Rows.{partIn, partRow, PartRow, cursorIn, Standing, PlaceIn, MovedRow, ShallowRow}
+use Rattle.slot_rows.specs.Inner.Rows.{partIn, partRow, PartRow, cursorIn, Standing, PlaceIn, MovedRow, ShallowRow, Unkept}
 
 -- an array of 16 slots
 abbrev pub Sixteen : {A : Type 0} → List A → Type 0
@@ -84,5 +84,4 @@ pub record Opened (file : List ℕ) (x : Part) (top q : ℕ) (lists lists′ : L
   pub lists-only : lists′ ≡ set lists q (partRow x top)
   pub part-row : PartRow (partRow x top)
   pub opened : MovedSlot file lists′ q (λ _. fresh) before after doc
-  pub unknown : getD (getD (after .places) q []) 7 0 ≡ 0
-  pub unscored : getD (getD (after .places) q []) 8 0 ≡ 0
+  pub unkept : Unkept (getD (after .places) q [])

@@ -2,11 +2,11 @@
 use mathlib.Core.Path.{_≡_}
 use mathlib.Core.Bool.{cond, not, _||_}
 use mathlib.Core.List.{List, []}
-use Prim.Native.Nat.{ℕ, _+_, _<_}
+use Prim.Native.Nat.{ℕ, _+_, _-_, _*_, _≤_, _<_}
 use lib.Dec.{T, eqb, ltb}
 use lib.ListN.{getD, length, set}
 use lib.Ieee.{Float, nan, binary32, nanBits, ofBits}
-use Rattle.route.specs.Cursor.{blockMax}
+use Rattle.route.specs.Cursor.{blockMax, fresh}
 use Rattle.route.specs.F32.{f32}
 use Rattle.route.specs.Postings.{Postings, start}
 use Rattle.bm25.specs.declared.Scoring.{Scoring}
@@ -14,8 +14,8 @@ use Rattle.notefile.specs.Lists.{fullBlocks}
 use Rattle.notefile.specs.Inner.Given.{NormsIn}
 use Rattle.notefile.specs.declared.part.Part.{Part}
 use Rattle.decoded.specs.Lists.{listOf}
-use Rattle.slot_rows.specs.Inner.Rows.{cursorIn}
-use Rattle.term_scorer.specs.Inner.Slots.{partAt, listAt, cursorAt}
+use Rattle.slot_rows.specs.Inner.Rows.{cursorIn, Unkept}
+use Rattle.term_scorer.specs.Inner.Slots.{Held, partAt, listAt, cursorAt, SlotIn}
 use Rattle.term_scorer.specs.declared.score.BlockMax.{BlockMax}
 use Rattle.term_scorer.specs.declared.score.BlockMax.the-variants.{Known, Unknown}
 use Rattle.term_scorer.specs.declared.score.Bound.{Bound}
@@ -48,6 +48,15 @@ pub record TopKept (scoring : Scoring) (file : List ℕ) (lists : List (List ℕ
   pub read : TopRead lists q
   pub top-is : topAt lists q ≡ listAt scoring file lists q .top
 
+-- slot q as it was opened: on its list's first posting, with its norms and its list bound; nothing else is kept of it
+pub record FreshSlot (scoring : Scoring) (file : List ℕ) (lists : List (List ℕ)) (caches : List (List Float)) (h : Held) (q : ℕ) : Type 0 where
+  pub slot-in : q < 16
+  pub slot : SlotIn file lists h q
+  pub first : cursorAt (h .places) q ≡ fresh
+  pub weighed : Weighed lists caches q
+  pub top : TopKept scoring file lists q
+  pub unkept : Unkept (getD (h .places) q [])
+
 -- a row has the scores of block b of a list
 pub record BlockScores (l : Postings Float) (b : ℕ) (scores : List Float) : Type 0 where
   pub at : (i : ℕ) → i < 128 → start 128 b + i < l .len → getD scores i nan ≡ l .score (start 128 b + i)
@@ -65,26 +74,53 @@ pub record ScoresMade (scoring : Scoring) (file : List ℕ) (lists : List (List 
   pub scores : BlockScores (listAt scoring file lists q) (cursorAt places q .dec) (getD floats′ (2 + q) [])
   pub rows : FloatRows floats′
 
--- where slot q's bound is known, the row has it
+-- Behind the 16 bounds of present blocks the row has seven cells for each slot. Up to block e bounds stand ready in those of slot q:
+-- each of the seven blocks before e, if it is full, has its own there.
+abbrev pub ReadyUpTo : Postings Float → ℕ → ℕ → List Float → Type 0
+ReadyUpTo l q e bounds = (b : ℕ) → b < e → e ≤ b + 7 → b < l .full → getD bounds (16 + 7 * q + (b + 7 - e)) nan ≡ l .bound b
+
+-- what the row of bounds has of a scorer in slot q: its block's bound, where it is known, and those that stand ready
+pub record KeptBounds (l : Postings Float) (q : ℕ) (row : List ℕ) (bounds : List Float) : Type 0 where
+  pub known : getD row 7 0 ≡ 1 → getD bounds q nan ≡ blockMax 128 f32 l (cursorIn row)
+  pub ready : ReadyUpTo l q (getD row 9 0) bounds
+
 abbrev pub BoundKept : Scoring → List ℕ → List (List ℕ) → List (List ℕ) → List Float → ℕ → Type 0
-BoundKept scoring file lists places bounds q =
-    getD (getD places q []) 7 0 ≡ 1 → getD bounds q nan ≡ blockMax 128 f32 (listAt scoring file lists q) (cursorAt places q)
+BoundKept scoring file lists places bounds q = KeptBounds (listAt scoring file lists q) q (getD places q []) bounds
+
+-- the row's cells of slot p are as they were
+pub record SameCells (p : ℕ) (bounds bounds′ : List Float) : Type 0 where
+  pub bound : getD bounds′ p nan ≡ getD bounds p nan
+  pub ahead : (k : ℕ) → k < 7 → getD bounds′ (16 + 7 * p + k) nan ≡ getD bounds (16 + 7 * p + k) nan
 
 -- what a slot keeps of its block's bound: the flag says whether there is one
 abbrev pub blockMaxAt : List (List ℕ) → List Float → ℕ → BlockMax
 blockMaxAt places bounds q = cond (eqb (getD (getD places q []) 7 0) 1) (Known (getD bounds q nan)) Unknown
 
--- the bound of a row's block, and whether it lasts: it does unless the block is a tail that is not loaded
+-- the bound of a tail's row, and whether it lasts: it does once the tail is loaded
 pub record BoundFound (scoring : Scoring) (file : List ℕ) (x : Part) (row : List ℕ) (r : Bound) : Type 0 where
   pub score-is : r .score ≡ blockMax 128 f32 (listOf scoring file x) (cursorIn row)
-  pub lasts-is : r .lasts ≡ (ltb (cursorIn row .blk) (fullBlocks x) || cursorIn row .loaded)
+  pub lasts-is : r .lasts ≡ cursorIn row .loaded
 
--- slot q's bound is the route's, and is kept unless the block is a tail that is not loaded: nothing else has changed
+-- the bound of slot q's block, a full one, as it stands ready: what was worked out for it changes nothing else
+pub record Readied (scoring : Scoring) (file : List ℕ) (lists : List (List ℕ)) (q : ℕ) (places : List (List ℕ))
+    (bounds : List Float) (places′ : List (List ℕ)) (bounds′ : List Float) (bound : Float) : Type 0 where
+  pub end : ℕ
+  pub bound-is : bound ≡ listAt scoring file lists q .bound (cursorAt places q .blk)
+  pub places-are : places′ ≡ set places q (set (getD places q []) 9 end)
+  pub ready : ReadyUpTo (listAt scoring file lists q) q end bounds′
+  pub others : (p : ℕ) → p < 16 → (p ≡ q → ⊥) → SameCells p bounds bounds′
+  pub long : length bounds′ ≡ length bounds
+
+-- slot q's bound is the route's, and is kept unless the block is a tail that is not loaded: of the other slots nothing has changed
 pub record Bounded (scoring : Scoring) (file : List ℕ) (lists : List (List ℕ)) (q : ℕ) (places : List (List ℕ))
     (bounds : List Float) (places′ : List (List ℕ)) (bounds′ : List Float) (bound : Float) : Type 0 where
   pub flag : ℕ
+  pub end : ℕ
   pub bound-is : bound ≡ blockMax 128 f32 (listAt scoring file lists q) (cursorAt places q)
-  pub places-are : places′ ≡ set places q (set (getD places q []) 7 flag)
-  pub bounds-are : bounds′ ≡ set bounds q bound
+  pub places-are : places′ ≡ set places q (set (set (getD places q []) 9 end) 7 flag)
+  pub bound-there : getD bounds′ q nan ≡ bound
+  pub ready : ReadyUpTo (listAt scoring file lists q) q end bounds′
+  pub others : (p : ℕ) → p < 16 → (p ≡ q → ⊥) → SameCells p bounds bounds′
+  pub long : length bounds′ ≡ length bounds
   pub flag-is : flag
       ≡ cond (ltb (cursorAt places q .blk) (fullBlocks (partAt lists q)) || cursorAt places q .loaded) 1 (getD (getD places q []) 7 0)

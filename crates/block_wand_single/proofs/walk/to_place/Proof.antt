@@ -1,7 +1,8 @@
 -- `walk::to_place` meets its contract: one number changes, and behind the last posting the block is left.
 use native.Mathlib.Omega.{arith}
 use borrow.Author.Needs.{needs}
-use Rattle.block_wand_single.proofs.Scorers.{placed-in, placed-out, put-slot, standing-in}
+use Rattle.block_wand_single.proofs.Scorers.{placed-in, placed-out, put-slot}
+use Rattle.term_scorer.proofs.Slots.{standing-in}
 use Rattle.block_wand_single.proofs.walk.to_place.Statement.{statement}
 use Rattle.block_wand_single.proofs.walk.to_place.Tie as tie
 

@@ -5,7 +5,8 @@ use Prim.Native.Nat.{ℕ}
 use lib.Ieee.{Float}
 use borrow.Author.Needs.{needs}
 use Rattle.term_scorer.specs.Inner.Slots.{held}
-use Rattle.intersection_window.proofs.Seats.{last-fits, slot-small, standing-in}
+use Rattle.term_scorer.proofs.Slots.{standing-in}
+use Rattle.intersection_window.proofs.Seats.{last-fits, slot-small}
 use Rattle.intersection_window.proofs.Opening.{gathered, leader-kept, leader-seated, ready-there, window-low, window-open, window-over}
 use Rattle.intersection_window.proofs.window.next_window.Statement.{statement}
 use Rattle.intersection_window.proofs.window.next_window.Tie as tie
@@ -14,24 +15,24 @@ use Rattle.intersection_window.proofs.window.next_window.Tie as tie
 abbrev then-of : tie.After-load-arg3 → tie.Then2
 then-of c = c .before .before .before
 
-abbrev after-block-max : tie.After-gather-arg4 → tie.After-block-max
+abbrev after-block-max : tie.After-gather-arg4 → tie.After-new-block-max
 after-block-max c = c .before .before .before .before .before .before
 
 abbrev start : tie.After-seek-block-arg → tie.Start
 start s = s .before .before .before
 
-abbrev sought : tie.After-block-max-arg4 → tie.After-seek-block
+abbrev sought : tie.After-new-block-max-arg4 → tie.After-seek-block
 sought b = b .before .before .before .before
 
 abbrev ended : tie.After-gather → tie.After-last-doc-in-block
 ended g = g .before .before .before .before .before
 
 -- the places and the bounds that the leader's bound left, and the secondaries'
-abbrev places₂ : tie.After-block-max → List (List ℕ)
-places₂ b = b .block-max .last .1 .1 .1 .1 .1 .0
+abbrev places₂ : tie.After-new-block-max → List (List ℕ)
+places₂ b = b .new-block-max .last .1 .1 .1 .1 .1 .0
 
-abbrev bounds₂ : tie.After-block-max → List Float
-bounds₂ b = b .block-max .last .1 .1 .1 .1 .1 .1 .1 .1 .0
+abbrev bounds₂ : tie.After-new-block-max → List Float
+bounds₂ b = b .new-block-max .last .1 .1 .1 .1 .1 .1 .1 .1 .0
 
 abbrev places₃ : tie.After-gather → List (List ℕ)
 places₃ g = g .gather .last .1 .1 .1 .1 .1 .1 .1 .1 .0
@@ -48,8 +49,8 @@ seek-block-requires c κs =
     let O = a .pre .0 in
     (slot-small O (O .leader), standing-in (a .pre .1 .seated .slot _ (O .below 0 (O .leader))))
 
-block-max-requires : tie.Need-block-max-requires
-block-max-requires c κs =
+new-block-max-requires : tie.Need-new-block-max-requires
+new-block-max-requires c κs =
     let s = sought c in
     let a = start (s .before) in
     let O = a .pre .0 in
@@ -65,7 +66,7 @@ last-doc-in-block-requires c κs =
     let O = a .pre .0 in
     let R = a .pre .1 in
     let hq = O .below 0 (O .leader) in
-    (slot-small O (O .leader), last-fits (ready-there _ O (a .args .threshold) _ (a .pre .2) R (s .seek-block .ensures) {places₂ = places₂ b} {bounds₂ = bounds₂ b} (b .block-max .ensures) .seated) hq)
+    (slot-small O (O .leader), last-fits (ready-there _ O (a .args .threshold) _ (a .pre .2) R (s .seek-block .ensures) {places₂ = places₂ b} {bounds₂ = bounds₂ b} (b .new-block-max .ensures) .seated) hq)
 
 gather-requires : tie.Need-gather-requires
 gather-requires c κs =
@@ -75,7 +76,7 @@ gather-requires c κs =
     let O = a .pre .0 in
     let R = a .pre .1 in
     let hq = O .below 0 (O .leader) in
-    (O, ready-there _ O (a .args .threshold) _ (a .pre .2) R (s .seek-block .ensures) {places₂ = places₂ b} {bounds₂ = bounds₂ b} (b .block-max .ensures), omega (arith, a .pre .2))
+    (O, ready-there _ O (a .args .threshold) _ (a .pre .2) R (s .seek-block .ensures) {places₂ = places₂ b} {bounds₂ = bounds₂ b} (b .new-block-max .ensures), omega (arith, a .pre .2))
 
 returns : tie.Need-returns
 returns c =
@@ -87,7 +88,7 @@ returns c =
     let O = a .pre .0 in
     let R = a .pre .1 in
     let hq = O .below 0 (O .leader) in
-    window-over _ O (a .args .threshold) _ (a .pre .2) R (s .seek-block .ensures) {places₂ = places₂ b} {bounds₂ = bounds₂ b} (b .block-max .ensures) (l .last-doc-in-block .ensures) {places₃ = places₃ g} {bounds₃ = bounds₃ g} (g .gather .ensures) (c .if1 .taken)
+    window-over _ O (a .args .threshold) _ (a .pre .2) R (s .seek-block .ensures) {places₂ = places₂ b} {bounds₂ = bounds₂ b} (b .new-block-max .ensures) (l .last-doc-in-block .ensures) {places₃ = places₃ g} {bounds₃ = bounds₃ g} (g .gather .ensures) (c .if1 .taken)
 
 load-requires : tie.Need-load-requires
 load-requires c κs =
@@ -100,7 +101,7 @@ load-requires c κs =
     let O = a .pre .0 in
     let R = a .pre .1 in
     let hq = O .below 0 (O .leader) in
-    (slot-small O (O .leader), gathered _ O (a .args .threshold) _ (a .pre .2) R (s .seek-block .ensures) {places₂ = places₂ b} {bounds₂ = bounds₂ b} (b .block-max .ensures) (l .last-doc-in-block .ensures) {places₃ = places₃ g} {bounds₃ = bounds₃ g} (g .gather .ensures) (e .if1 .left) .ready .seated .slot _ hq)
+    (slot-small O (O .leader), gathered _ O (a .args .threshold) _ (a .pre .2) R (s .seek-block .ensures) {places₂ = places₂ b} {bounds₂ = bounds₂ b} (b .new-block-max .ensures) (l .last-doc-in-block .ensures) {places₃ = places₃ g} {bounds₃ = bounds₃ g} (g .gather .ensures) (e .if1 .left) .ready .seated .slot _ hq)
 
 returns-2 : tie.Need-returns-2
 returns-2 c =
@@ -115,7 +116,7 @@ returns-2 c =
     let R = a .pre .1 in
     let hq = O .below 0 (O .leader) in
     let z = c .load .last .1 .1 .1 in
-    window-open _ O (a .args .threshold) _ (a .pre .2) R (s .seek-block .ensures) {places₂ = places₂ b} {bounds₂ = bounds₂ b} (b .block-max .ensures) (l .last-doc-in-block .ensures) {places₃ = places₃ g} {bounds₃ = bounds₃ g} (g .gather .ensures) (e .if1 .left) (f .if2 .taken) {h′ = held (z .0) (z .1 .0) (z .1 .1 .0)} (c .load .ensures)
+    window-open _ O (a .args .threshold) _ (a .pre .2) R (s .seek-block .ensures) {places₂ = places₂ b} {bounds₂ = bounds₂ b} (b .new-block-max .ensures) (l .last-doc-in-block .ensures) {places₃ = places₃ g} {bounds₃ = bounds₃ g} (g .gather .ensures) (e .if1 .left) (f .if2 .taken) {h′ = held (z .0) (z .1 .0) (z .1 .1 .0)} (c .load .ensures)
 
 returns-3 : tie.Need-returns-3
 returns-3 c =
@@ -128,7 +129,7 @@ returns-3 c =
     let O = a .pre .0 in
     let R = a .pre .1 in
     let hq = O .below 0 (O .leader) in
-    window-low _ O (a .args .threshold) _ (a .pre .2) R (s .seek-block .ensures) {places₂ = places₂ b} {bounds₂ = bounds₂ b} (b .block-max .ensures) (l .last-doc-in-block .ensures) {places₃ = places₃ g} {bounds₃ = bounds₃ g} (g .gather .ensures) (e .if1 .left) (c .if2 .left)
+    window-low _ O (a .args .threshold) _ (a .pre .2) R (s .seek-block .ensures) {places₂ = places₂ b} {bounds₂ = bounds₂ b} (b .new-block-max .ensures) (l .last-doc-in-block .ensures) {places₃ = places₃ g} {bounds₃ = bounds₃ g} (g .gather .ensures) (e .if1 .left) (c .if2 .left)
 
 pub next-window-spec : {M : Type 1} → statement M
 next-window-spec =
@@ -136,7 +137,7 @@ next-window-spec =
     (tie.spec
     element-copy-out-leader
     seek-block-requires
-    block-max-requires
+    new-block-max-requires
     last-doc-in-block-requires
     gather-requires
     returns

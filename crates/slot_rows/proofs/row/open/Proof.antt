@@ -2,7 +2,8 @@
 use mathlib.Core.Path.{ap}
 use mathlib.Core.List.{List}
 use Prim.Native.Nat.{ℕ}
-use lib.ListN.{getD}
+use native.Mathlib.Omega.{arith}
+use lib.ListN.{getD, length, set}
 use borrow.Author.Needs.{needs}
 use Rattle.slot_rows.proofs.Rows.{moved-row}
 use Rattle.slot_rows.proofs.row.open.Statement.{statement}
@@ -21,6 +22,9 @@ open-requires c κs = search needs
 keep-requires : tie.Need-keep-requires
 keep-requires c κs = search needs
 
+element-write-place : tie.Need-element-write-place
+element-write-place c = let e = ap length (c .keep .ensures .0) in omega arith
+
 doc-requires : tie.Need-doc-requires
 doc-requires c κs = after-open c .«open» .ensures .placed .inside
 
@@ -28,11 +32,11 @@ returns : tie.Need-returns
 returns c =
     let k = c .before .before in
     let o = k .before .before in
-    let a = start o in (
-      moved-row (a .args .file .now) (a .args .x) (o .«open» .result) (k .keep .ensures .1) _ (o .«open» .ensures) (k .keep .ensures .0) (c .doc .ensures),
-      ap (λ (z : List ℕ). getD z 7 0) (k .keep .ensures .0),
-      ap (λ (z : List ℕ). getD z 8 0) (k .keep .ensures .0),
+    let a = start o in
+    let e = ap (λ (z : List ℕ). set z 9 0) (k .keep .ensures .0) in (
+      moved-row (a .args .file .now) (a .args .x) (o .«open» .result) (k .keep .ensures .1) _ (o .«open» .ensures) 0 e (c .doc .ensures) (λ b u. absurd (omega (arith, u))),
+      record { bound = ap (λ (z : List ℕ). getD z 7 0) e; scores = ap (λ (z : List ℕ). getD z 8 0) e; ahead = ap (λ (z : List ℕ). getD z 9 0) e },
     )
 
 pub open-spec : {M : Type 1} → statement M
-open-spec = tie.close (tie.spec open-requires keep-requires doc-requires returns)
+open-spec = tie.close (tie.spec open-requires keep-requires element-write-place doc-requires returns)

@@ -1,7 +1,6 @@
 -- `score::block_max` meets its contract: a known bound is the one kept, another is worked out.
-use mathlib.Core.List.{[]}
 use borrow.Author.Needs.{needs}
-use Rattle.term_scorer.proofs.Scores.{bound-cached}
+use Rattle.term_scorer.proofs.Bounds.{bound-cached}
 use Rattle.term_scorer.proofs.score.block_max.Statement.{statement}
 use Rattle.term_scorer.proofs.score.block_max.Tie as tie
 
