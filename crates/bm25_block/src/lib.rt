@@ -3,7 +3,7 @@ pub mod bound;
 mod norms;
 
 use crate::norms::all_at_most;
-use crate::norms::read_norms;
+use crate::norms::read_norms_below;
 use bm25::Bm25Weight;
 use bm25::Scoring;
 use fieldnorm::FieldNormReader;
@@ -13,6 +13,7 @@ ghost use Prim.Native.Nat.{_≤_};
 ghost use Rattle.arrays.specs.Lent.{before, after};
 ghost use Rattle.floats.specs.Whole.{wholeF32};
 ghost use Rattle.bm25_block.specs.Inner.Block.{Weighed, CutDown, Scored, allExact};
+ghost use Rattle.bm25_block.specs.Inner.Codes.{Below};
 
 // Whether every frequency is a whole number that f32 holds.
 fn all_exact(term_freqs: &[u32; 128]) -> bool
@@ -79,19 +80,21 @@ fn step_all(scores: &mut [f32; 128])
     }
 }
 
-// The scores of 128 postings, by their documents and frequencies.
+// The scores of 128 postings, by their documents, each one of the first `limit`, and frequencies.
 pub fn score_block(
     file: &[u8],
     reader: FieldNormReader,
     w: Bm25Weight,
     scoring: Scoring,
+    limit: u32,
     docs: &[u32; 128],
     term_freqs: &[u32; 128],
     scores: &mut [f32; 128],
 )
+    requires { ⌜ Below limit (now docs) ⌝ }
     ensures { λ _. ⌜ Scored reader (before file) w scoring (before docs) (before «term_freqs») (after scores) ⌝ }
 {
-    read_norms(file, reader, &w.cache, docs, scores);
+    read_norms_below(file, reader, &w.cache, docs, limit, scores);
     weigh(w.weight, term_freqs, scores);
     if let Scoring::Stepped = scoring {
         step_all(scores);

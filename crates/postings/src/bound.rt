@@ -3,6 +3,7 @@ use crate::cursor::SegmentPostings;
 use bm25::Bm25Weight;
 use bm25::Scoring;
 use fieldnorm::FieldNormReader;
+use notefile::block::TERMINATED;
 use notefile::part::Part;
 use notefile::skip::read_skip_entry;
 use skip_reader::skip::BlockInfo;
@@ -14,6 +15,7 @@ ghost use Rattle.arrays.specs.Lent.{before, after};
 ghost use Rattle.route.specs.Cursor.{blockMax};
 ghost use Rattle.route.specs.F32.{f32};
 ghost use Rattle.bm25.specs.Scoring.{scored};
+ghost use Rattle.bm25_block.specs.Inner.Codes.{Below};
 ghost use Rattle.notefile.specs.Header.{normReader};
 ghost use Rattle.notefile.specs.Lists.{fullBlocks};
 ghost use Rattle.notefile.specs.Inner.Given.{WeightIn};
@@ -51,11 +53,20 @@ fn tail_max_score(
     docs: &[u32; 128],
     freqs: &[u32; 128],
 ) -> f32
-    requires { ⌜ (norms ≡ normReader (now file)) × WeightIn x w × (n ≤ 128) ⌝ }
+    requires { ⌜ (norms ≡ normReader (now file)) × WeightIn x w × (n ≤ 128) × Below 2147483648 (now docs) ⌝ }
     ensures { λ r. ⌜ r ≡ mostOf (λ i. scored scoring (scoreAmong (before file) x (before docs) (before freqs) i)) n ⌝ }
 {
     let mut scores = [0.0f32; 128];
-    bm25_block::score_block(file, norms, w, scoring, docs, freqs, &mut scores);
+    bm25_block::score_block(
+        file,
+        norms,
+        w,
+        scoring,
+        TERMINATED + 1,
+        docs,
+        freqs,
+        &mut scores,
+    );
     max_score(&scores, n)
 }
 

@@ -1,8 +1,8 @@
 -- A loaded block is the list's, from its first place on, and its documents never fall.
-use mathlib.Core.Path.{_≡_, _∙_}
+use mathlib.Core.Path.{_≡_, sym, subst, _∙_}
 use mathlib.Core.List.{List}
 use mathlib.Core.Logic.{inl, inr}
-use Prim.Native.Nat.{ℕ, suc, _+_, _*_, _/_, _%_, _≤_, _<_}
+use Prim.Native.Nat.{ℕ, zero, suc, _+_, _-_, _*_, _/_, _%_, _≤_, _<_}
 use native.Mathlib.Nat.{le-refl, le-of-lt}
 use native.Mathlib.Numerals.{add-one}
 use native.Mathlib.Omega.{arith}
@@ -118,3 +118,14 @@ module _ {file : List ℕ} {x : Part} (L : ListIn file x) where
     where
       group : (a i : ℕ) → a + (i + 1) ≡ a + i + 1
       group a i = omega arith
+
+  -- so a decoded block's last document limits them all, and TERMINATED does
+  pub decoded-below : {b : ℕ} {docs freqs : List ℕ} → Decoded file x b docs freqs → (i : ℕ) → i < 128 → getD docs i 0 < getD docs 127 0 + 1
+  decoded-below {docs = docs} D i h = let l = up-to (127 - i) i (omega arith) in omega arith
+    where
+      up-to : (n i : ℕ) → i + n ≡ 127 → getD docs i 0 ≤ getD docs 127 0
+      up-to zero i e = let f : i ≡ 127 = omega arith in subst (λ (z : ℕ). getD docs z 0 ≤ getD docs 127 0) (sym f) (le-refl (getD docs 127 0))
+      up-to (suc n) i e = let l = up-to n (i + 1) (omega arith) in let s = decoded-sorted D i (omega arith) in omega arith
+
+  pub decoded-small : {b : ℕ} {docs freqs : List ℕ} → Decoded file x b docs freqs → (i : ℕ) → i < 128 → getD docs i 0 < 2147483648
+  decoded-small {b} D i h = rw (D .docs-are .at i h) (let s = doc-small (start 128 b + i) in omega arith)

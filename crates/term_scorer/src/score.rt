@@ -105,7 +105,7 @@ pub fn max_score(lists: &[[usize; 8]; 16], q: usize) -> f32
     f32::from_bits(lists[q][MAX_SCORE] as u32)
 }
 
-// The scores of the block that slot q decoded last, made at once.
+// The scores of the block that slot q decoded last, made at once. Its documents rise, so the last one limits them.
 pub fn score_block(
     file: &[u8],
     similarity: Similarity,
@@ -127,7 +127,8 @@ pub fn score_block(
     let norms = similarity.norms;
     let scoring = similarity.scoring;
     let w = weight_in(lists, caches, q);
-    bm25_block::score_block(file, norms, w, scoring, &docs[q], &freqs[q], scores);
+    let limit = docs[q][127] + 1;
+    bm25_block::score_block(file, norms, w, scoring, limit, &docs[q], &freqs[q], scores);
 }
 
 // The scores of the block that slot q decoded last, made and kept.

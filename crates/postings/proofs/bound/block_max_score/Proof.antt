@@ -1,6 +1,7 @@
 -- `bound::block_max_score` meets its contract: the pair of a full block, the scores of a loaded tail, the list bound of one that is not loaded.
 use native.Mathlib.Omega.{arith}
 use borrow.Author.Needs.{needs}
+use Rattle.skip_reader.proofs.Blocks.{decoded-small}
 use Rattle.skip_reader.proofs.Readers.{packed-info, tail-info}
 use Rattle.postings.proofs.BlockBounds.{full-bound, unloaded-bound, loaded-bound}
 use Rattle.postings.proofs.bound.block_max_score.Statement.{statement}
@@ -27,7 +28,7 @@ tail-max-score-requires c κs =
     let m = c .before .before in
     let a = slice-tail m .before in
     let s = a .args .file .now in let x = a .args .x in let r = a .args .p .«skip_reader» in
-    (a .pre .1, a .pre .2, omega (arith, tail-info s x r (a .pre .3 .stands) (m .info2 .given .1)))
+    (a .pre .1, a .pre .2, omega (arith, tail-info s x r (a .pre .3 .stands) (m .info2 .given .1)), decoded-small (a .pre .0) (a .pre .3 .holds))
 
 returns : tie.Need-returns
 returns c =

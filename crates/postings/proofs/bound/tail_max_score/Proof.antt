@@ -5,6 +5,9 @@ use Rattle.postings.proofs.BlockBounds.{scores-most}
 use Rattle.postings.proofs.bound.tail_max_score.Statement.{statement}
 use Rattle.postings.proofs.bound.tail_max_score.Tie as tie
 
+add-score-block : tie.Need-add-score-block
+add-score-block c = search needs
+
 score-block-requires : tie.Need-score-block-requires
 score-block-requires c κs = search needs
 
@@ -21,4 +24,4 @@ returns c =
 
 pub tail-max-score-spec : {M : Type 1} → statement M
 tail-max-score-spec =
-    tie.close (tie.spec score-block-requires max-score-requires returns)
+    tie.close (tie.spec add-score-block score-block-requires max-score-requires returns)
