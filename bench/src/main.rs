@@ -71,9 +71,8 @@ fn share_checks(rows: &mut [RunRow]) {
 
 /// The check of each large file that was run on.
 fn checks_of(rows: &[RunRow]) -> Vec<CheckRow> {
-    let of_file = |lists| {
-        rows.iter().find(|row| row.shape.lists == lists && row.shape.small.is_none())
-    };
+    let of_file =
+        |lists| rows.iter().find(|row| row.shape.lists == lists && row.shape.small.is_none());
     let of_row = |row: &RunRow| CheckRow {
         lists: row.shape.lists,
         postings: row.postings,

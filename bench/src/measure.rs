@@ -119,6 +119,18 @@ impl Shape {
     }
 }
 
+/// Places of the stack, over a page and at every distance from a cache line.
+const PLACES: [fn(&mut dyn FnMut()); 8] = [
+    lower::<16>,
+    lower::<544>,
+    lower::<1072>,
+    lower::<1600>,
+    lower::<2128>,
+    lower::<2656>,
+    lower::<3184>,
+    lower::<3712>,
+];
+
 /// A call with the stack so many bytes further down.
 #[inline(never)]
 fn lower<const BYTES: usize>(call: &mut dyn FnMut()) {
@@ -127,11 +139,12 @@ fn lower<const BYTES: usize>(call: &mut dyn FnMut()) {
     call();
 }
 
-/// The time of a call on this file, the least of one go at each of four places of the stack: a copy
-/// to the stack is faster where it begins on a cache line.
+/// The time of a call on this file, the least of one go at each of eight places of the stack: a copy
+/// to the stack is faster where it begins on a cache line, and a read waits for a write that stands
+/// as far behind the start of its page. The places differ in both.
 fn least(time: &mut f64, prepared: &Prepared, mut call: impl FnMut()) {
     let calls = (TIMED / prepared.postings).max(1);
-    for place in [lower::<16>, lower::<32>, lower::<48>, lower::<64>] {
+    for place in PLACES {
         let start = clock::now();
         place(&mut || (0..calls).for_each(|_| call()));
         *time = time.min((clock::now() - start).as_nanos() as f64 / calls as f64);
