@@ -22,7 +22,7 @@ use slot_rows::place::postings_of;
 use slot_rows::place::weight_of;
 ghost use mathlib.Core.Path.{_≡_};
 ghost use mathlib.Core.List.{[]};
-ghost use Prim.Native.Nat.{_+_, _<_};
+ghost use Prim.Native.Nat.{_+_, _≤_, _<_};
 ghost use lib.Ieee.{nan};
 ghost use lib.ListN.{getD};
 ghost use Rattle.arrays.specs.Lent.{before, after};
@@ -279,6 +279,42 @@ fn ready_bound(
     bounds[first]
 }
 
+// The bound of slot q's block, a tail, worked out, and kept once the tail is loaded.
+fn tail_block_max(
+    file: &[u8],
+    similarity: Similarity,
+    lists: &[[usize; 8]; 16],
+    caches: &[[f32; 256]; 16],
+    q: usize,
+    places: &mut Places,
+    docs: &[[u32; 128]; 16],
+    freqs: &[[u32; 128]; 16],
+    bounds: &mut [f32; 128],
+) -> f32
+    requires { let slots = held (now places) (now docs) (now freqs) in
+        ⌜ (q < 16) × (similarity .norms ≡ normReader (now file)) × SlotIn (now file) (now lists) slots q
+        × Weighed (now lists) (now caches) q
+        × BoundKept (similarity .scoring) (now file) (now lists) (now places) (now bounds) q × FloatRow (now bounds)
+        × (fullBlocks (partAt (now lists) q) ≤ cursorAt (now places) q .blk) ⌝ }
+    ensures { λ r.
+        ⌜ Bounded (similarity .scoring) (before file) (before lists) q (before places) (before bounds) (after places) (after bounds) r ⌝ }
+{
+    let bound = tail_bound(
+        file,
+        similarity,
+        &lists[q],
+        &caches[q],
+        &places[q],
+        &docs[q],
+        &freqs[q],
+    );
+    bounds[q] = bound.score;
+    if bound.lasts {
+        places[q][BOUND] = KNOWN;
+    }
+    bound.score
+}
+
 // The bound of slot q's block, found and kept.
 pub fn new_block_max(
     file: &[u8],
@@ -299,27 +335,24 @@ pub fn new_block_max(
         ⌜ Bounded (similarity .scoring) (before file) (before lists) q (before places) (before bounds) (after places) (after bounds) r ⌝ }
 {
     let block = places[q][BLOCK];
-    if block < lists[q][COUNT] / 128 {
-        let scoring = similarity.scoring;
-        let bound = ready_bound(file, scoring, lists, caches, q, block, places, bounds);
-        bounds[q] = bound;
-        places[q][BOUND] = KNOWN;
-        return bound;
+    if lists[q][COUNT] / 128 <= block {
+        return tail_block_max(
+            file,
+            similarity,
+            lists,
+            caches,
+            q,
+            places,
+            docs,
+            freqs,
+            bounds,
+        );
     }
-    let bound = tail_bound(
-        file,
-        similarity,
-        &lists[q],
-        &caches[q],
-        &places[q],
-        &docs[q],
-        &freqs[q],
-    );
-    bounds[q] = bound.score;
-    if bound.lasts {
-        places[q][BOUND] = KNOWN;
-    }
-    bound.score
+    let scoring = similarity.scoring;
+    let bound = ready_bound(file, scoring, lists, caches, q, block, places, bounds);
+    bounds[q] = bound;
+    places[q][BOUND] = KNOWN;
+    bound
 }
 
 // `new_block_max` for a loop over scorers: most bounds are known, and this much can stand in the loop.
