@@ -84,7 +84,8 @@ pub fn covered(
 }
 
 // Whether neither the list's bound nor the block's own, from its skip entry's pair of codes, lies below a score of a full block.
-// `small` says that f32 holds each frequency, which is then not looked at. The own bound is made of fields: a method would copy the struct.
+// `small` says that f32 holds each frequency, which is then not looked at. The own bound is made of fields: a method would copy
+// the struct.
 pub fn block_covered(
     file: &[u8],
     reader: FieldNormReader,

@@ -32,8 +32,8 @@ ghost use Rattle.notefile.specs.Inner.Given.{Limits, NormsIn, WeightIn};
 ghost use Rattle.skip_reader.specs.Inner.Decoded.{docIn, ListIn};
 ghost use Rattle.slot_rows.specs.Inner.Rows.{partIn, PartRow, PlaceIn};
 ghost use Rattle.term_scorer.specs.Inner.Slots.{cursorAt, held, listAt, partAt, SlotIn, StandingIn};
-ghost use Rattle.term_scorer.specs.Inner.Weights.{blockMaxAt, BlockScores, BoundFound, Bounded, BoundKept, FloatRow, FloatRows, Readied};
-ghost use Rattle.term_scorer.specs.Inner.Weights.{ScoresKept, ScoresMade, topAt, TopRead, Weighed};
+ghost use Rattle.term_scorer.specs.Inner.Weights.{blockMaxAt, BlockScores, BoundFound, Bounded, BoundKept, FloatRow, FloatRows};
+ghost use Rattle.term_scorer.specs.Inner.Weights.{Readied, ScoresKept, ScoresMade, topAt, TopRead, Weighed};
 
 // What every score of a run is made with: the file's norm codes, and stepped scores or unstepped ones.
 pub struct Similarity {
