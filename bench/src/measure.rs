@@ -139,9 +139,8 @@ fn lower<const BYTES: usize>(call: &mut dyn FnMut()) {
     call();
 }
 
-/// The time of a call on this file, the least of one go at each of eight places of the stack: a copy
-/// to the stack is faster where it begins on a cache line, and a read waits for a write that stands
-/// as far behind the start of its page. The places differ in both.
+/// The time of a call on this file, the least of one go at each of eight places of the stack. Where
+/// the stack begins differs from process to process, and a call's time seems to go with it.
 fn least(time: &mut f64, prepared: &Prepared, mut call: impl FnMut()) {
     let calls = (TIMED / prepared.postings).max(1);
     for place in PLACES {
