@@ -20,6 +20,7 @@ use Rattle.route.proofs.Lists.{Perm, all-imp, all-perm, p-cons, p-nil, p-swap, 
 use Rattle.route.proofs.Ordering.{sort-perm}
 use Rattle.ordering.proofs.Carried.{sort-map}
 use Rattle.ordering.proofs.Places.{all-at, all-drop, all-first}
+use Rattle.notefile.specs.Inner.Reads.{docsOf}
 use Rattle.decoded.specs.Lists.{listOf}
 use Rattle.skip_reader.specs.Inner.Decoded.{doc-is}
 use Rattle.slot_rows.specs.Inner.Rows.{partIn}
@@ -103,11 +104,11 @@ slots-distinct a (suc m) = (slots-high a (suc a) m (omega arith), slots-distinct
 -- the query with the order that was made
 abbrev pub ordered : Query → List ℕ → Query
 ordered x order = record {
-  norms = x .norms;
+  reader = x .reader;
   scoring = x .scoring;
   file = x .file;
   lists = x .lists;
-  caches = x .caches;
+  norms = x .norms;
   len = x .len;
   order = order;
 }
@@ -178,7 +179,7 @@ module _ {x₀ : Query} {h : Held} (F : FreshSlots x₀ h) {order : List ℕ} (S
       ∙ ap (sortBy sizeHint) (fresh-scorers 0 n (omega arith)))
       ∙ part-first order (scorerAt x (h .places)) 0 n (let t = F .two in omega arith) order-long
 
-  module _ {doc : ℕ} (ed : doc ≡ getD (getD (h .docs) (slotAt x 0) []) (getD (getD (h .places) (slotAt x 0) []) 6 0) 0) {total : Float} (em : total ≡ topSum (x₀ .lists) n order) where
+  module _ {doc : ℕ} (ed : doc ≡ getD (docsOf (getD (h .blocks) (slotAt x 0) [])) (getD (getD (h .places) (slotAt x 0) []) 6 0) 0) {total : Float} (em : total ≡ topSum (x₀ .lists) n order) where
     abbrev v : Intersection
     v = record { len = n; doc = doc; «max_sum» = total; stage = Early }
 
@@ -194,6 +195,7 @@ module _ {x₀ : Query} {h : Held} (F : FreshSlots x₀ h) {order : List ℕ} (S
         order = in-order;
         ready = record { seated = seated; kept = λ q hq. kept-none (listIn x q) q (F .each q hq .unkept); long = R .row 0 (omega arith) };
         rows = R;
+        scores = λ k. absurd (omega (arith, k, F .each (slotAt x 0) (in-order .below 0 (in-order .leader)) .unkept .scores));
         len-is = refl;
         max-is = em ∙ sum-is;
         stage = tt;

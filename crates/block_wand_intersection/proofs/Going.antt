@@ -41,11 +41,11 @@ at-rest x places = (refl, all-each (AtRest (cursorAt places)) (scorerAt x places
 -- the same query, its number of scorers as another says it
 abbrev pub withLen : Query → ℕ → Query
 withLen x n = record {
-  norms = x .norms;
+  reader = x .reader;
   scoring = x .scoring;
   file = x .file;
   lists = x .lists;
-  caches = x .caches;
+  norms = x .norms;
   len = n;
   order = x .order;
 }

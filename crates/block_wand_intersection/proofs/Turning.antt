@@ -1,12 +1,12 @@
 -- One turn in the tables is one turn of the route: the exits, a window, a candidate.
 use mathlib.Core.Bool.{cond}
-use mathlib.Core.List.{List, []}
+use mathlib.Core.List.{List, [], _∷_, map}
 use mathlib.Core.Option.{Option, none, some}
 use mathlib.Core.Path.{ap, refl, subst, sym, _∙_, _≡_}
-use Prim.Native.Nat.{ℕ, _+_, _≤_}
+use Prim.Native.Nat.{ℕ, _+_, _<_, _≤_}
 use native.Mathlib.Numerals.{add-one}
 use native.Mathlib.Omega.{arith}
-use lib.ListN.{drop, getD, length-set, set, take}
+use lib.ListN.{drop, getD, set, take}
 use lib.Seq.{getD-set-other, getD-set-same}
 use lib.Ieee.{Float}
 use borrow.Author.Tests.{le-ltb}
@@ -15,15 +15,18 @@ use Rattle.route.specs.F32.{f32}
 use Rattle.route.specs.Score.{sum}
 use Rattle.route.specs.Report.{Report}
 use Rattle.route.specs.Postings.{Postings, TERMINATED}
+use Rattle.route.specs.Cursor.{Cursor}
 use Rattle.route.specs.Scorer.{Scorer, maxScore}
 use Rattle.route.specs.Route.{Load, Turn, loadsOf}
 use Rattle.route.specs.Intersection.{InterPlace, Stage as RouteStage, Tried, called, foundTurn, maxScoreSum, over, tryCandidate, windowTurn, within}
 use Rattle.route.proofs.Cases.{on-test}
 use Rattle.slot_rows.specs.Inner.Rows.{cursorIn}
-use Rattle.term_scorer.specs.Inner.Slots.{Held, cursorAt}
-use Rattle.term_scorer.specs.Inner.Weights.{BlockScores, FloatRow, FloatRows}
+use Rattle.notefile.specs.Inner.Reads.{docsOf}
+use Rattle.term_scorer.specs.Inner.Slots.{Held, Sixteen, SlotIn, cursorAt, held}
+use Rattle.term_scorer.specs.Inner.Weights.{BlockScores, FloatRows, ScoresMade}
 use Rattle.term_scorer.proofs.Floats.{rows-set}
-use Rattle.intersection_window.specs.Inner.Scorers.{Query, Ready, leaderIn, listIn, placeAt, scorerAt, secondariesIn, slotAt}
+use Rattle.term_scorer.proofs.Made.{made-cursor, made-kept, made-scores, made-slot}
+use Rattle.intersection_window.specs.Inner.Scorers.{BoundsKept, Query, Ready, ScoredIn, leaderIn, listIn, placeAt, scorerAt, secondariesIn, slotAt}
 use Rattle.intersection_window.specs.Inner.Candidates.{BlockRows, Finds, FindsBy, Rests, Tries, behind, candidateOf, leftIn}
 use Rattle.intersection_window.specs.Inner.Windows.{Sums, Turns, Windowed, boundsOf, boundsRow, restsRow, scoresRow}
 use Rattle.intersection_window.specs.declared.candidate.Candidate.{Candidate}
@@ -35,6 +38,7 @@ use Rattle.intersection_window.specs.declared.leader.Next.the-variants.{At, Now
 use Rattle.intersection_window.specs.declared.window.Window.{Window as Answer}
 use Rattle.intersection_window.specs.declared.window.Window.the-variants.{Low, Open as Opened, Over as RunOut}
 use Rattle.intersection_window.proofs.Gathering.{map-map}
+use Rattle.intersection_window.proofs.Seats.{row-scored, slot-small}
 use Rattle.intersection_window.proofs.Finding.{block-rows, few-below, first-candidates}
 use Rattle.block_wand_intersection.specs.Inner.Stands.{Open, Scored, StageKept, Stands, leftAt, maxSum, stageOf}
 use Rattle.block_wand_intersection.specs.Inner.Turns.{TakesTurn, behindCandidate, interTurn, movedTo, quietly}
@@ -43,6 +47,10 @@ use Rattle.block_wand_intersection.specs.declared.Stage.{Stage}
 use Rattle.block_wand_intersection.specs.declared.Stage.the-variants.{Called, Early, Over, Window, Within}
 use Rattle.block_wand_intersection.specs.declared.turn.Due.the-variants.{Report as Reports}
 use Rattle.block_wand_intersection.specs.declared.turn.Turned.{Turned}
+
+map-same : {A B : Type 0} (f g : A → B) → ((a : A) → f a ≡ g a) → (l : List A) → map f l ≡ map g l
+map-same f g e [] = refl
+map-same f g e (a ∷ l) = rw (e a, map-same f g e l)
 
 -- the list bounds do not move
 max-is : (x : Query) (places : List (List ℕ)) → maxScoreSum f32 (leaderIn x places) (secondariesIn x places) ≡ maxSum x
@@ -72,7 +80,7 @@ module _ (x : Query) (t : Float) {v : Intersection} {h : Held} {floats : List (L
 
   -- the tables stay
   stands-at : (d : ℕ) (stage : Stage) → StageKept x (h .places) floats stage → Stands x (movedTo v d stage) h floats
-  stands-at d stage k = record { order = S .order; ready = S .ready; rows = S .rows; len-is = S .len-is; max-is = S .max-is; stage = k }
+  stands-at d stage k = record { order = S .order; ready = S .ready; rows = S .rows; scores = S .scores; len-is = S .len-is; max-is = S .max-is; stage = k }
 
   abbrev Taken : Turned → Type 0
   Taken r = TakesTurn x t v h floats r h floats
@@ -92,9 +100,9 @@ module _ (x : Query) (t : Float) {v : Intersection} {h : Held} {floats : List (L
         (λ b. let a = test-is ∙ b in rw b (record { stands = stands-at (v .doc) to k; next-is = n ∙ rw a; due-is = u }))
         (λ b. let a = test-is ∙ b in rw b (record { stands = stands-at (v .doc) Over tt; next-is = n ∙ rw a; due-is = u }))
 
-  exits-scored : Scored x (h .places) floats → v .stage ≡ Early → {r : Turned} → r ≡ quietly v (v .doc) (cond (f32 .above (v .«max_sum») t) Window Over) → Taken r
-  exits-scored k e er =
-      subst Taken (sym er) (exits Window k (ap (λ (s : Stage). interTurn t (at s) .next) e) (ap (λ (s : Stage). interTurn t (at s) .due) e))
+  pub exits-early : v .stage ≡ Early → {r : Turned} → r ≡ quietly v (v .doc) (cond (f32 .above (v .«max_sum») t) Window Over) → Taken r
+  exits-early e er =
+      subst Taken (sym er) (exits Window tt (ap (λ (s : Stage). interTurn t (at s) .next) e) (ap (λ (s : Stage). interTurn t (at s) .due) e))
 
   pub exits-called : (c : Candidates) → v .stage ≡ Called c → {r : Turned} → r ≡ quietly v (v .doc) (cond (f32 .above (v .«max_sum») t) (Within c) Over) → Taken r
   exits-called c e er =
@@ -123,38 +131,29 @@ module _ (x : Query) (t : Float) {v : Intersection} {h : Held} {floats : List (L
         let l = le-ltb (v .doc) TERMINATED k in
         subst Taken (sym er) (record { stands = stands-at (v .doc) Over tt; next-is = turns-to (rw l); due-is = no-report })
 
-    -- the row has the scores of the block that the leader had decoded, whatever the bounds are
-    pub scores-before : (bounds : List Float) → let scores = scoresRow (set floats 0 bounds) in BlockScores (listIn x (slotAt x 0)) (cursorAt (h .places) (slotAt x 0) .dec) scores × FloatRow scores
-    scores-before bounds =
-        let e = getD-set-other floats 0 2 bounds [] (λ z. omega arith) in
-        (rw e (subst (StageKept x (h .places) floats) w (S .stage)), rw e (S .rows .row 2 (omega arith)))
-
-    module _ {h′ : Held} {bounds : List Float} {a : Answer} (T : Turns x t (v .doc) h a h′ bounds) {scores : List Float}
-        (K : BlockScores (listIn x (slotAt x 0)) (cursorAt (h′ .places) (slotAt x 0) .dec) scores × FloatRow scores) where
+    module _ {h′ : Held} {bounds : List Float} {a : Answer} (T : Turns x t (v .doc) h a h′ bounds) where
       abbrev By : Answer → Type 0
       By z = Windowed x t (v .doc) h z h′ bounds
 
-      -- the bounds are back in their row, and the scores
+      -- the bounds are back in their row
       abbrev floats₁ : List (List Float)
-      floats₁ = set (set floats 0 bounds) 2 scores
+      floats₁ = set floats 0 bounds
 
       bounds-there : boundsRow floats₁ ≡ bounds
-      bounds-there = getD-set-other (set floats 0 bounds) 2 0 scores [] (λ z. omega arith) ∙ getD-set-same floats 0 bounds [] (omega (arith, S .rows .eighteen))
-
-      scores-there : scoresRow floats₁ ≡ scores
-      scores-there = getD-set-same (set floats 0 bounds) 2 scores [] (omega (arith, length-set floats 0 bounds, S .rows .eighteen))
-
-      scored-there : Scored x (h′ .places) floats₁
-      scored-there = rw scores-there (K .0)
+      bounds-there = getD-set-same floats 0 bounds [] (omega (arith, S .rows .eighteen))
 
       pub rows-there : FloatRows floats₁
-      rows-there = rows-set 2 scores (rows-set 0 bounds (S .rows) (omega arith) (T .ready .long)) (omega arith) (K .1)
+      rows-there = rows-set 0 bounds (S .rows) (omega arith) (T .ready .long)
 
-      stands-there : {floats′ : List (List Float)} → FloatRows floats′ → boundsRow floats′ ≡ bounds → (d : ℕ) (stage : Stage) → StageKept x (h′ .places) floats′ stage → Stands x (movedTo v d stage) h′ floats′
-      stands-there R e d stage k = record {
+      pub scored-there : ScoredIn x (slotAt x 0) (h′ .places) floats₁
+      scored-there = T .scores floats₁ (rw (getD-set-other floats 0 (2 + slotAt x 0) bounds [] (λ z. omega (arith, z))) (S .scores))
+
+      stands-there : (d : ℕ) (stage : Stage) → StageKept x (h′ .places) floats₁ stage → Stands x (movedTo v d stage) h′ floats₁
+      stands-there d stage k = record {
         order = S .order;
-        ready = subst (Ready x h′) (sym e) (T .ready);
-        rows = R;
+        ready = subst (Ready x h′) (sym bounds-there) (T .ready);
+        rows = rows-there;
+        scores = scored-there;
         len-is = S .len-is;
         max-is = S .max-is;
         stage = k;
@@ -163,7 +162,7 @@ module _ (x : Query) (t : Float) {v : Intersection} {h : Held} {floats : List (L
       pub window-over : a ≡ RunOut → {r : Turned} → r ≡ quietly v (v .doc) Over → TakesTurn x t v h floats r h′ floats₁
       window-over e er =
           subst (λ (z : Turned). TakesTurn x t v h floats z h′ floats₁) (sym er)
-          (record { stands = stands-there rows-there bounds-there (v .doc) Over tt; next-is = turns-to (subst By e (T .turned)); due-is = no-report })
+          (record { stands = stands-there (v .doc) Over tt; next-is = turns-to (subst By e (T .turned)); due-is = no-report })
 
       pub low-end : {end : ℕ} → a ≡ Low end → end ≤ 2147483647
       low-end e = subst By e (T .turned) .1
@@ -171,37 +170,90 @@ module _ (x : Query) (t : Float) {v : Intersection} {h : Held} {floats : List (L
       pub window-low : {end : ℕ} → a ≡ Low end → {r : Turned} → r ≡ quietly v (end + 1) Window → TakesTurn x t v h floats r h′ floats₁
       window-low {end} e er =
           subst (λ (z : Turned). TakesTurn x t v h floats z h′ floats₁) (sym er)
-          (record { stands = stands-there rows-there bounds-there (end + 1) Window scored-there; next-is = turns-to (rw add-one (subst By e (T .turned) .0)); due-is = no-report })
+          (record { stands = stands-there (end + 1) Window tt; next-is = turns-to (rw add-one (subst By e (T .turned) .0)); due-is = no-report })
 
-      module _ {end : ℕ} {total : Float} (e : a ≡ Opened end total) {floats₂ : List (List Float)} (U : Sums (x .len) (x .order) floats₁ floats₂)
-          {next : ℕ} (en : next ≡ countBelow 128 (getD (h′ .docs) (slotAt x 0) []) (v .doc)) where
+      -- the leader's scores are made, and the bounds that follow are summed
+      module _ {end : ℕ} {total : Float} (e : a ≡ Opened end total) {places₂ : List (List ℕ)} {floats₂ : List (List Float)}
+          (K : ScoresMade (x .scoring) (x .file) (x .lists) (slotAt x 0) (h′ .places) floats₁ places₂ floats₂)
+          {floats₃ : List (List Float)} (U : Sums (x .len) (x .order) floats₂ floats₃)
+          {next : ℕ} (en : next ≡ countBelow 128 (docsOf (getD (h′ .blocks) (slotAt x 0) [])) (v .doc)) where
+        abbrev h₂ : Held
+        h₂ = held places₂ (h′ .blocks)
+
         abbrev left : Candidates
         left = record { next = next; «window_end» = end; «score_threshold» = f32 .sub t total }
 
-        bounds-then : boundsRow floats₂ ≡ bounds
-        bounds-then = U .bounds ∙ bounds-there
+        small : slotAt x 0 < 16
+        small = slot-small (S .order) (S .order .leader)
 
-        scored-then : Scored x (h′ .places) floats₂
-        scored-then = rw (U .scores) scored-there
+        long : Sixteen (h′ .places)
+        long = T .ready .seated .sixteen .0
 
-        open-there : Open x floats₂ left
-        open-there = record {
-          inside = omega (arith, en, few-below (x .scoring) (T .ready .seated .slot (slotAt x 0) (S .order .below 0 (S .order .leader))) (v .doc));
-          small = subst By e (T .turned) .1;
-          rests = subst (λ (z : List Float). Rests (x .len) (boundsOf x z) (restsRow floats₂)) (sym (U .bounds)) (U .rests);
+        slot : SlotIn (x .file) (x .lists) h′ (slotAt x 0)
+        slot = T .ready .seated .slot (slotAt x 0) (S .order .below 0 (S .order .leader))
+
+        same-bounds : boundsRow floats₂ ≡ boundsRow floats₁
+        same-bounds =
+            ap boundsRow (K .floats-are) ∙ getD-set-other floats₁ (2 + slotAt x 0) 0 (scoresRow floats₂ (slotAt x 0)) [] (λ z. omega (arith, z))
+
+        bounds-then : boundsRow floats₃ ≡ bounds
+        bounds-then = U .bounds ∙ same-bounds ∙ bounds-there
+
+        -- every scorer stands where it stood
+        same-cursor : (q : ℕ) → cursorAt (h′ .places) q ≡ cursorAt places₂ q
+        same-cursor q = sym (made-cursor small long K q)
+
+        same-place : (stage : RouteStage Float) → placeAt x (h′ .places) stage (v .doc) ≡ placeAt x places₂ stage (v .doc)
+        same-place stage =
+            ap (λ (c : Cursor). placed (record { ord = slotAt x 0; list = listIn x (slotAt x 0); cur = c }) (secondariesIn x (h′ .places))) (same-cursor (slotAt x 0))
+            ∙ ap (placed (leaderIn x places₂)) (map-same (scorerAt x (h′ .places)) (scorerAt x places₂)
+            (λ q. ap (λ (c : Cursor). record { ord = q; list = listIn x q; cur = c }) (same-cursor q)) (drop 1 (take (x .len) (x .order))))
+          where
+            placed : Scorer Float → List (Scorer Float) → InterPlace Float
+            placed ld ss = record { stage = stage; doc = v .doc; leader = ld; secs = ss }
+
+        ready-then : Ready x h₂ (boundsRow floats₃)
+        ready-then = record {
+          seated = record { sixteen = made-slot small long K (slotAt x 0) slot .sixteen; slot = λ q k. made-slot small long K q (T .ready .seated .slot q k) };
+          kept =
+              subst (BoundsKept x places₂) (sym (U .bounds))
+              (λ q k. made-kept small long K q (subst (BoundsKept x (h′ .places)) (sym bounds-there) (T .ready .kept) q k));
+          long = U .rows .row 0 (omega arith);
         }
 
-        pub window-open : {r : Turned} → r ≡ quietly v (v .doc) (Within left) → TakesTurn x t v h floats r h′ floats₂
+        stands-open : StageKept x places₂ floats₃ (Within left) → Stands x (movedTo v (v .doc) (Within left)) h₂ floats₃
+        stands-open k = record {
+          order = S .order;
+          ready = ready-then;
+          rows = U .rows;
+          scores = rw (U .scores (slotAt x 0)) (made-scores small long K (slotAt x 0) scored-there);
+          len-is = S .len-is;
+          max-is = S .max-is;
+          stage = k;
+        }
+
+        scored-then : Scored x places₂ floats₃
+        scored-then = rw (U .scores (slotAt x 0), ← same-cursor (slotAt x 0)) (K .scores)
+
+        open-there : Open x floats₃ left
+        open-there = record {
+          inside = omega (arith, en, few-below (x .scoring) slot (v .doc));
+          small = subst By e (T .turned) .1;
+          rests = subst (λ (z : List Float). Rests (x .len) (boundsOf x z) (restsRow floats₃)) (sym (U .bounds)) (U .rests);
+        }
+
+        pub window-open : {r : Turned} → r ≡ quietly v (v .doc) (Within left) → TakesTurn x t v h floats r h₂ floats₃
         window-open er =
-            subst (λ (z : Turned). TakesTurn x t v h floats z h′ floats₂) (sym er)
+            subst (λ (z : Turned). TakesTurn x t v h floats z h₂ floats₃) (sym er)
             (record {
-              stands = stands-there (U .rows) bounds-then (v .doc) (Within left) (scored-then, open-there);
+              stands = stands-open (scored-then, open-there);
               next-is =
                   turns-to
                   (subst By e (T .turned) .0
-                  ∙ ap (λ (z : List (Report Float)). placeAt x (h′ .places) (within z end (boundsOf x bounds)) (v .doc))
-                  (first-candidates (x .scoring) (T .ready .seated .slot (slotAt x 0) (S .order .below 0 (S .order .leader))) (f32 .sub t total) (v .doc) end en)
-                  ∙ ap (λ (z : List Float). placeAt x (h′ .places) (within (leftAt x (h′ .places) left) end (boundsOf x z)) (v .doc)) (sym bounds-then));
+                  ∙ ap (λ (z : List (Report Float)). placeAt x (h′ .places) (within z end (boundsOf x bounds)) (v .doc)) (first-candidates (x .scoring) slot (f32 .sub t total) (v .doc) end en)
+                  ∙ ap (λ (c : Cursor). placeAt x (h′ .places) (within (leftIn (listIn x (slotAt x 0)) (c .dec) left) end (boundsOf x bounds)) (v .doc)) (same-cursor (slotAt x 0))
+                  ∙ ap (λ (z : List Float). placeAt x (h′ .places) (within (leftAt x places₂ left) end (boundsOf x z)) (v .doc)) (sym bounds-then)
+                  ∙ same-place (within (leftAt x places₂ left) end (boundsOf x (boundsRow floats₃))));
               due-is = no-report;
             })
 
@@ -215,7 +267,7 @@ module _ (x : Query) (t : Float) {v : Intersection} {h : Held} {floats : List (L
     opened = kept .1
 
     -- the rows of the leader's block
-    pub leader-rows : BlockRows (listIn x (slotAt x 0)) (cursorAt (h .places) (slotAt x 0) .dec) (getD (h .docs) (slotAt x 0) []) (scoresRow floats)
+    pub leader-rows : BlockRows (listIn x (slotAt x 0)) (cursorAt (h .places) (slotAt x 0) .dec) (docsOf (getD (h .blocks) (slotAt x 0) [])) (scoresRow floats (slotAt x 0))
     leader-rows = block-rows (x .scoring) (S .ready .seated .slot (slotAt x 0) (S .order .below 0 (S .order .leader))) (kept .0)
 
     abbrev q : ℕ
@@ -240,7 +292,7 @@ module _ (x : Query) (t : Float) {v : Intersection} {h : Held} {floats : List (L
           let z : leftIn l b c ≡ [] = subst (FindsBy l b c) e (F .finds) in
           subst Taken (sym er)
           (record {
-            stands = stands-at (c .«window_end» + 1) Window (kept .0);
+            stands = stands-at (c .«window_end» + 1) Window tt;
             next-is = ap (λ (s : Stage). interTurn t (at s) .next) w ∙ ap (λ (cs : List (Report Float)). interTurn t (before cs) .next) z ∙ (rw add-one);
             due-is = ap (λ (s : Stage). interTurn t (at s) .due) w ∙ ap (λ (cs : List (Report Float)). interTurn t (before cs) .due) z;
           })
@@ -278,7 +330,7 @@ module _ (x : Query) (t : Float) {v : Intersection} {h : Held} {floats : List (L
 
           still-open : Scored x (h′ .places) floats × Open x floats rest
           still-open = (
-            subst (λ (row : List ℕ). BlockScores l (cursorIn row .dec) (scoresRow floats)) (sym (T .leader .place)) (kept .0),
+            subst (λ (row : List ℕ). BlockScores l (cursorIn row .dec) (scoresRow floats q)) (sym (T .leader .place)) (kept .0),
             record { inside = found .1; small = opened .small; rests = opened .rests },
           )
 
@@ -287,6 +339,7 @@ module _ (x : Query) (t : Float) {v : Intersection} {h : Held} {floats : List (L
             order = S .order;
             ready = record { seated = T .seated; kept = T .bounds (boundsRow floats) (S .ready .kept); long = S .ready .long };
             rows = S .rows;
+            scores = row-scored x (h .places) (h′ .places) q (T .leader .place) floats (S .scores);
             len-is = S .len-is;
             max-is = S .max-is;
             stage = o;
@@ -309,28 +362,3 @@ module _ (x : Query) (t : Float) {v : Intersection} {h : Held} {floats : List (L
 
         pub tried : {h′ : Held} (k : Candidate) → Tries x (p .doc) (p .score) t (restsRow floats) h h′ k → {r : Turned} → r ≡ behindCandidate v rest p k → TakesTurn x t v h floats r h′ floats
         tried {h′} k T er = subst (λ (z : Turned). TakesTurn x t v h floats z h′ floats) (sym er) (candidate-turn k T)
-
--- the early exit, once the leader's block is scored
-module _ (x : Query) (t : Float) {v : Intersection} {h : Held} {floats : List (List Float)} (S : Stands x v h floats) (e : v .stage ≡ Early) {scores : List Float}
-    (K : BlockScores (listIn x (slotAt x 0)) (cursorAt (h .places) (slotAt x 0) .dec) scores × FloatRow scores) where
-  abbrev scored : List (List Float)
-  scored = set floats 2 scores
-
-  still-stands : Stands x v h scored
-  still-stands = record {
-    order = S .order;
-    ready = rw (getD-set-other floats 2 0 scores [] (λ z. omega arith)) (S .ready);
-    rows = rows-set 2 scores (S .rows) (omega arith) (K .1);
-    len-is = S .len-is;
-    max-is = S .max-is;
-    stage = subst (StageKept x (h .places) scored) (sym e) tt;
-  }
-
-  -- before it no row is looked at
-  same-turn : interTurn t (placeAt x (h .places) (stageOf x (h .places) floats (v .stage)) (v .doc)) ≡ interTurn t (placeAt x (h .places) (stageOf x (h .places) scored (v .stage)) (v .doc))
-  same-turn = rw e
-
-  pub exits-early : {r : Turned} → r ≡ quietly v (v .doc) (cond (f32 .above (v .«max_sum») t) Window Over) → TakesTurn x t v h floats r h scored
-  exits-early er =
-      let T = exits-scored x t still-stands (rw (getD-set-same floats 2 scores [] (omega (arith, S .rows .eighteen))) (K .0)) e er in
-      record { stands = T .stands; next-is = ap (λ (u : Turn (InterPlace Float) Float). u .next) same-turn ∙ T .next-is; due-is = ap (λ (u : Turn (InterPlace Float) Float). u .due) same-turn ∙ T .due-is }

@@ -2,6 +2,7 @@
 use crate::Intersection;
 use crate::Stage;
 use intersection_window::order::by_size;
+use slot_rows::place::Blocks;
 use slot_rows::place::Places;
 use term_scorer::score;
 use term_scorer::score::Similarity;
@@ -35,23 +36,22 @@ pub fn begin(
     file: &[u8],
     similarity: Similarity,
     lists: &[[usize; 8]; 16],
-    caches: &[[f32; 256]; 16],
+    norms: &[[f32; 256]; 16],
     n: usize,
     order: &mut [usize; 16],
     places: &Places,
-    docs: &[[u32; 128]; 16],
-    freqs: &[[u32; 128]; 16],
+    blocks: &Blocks,
 ) -> Intersection
-    requires { let asked = query similarity (now file) (now lists) (now caches) n (now order) in
-        ⌜ FreshSlots asked (held (now places) (now docs) (now freqs)) ⌝ }
+    requires { let asked = query similarity (now file) (now lists) (now norms) n (now order) in
+        ⌜ FreshSlots asked (held (now places) (now blocks)) ⌝ }
     ensures { λ r.
-        let asked = query similarity (before file) (before lists) (before caches) n (after order) in
-        ⌜ Begins asked (held (before places) (before docs) (before freqs)) r ⌝ }
+        let asked = query similarity (before file) (before lists) (before norms) n (after order) in
+        ⌜ Begins asked (held (before places) (before blocks)) r ⌝ }
 {
     by_size(n, lists, order);
     let max_sum = max_score_sum(lists, n, order);
     let leader = order[0];
-    let doc = slot::doc(leader, places, docs);
+    let doc = slot::doc(leader, places, blocks);
     Intersection {
         len: n,
         doc,

@@ -5,9 +5,10 @@ mod turn;
 
 use intersection_window::leader::Candidates;
 use reports::Event;
+use slot_rows::place::Blocks;
 use slot_rows::place::Places;
 use term_scorer::Floats;
-use term_scorer::score::Similarity;
+use term_scorer::score::Leg;
 use turn::Due;
 use turn::is_over;
 use turn::turn;
@@ -55,25 +56,22 @@ fn standing(intersection: Intersection, taken: usize, event: Event) -> Gone
 // On by turns under one threshold: to the next report that is due, to the end, or through all turns that are allowed.
 pub fn go(
     file: &[u8],
-    similarity: Similarity,
+    leg: Leg,
     intersection: Intersection,
     lists: &[[usize; 8]; 16],
-    caches: &[[f32; 256]; 16],
-    threshold: f32,
-    turns: usize,
+    norms: &[[f32; 256]; 16],
     order: &[usize; 16],
     places: &mut Places,
-    docs: &mut [[u32; 128]; 16],
-    freqs: &mut [[u32; 128]; 16],
+    blocks: &mut Blocks,
     floats: &mut Floats,
 ) -> Gone
-    requires { let asked = query similarity (now file) (now lists) (now caches) (intersection .len) (now order) in
-        ⌜ Stands asked intersection (held (now places) (now docs) (now freqs)) (now floats) ⌝ }
+    requires { let asked = query (leg .similarity) (now file) (now lists) (now norms) (intersection .len) (now order) in
+        ⌜ Stands asked intersection (held (now places) (now blocks)) (now floats) ⌝ }
     ensures { λ r.
-        let asked = query similarity (before file) (before lists) (before caches) (intersection .len) (before order) in
-        let old = held (before places) (before docs) (before freqs) in
-        let new = held (after places) (after docs) (after freqs) in
-        ⌜ Goes asked threshold turns intersection old (before floats) r new (after floats) ⌝ }
+        let asked = query (leg .similarity) (before file) (before lists) (before norms) (intersection .len) (before order) in
+        let old = held (before places) (before blocks) in
+        let new = held (after places) (after blocks) in
+        ⌜ Goes asked (leg .threshold) (leg .turns) intersection old (before floats) r new (after floats) ⌝ }
 {
     let mut v = intersection;
     let mut taken = 0usize;
@@ -81,22 +79,10 @@ pub fn go(
         if is_over(v) {
             return standing(v, taken, Event::Over);
         }
-        if taken == turns {
+        if taken == leg.turns {
             return standing(v, taken, Event::Paused);
         }
-        let turned = turn(
-            file,
-            similarity,
-            v,
-            lists,
-            caches,
-            threshold,
-            order,
-            places,
-            docs,
-            freqs,
-            floats,
-        );
+        let turned = turn(file, leg, v, lists, norms, order, places, blocks, floats);
         let next = turned.intersection;
         let due = turned.due;
         v = next;

@@ -11,28 +11,27 @@ use intersection_window::leader::next_candidate;
 use intersection_window::window::Window;
 use intersection_window::window::next_window;
 use intersection_window::window::sum_rests;
+use notefile::block::DOCS;
 use notefile::block::TERMINATED;
-use slot_rows::place::DECODED;
+use slot_rows::place::Blocks;
 use slot_rows::place::Places;
 use term_scorer::BOUNDS;
 use term_scorer::Floats;
 use term_scorer::RESTS;
 use term_scorer::SCORES;
-use term_scorer::score::Similarity;
-use term_scorer::score::score_block;
+use term_scorer::score::Leg;
+use term_scorer::score::keep_scores;
 ghost use mathlib.Core.Bool.{cond};
 ghost use mathlib.Core.Path.{_≡_};
 ghost use Prim.Native.Nat.{_<_};
 ghost use Rattle.arrays.specs.Lent.{before, after};
 ghost use Rattle.route.specs.F32.{f32};
-ghost use Rattle.notefile.specs.Header.{normReader};
-ghost use Rattle.term_scorer.specs.Inner.Slots.{cursorAt, held, listAt, SlotIn};
-ghost use Rattle.term_scorer.specs.Inner.Weights.{BlockScores, FloatRow, Weighed};
+ghost use Rattle.term_scorer.specs.Inner.Slots.{held};
 ghost use Rattle.intersection_window.specs.Inner.Candidates.{behind};
 ghost use Rattle.intersection_window.specs.Inner.Scorers.{query};
 ghost use Rattle.block_wand_intersection.specs.Inner.Stands.{overIn, AtCandidates, AtWindow, Stands};
 ghost use Rattle.block_wand_intersection.specs.Inner.Turns.{behindCandidate, quietly, TakesTurn};
-ghost use Rattle.block_wand_intersection.specs.declared.Stage.the-variants.{Early, Over};
+ghost use Rattle.block_wand_intersection.specs.declared.Stage.the-variants.{Over, Within};
 
 // A report is due, its document and its score; or none.
 pub enum Due {
@@ -76,6 +75,18 @@ fn quiet(v: Intersection, doc: u32, stage: Stage) -> Turned
     }
 }
 
+// The candidates of an open window, from place `next` of the leader's block on.
+fn within(next: usize, window_end: u32, score_threshold: f32) -> Stage
+    ensures { λ r. ⌜ r ≡ Within (record { next = next; «window_end» = «window_end»; «score_threshold» = «score_threshold» }) ⌝ }
+{
+    let left = Candidates {
+        next,
+        window_end,
+        score_threshold,
+    };
+    Stage::Within(left)
+}
+
 // The two exits: on to the stage where a document can still exceed the threshold, else over.
 fn exit(v: Intersection, threshold: f32, stage: Stage) -> Turned
     ensures { λ r. ⌜ r ≡ quietly v (v .doc) (cond (f32 .above (v .«max_sum») threshold) stage Over) ⌝ }
@@ -117,145 +128,49 @@ fn after_candidate(
     }
 }
 
-// The early exit. The leader's first block is decoded, and is scored before the first window.
-fn early_turn(
-    file: &[u8],
-    similarity: Similarity,
-    v: Intersection,
-    lists: &[[usize; 8]; 16],
-    caches: &[[f32; 256]; 16],
-    threshold: f32,
-    order: &[usize; 16],
-    places: &Places,
-    docs: &[[u32; 128]; 16],
-    freqs: &[[u32; 128]; 16],
-    floats: &mut Floats,
-) -> Turned
-    requires { let asked = query similarity (now file) (now lists) (now caches) (v .len) (now order) in
-        ⌜ Stands asked v (held (now places) (now docs) (now freqs)) (now floats) × (v .stage ≡ Early) ⌝ }
-    ensures { λ r.
-        let asked = query similarity (before file) (before lists) (before caches) (v .len) (before order) in
-        let slots = held (before places) (before docs) (before freqs) in
-        ⌜ TakesTurn asked threshold v slots (before floats) r slots (after floats) ⌝ }
-{
-    let leader = order[0];
-    score_block(
-        file,
-        similarity,
-        lists,
-        caches,
-        leader,
-        places,
-        docs,
-        freqs,
-        &mut floats[SCORES],
-    );
-    exit(v, threshold, Stage::Window)
-}
-
-// The scores of the leader's block, where the row has those of block `scored`: made again if another was decoded since.
-fn keep_scores(
-    file: &[u8],
-    similarity: Similarity,
-    lists: &[[usize; 8]; 16],
-    caches: &[[f32; 256]; 16],
-    leader: usize,
-    scored: usize,
-    places: &Places,
-    docs: &[[u32; 128]; 16],
-    freqs: &[[u32; 128]; 16],
-    scores: &mut [f32; 128],
-)
-    requires { let slots = held (now places) (now docs) (now freqs) in
-        let list = listAt (similarity .scoring) (now file) (now lists) leader in
-        ⌜ (leader < 16) × (similarity .norms ≡ normReader (now file)) × SlotIn (now file) (now lists) slots leader
-        × Weighed (now lists) (now caches) leader × BlockScores list scored (now scores) × FloatRow (now scores) ⌝ }
-    ensures { λ _.
-        let list = listAt (similarity .scoring) (before file) (before lists) leader in
-        ⌜ BlockScores list (cursorAt (before places) leader .dec) (after scores) × FloatRow (after scores) ⌝ }
-{
-    if places[leader][DECODED] != scored {
-        score_block(
-            file,
-            similarity,
-            lists,
-            caches,
-            leader,
-            places,
-            docs,
-            freqs,
-            scores,
-        );
-    }
-}
-
-// A window: over behind the last document or where a list has run out, too low, or open.
+// A window: over where a list has run out, too low, or open.
 fn window_turn(
     file: &[u8],
-    similarity: Similarity,
+    leg: Leg,
     v: Intersection,
     lists: &[[usize; 8]; 16],
-    caches: &[[f32; 256]; 16],
-    threshold: f32,
+    norms: &[[f32; 256]; 16],
     order: &[usize; 16],
     places: &mut Places,
-    docs: &mut [[u32; 128]; 16],
-    freqs: &mut [[u32; 128]; 16],
+    blocks: &mut Blocks,
     floats: &mut Floats,
 ) -> Turned
-    requires { let asked = query similarity (now file) (now lists) (now caches) (v .len) (now order) in
-        ⌜ Stands asked v (held (now places) (now docs) (now freqs)) (now floats) × AtWindow v ⌝ }
+    requires { let asked = query (leg .similarity) (now file) (now lists) (now norms) (v .len) (now order) in
+        ⌜ Stands asked v (held (now places) (now blocks)) (now floats) × AtWindow v × (v .doc < 2147483647) ⌝ }
     ensures { λ r.
-        let asked = query similarity (before file) (before lists) (before caches) (v .len) (before order) in
-        let old = held (before places) (before docs) (before freqs) in
-        let new = held (after places) (after docs) (after freqs) in
-        ⌜ TakesTurn asked threshold v old (before floats) r new (after floats) ⌝ }
+        let asked = query (leg .similarity) (before file) (before lists) (before norms) (v .len) (before order) in
+        ⌜ TakesTurn asked (leg .threshold) v (held (before places) (before blocks)) (before floats)
+        r (held (after places) (after blocks)) (after floats) ⌝ }
 {
-    let len = v.len;
     let doc = v.doc;
-    if doc >= TERMINATED {
-        return quiet(v, doc, Stage::Over);
-    }
-    let leader = order[0];
-    let scored = places[leader][DECODED];
     let window = next_window(
         file,
-        similarity,
+        leg,
         lists,
-        caches,
-        len,
+        norms,
+        v.len,
         order,
         doc,
-        threshold,
         places,
-        docs,
-        freqs,
+        blocks,
         &mut floats[BOUNDS],
-    );
-    keep_scores(
-        file,
-        similarity,
-        lists,
-        caches,
-        leader,
-        scored,
-        places,
-        docs,
-        freqs,
-        &mut floats[SCORES],
     );
     match window {
         Window::Over => quiet(v, doc, Stage::Over),
         Window::Low(window_end) => quiet(v, window_end + 1, Stage::Window),
         Window::Open(window_end, block_max_sum) => {
-            sum_rests(len, order, floats);
-            let next = search_block(&docs[leader], doc);
-            let left = Candidates {
-                next,
-                window_end,
-                score_threshold: threshold - block_max_sum,
-            };
-            quiet(v, doc, Stage::Within(left))
+            let q = order[0];
+            let similarity = leg.similarity;
+            keep_scores(file, similarity, lists, norms, q, places, blocks, floats);
+            sum_rests(v.len, order, floats);
+            let next = search_block(&blocks[q][DOCS], doc);
+            let stage = within(next, window_end, leg.threshold - block_max_sum);
+            quiet(v, doc, stage)
         }
     }
 }
@@ -263,44 +178,40 @@ fn window_turn(
 // One candidate against the secondaries; or the window has none left, and the next begins behind it.
 fn within_turn(
     file: &[u8],
-    similarity: Similarity,
+    leg: Leg,
     v: Intersection,
     left: Candidates,
     lists: &[[usize; 8]; 16],
-    caches: &[[f32; 256]; 16],
-    threshold: f32,
+    norms: &[[f32; 256]; 16],
     order: &[usize; 16],
     places: &mut Places,
-    docs: &mut [[u32; 128]; 16],
-    freqs: &mut [[u32; 128]; 16],
+    blocks: &mut Blocks,
     floats: &Floats,
 ) -> Turned
-    requires { let asked = query similarity (now file) (now lists) (now caches) (v .len) (now order) in
-        ⌜ Stands asked v (held (now places) (now docs) (now freqs)) (now floats) × AtCandidates v left ⌝ }
+    requires { let asked = query (leg .similarity) (now file) (now lists) (now norms) (v .len) (now order) in
+        ⌜ Stands asked v (held (now places) (now blocks)) (now floats) × AtCandidates v left ⌝ }
     ensures { λ r.
-        let asked = query similarity (before file) (before lists) (before caches) (v .len) (before order) in
-        let old = held (before places) (before docs) (before freqs) in
-        let new = held (after places) (after docs) (after freqs) in
-        ⌜ TakesTurn asked threshold v old (before floats) r new (before floats) ⌝ }
+        let asked = query (leg .similarity) (before file) (before lists) (before norms) (v .len) (before order) in
+        let old = held (before places) (before blocks) in
+        let new = held (after places) (after blocks) in
+        ⌜ TakesTurn asked (leg .threshold) v old (before floats) r new (before floats) ⌝ }
 {
     let leader = order[0];
-    let found = next_candidate(left, &docs[leader], &floats[SCORES]);
+    let found = next_candidate(left, &blocks[leader][DOCS], &floats[SCORES + leader]);
     match found {
         Next::Nowhere => quiet(v, left.window_end + 1, Stage::Window),
         Next::At(next, candidate) => {
             let tried = try_candidate(
                 file,
-                similarity,
+                leg,
                 lists,
-                caches,
+                norms,
                 v.len,
                 order,
                 &floats[RESTS],
                 candidate,
-                threshold,
                 places,
-                docs,
-                freqs,
+                blocks,
             );
             after_candidate(v, left, next, candidate, tried)
         }
@@ -310,68 +221,45 @@ fn within_turn(
 // One turn.
 pub fn turn(
     file: &[u8],
-    similarity: Similarity,
+    leg: Leg,
     v: Intersection,
     lists: &[[usize; 8]; 16],
-    caches: &[[f32; 256]; 16],
-    threshold: f32,
+    norms: &[[f32; 256]; 16],
     order: &[usize; 16],
     places: &mut Places,
-    docs: &mut [[u32; 128]; 16],
-    freqs: &mut [[u32; 128]; 16],
+    blocks: &mut Blocks,
     floats: &mut Floats,
 ) -> Turned
-    requires { let asked = query similarity (now file) (now lists) (now caches) (v .len) (now order) in
-        ⌜ Stands asked v (held (now places) (now docs) (now freqs)) (now floats) ⌝ }
+    requires { let asked = query (leg .similarity) (now file) (now lists) (now norms) (v .len) (now order) in
+        ⌜ Stands asked v (held (now places) (now blocks)) (now floats) ⌝ }
     ensures { λ r.
-        let asked = query similarity (before file) (before lists) (before caches) (v .len) (before order) in
-        let old = held (before places) (before docs) (before freqs) in
-        let new = held (after places) (after docs) (after freqs) in
-        ⌜ TakesTurn asked threshold v old (before floats) r new (after floats) ⌝ }
+        let asked = query (leg .similarity) (before file) (before lists) (before norms) (v .len) (before order) in
+        let old = held (before places) (before blocks) in
+        let new = held (after places) (after blocks) in
+        ⌜ TakesTurn asked (leg .threshold) v old (before floats) r new (after floats) ⌝ }
 {
     let stage = v.stage;
     match stage {
-        Stage::Early => early_turn(
-            file,
-            similarity,
-            v,
-            lists,
-            caches,
-            threshold,
-            order,
-            places,
-            docs,
-            freqs,
-            floats,
-        ),
-        Stage::Window => window_turn(
-            file,
-            similarity,
-            v,
-            lists,
-            caches,
-            threshold,
-            order,
-            places,
-            docs,
-            freqs,
-            floats,
-        ),
+        Stage::Early => exit(v, leg.threshold, Stage::Window),
+        Stage::Window => {
+            if v.doc >= TERMINATED {
+                return quiet(v, v.doc, Stage::Over);
+            }
+            window_turn(file, leg, v, lists, norms, order, places, blocks, floats)
+        }
         Stage::Within(left) => within_turn(
             file,
-            similarity,
+            leg,
             v,
             left,
             lists,
-            caches,
-            threshold,
+            norms,
             order,
             places,
-            docs,
-            freqs,
+            blocks,
             floats,
         ),
-        Stage::Called(left) => exit(v, threshold, Stage::Within(left)),
+        Stage::Called(left) => exit(v, leg.threshold, Stage::Within(left)),
         Stage::Over => quiet(v, v.doc, Stage::Over),
     }
 }

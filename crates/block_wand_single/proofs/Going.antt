@@ -27,8 +27,8 @@ use Rattle.block_wand_single.specs.declared.Gone.{Gone}
 use Rattle.block_wand_single.specs.declared.Phase.{Phase}
 use Rattle.block_wand_single.specs.declared.Phase.the-variants.{Called, Hunt, Over as Done, Walk}
 use Rattle.block_wand_single.specs.declared.Single.{Single}
+use Rattle.block_wand_single.proofs.Kept.{kept-fresh}
 use Rattle.block_wand_single.proofs.Scorers.{right}
-use Rattle.term_scorer.proofs.Bounds.{kept-none}
 use Rattle.term_scorer.proofs.Slots.{standing-in}
 
 -- a scan that has not returned and is on no walk hunts
@@ -54,10 +54,10 @@ then-report turn ended t {p} {q} {r} {n} {m} {turns} {d} {score} h Q w =
 abbrev W : List ℕ → Similarity → List (List ℕ) → Single → ℕ → Route Float
 W file similarity lists x ord = singleRoute (similarity .scoring) file lists (x .slot) ord
 
-module _ {file : List ℕ} {similarity : Similarity} {lists : List (List ℕ)} {caches : List (List Float)} where
+module _ {file : List ℕ} {similarity : Similarity} {lists : List (List ℕ)} {norms : List (List Float)} where
   -- a turn of the hunt is one without a report
   pub hunt-strides : {t : Float} {x : Single} {h h′ : Held} {r : Single} {floats : List (List Float)} → x .phase ≡ Hunt → {turns : ℕ} → 0 < turns
-      → Hunted file similarity lists caches t x h r h′ floats → Steps file similarity lists caches t turns x h (record { single = r; taken = 1; event = Paused }) h′ floats
+      → Hunted file similarity lists norms t x h r h′ floats → Steps file similarity lists norms t turns x h (record { single = r; taken = 1; event = Paused }) h′ floats
   hunt-strides {t} {x} {h} {h′} {r} e {turns} some H = record {
     slot-is = H .slot-is;
     stands = H .stands;
@@ -72,12 +72,12 @@ module _ {file : List ℕ} {similarity : Similarity} {lists : List (List ℕ)} {
 
   -- A SCAN BEGINS AT ITS ROUTE'S FIRST PLACE: its slot is open on the list's first posting, with nothing kept of it.
   pub single-begins : {q : ℕ} {h : Held} {floats : List (List Float)} {doc : ℕ} → similarity .norms ≡ normReader file
-      → FreshSlot (similarity .scoring) file lists caches h q → FloatRows floats → doc ≡ docIn file (partAt lists q) 0
-      → Stands file similarity lists caches (record { slot = q; doc = doc; phase = Hunt }) h floats
+      → FreshSlot (similarity .scoring) file lists norms h q → FloatRows floats → doc ≡ docIn file (partAt lists q) 0
+      → Stands file similarity lists norms (record { slot = q; doc = doc; phase = Hunt }) h floats
       × ((ord : ℕ) → placeOf (record { slot = q; doc = doc; phase = Hunt }) (h .places) ≡ singleRoute (similarity .scoring) file lists q ord .first)
-  single-begins {q} {h} {floats} {doc} norms F rows d = (
+  single-begins {q} {h} {floats} {doc} e F rows d = (
     record {
-      ready = record { small = F .slot-in; norms-are = norms; slot = F .slot; weighed = F .weighed; rows = rows; bound = kept-none l q (F .unkept) };
+      ready = record { norms-are = e; rows = rows; kept = kept-fresh F };
       scores = λ w. absurd (false≢true w);
       kept = subst (λ (p : route.SinglePlace). SingleKept 128 l (p .phase) (p .cur) (p .doc)) (sym first)
           (single-nears 128 (documents file) f32 l (right (standing-in (F .slot)) (similarity .scoring)) 0 .begins);
@@ -95,15 +95,15 @@ module _ {file : List ℕ} {similarity : Similarity} {lists : List (List ℕ)} {
 -- ---- the loop
 
 -- the turns so far had no report, and the scan stands where they lead
-pub record Going (file : List ℕ) (similarity : Similarity) (lists : List (List ℕ)) (caches : List (List Float)) (t : Float) (turns : ℕ) (x : Single) (h : Held)
+pub record Going (file : List ℕ) (similarity : Similarity) (lists : List (List ℕ)) (norms : List (List Float)) (t : Float) (turns : ℕ) (x : Single) (h : Held)
     (taken : ℕ) (y : Single) (h′ : Held) (floats : List (List Float)) : Type 0 where
   pub few : taken ≤ turns
   pub slot-is : y .slot ≡ x .slot
-  pub stands : Stands file similarity lists caches y h′ floats
+  pub stands : Stands file similarity lists norms y h′ floats
   pub passed : (ord : ℕ) → Quietly (W file similarity lists x ord .turn) (W file similarity lists x ord .ended) t (placeOf x (h .places)) taken (placeOf y (h′ .places))
 
-pub going-begun : {file : List ℕ} {similarity : Similarity} {lists : List (List ℕ)} {caches : List (List Float)} (t : Float) (turns : ℕ) {x : Single} {h : Held} {floats : List (List Float)}
-    → Stands file similarity lists caches x h floats → Going file similarity lists caches t turns x h 0 x h floats
+pub going-begun : {file : List ℕ} {similarity : Similarity} {lists : List (List ℕ)} {norms : List (List Float)} (t : Float) (turns : ℕ) {x : Single} {h : Held} {floats : List (List Float)}
+    → Stands file similarity lists norms x h floats → Going file similarity lists norms t turns x h 0 x h floats
 going-begun {file} {similarity} {lists} t turns {x} {h} S = record {
   few = omega arith;
   slot-is = refl;
@@ -111,8 +111,8 @@ going-begun {file} {similarity} {lists} t turns {x} {h} S = record {
   passed = λ ord. none-yet (W file similarity lists x ord .turn) (W file similarity lists x ord .ended) t (placeOf x (h .places));
 }
 
-module _ {file : List ℕ} {similarity : Similarity} {lists : List (List ℕ)} {caches : List (List Float)} {t : Float} {turns : ℕ} {x : Single} {h : Held}
-    {taken : ℕ} {y : Single} {h′ : Held} {floats : List (List Float)} (G : Going file similarity lists caches t turns x h taken y h′ floats) where
+module _ {file : List ℕ} {similarity : Similarity} {lists : List (List ℕ)} {norms : List (List Float)} {t : Float} {turns : ℕ} {x : Single} {h : Held}
+    {taken : ℕ} {y : Single} {h′ : Held} {floats : List (List Float)} (G : Going file similarity lists norms t turns x h taken y h′ floats) where
   abbrev turn : ℕ → Float → route.SinglePlace → Turn route.SinglePlace Float
   turn ord = W file similarity lists x ord .turn
 
@@ -120,10 +120,10 @@ module _ {file : List ℕ} {similarity : Similarity} {lists : List (List ℕ)} {
   ended ord = W file similarity lists x ord .ended
 
   -- at the end, or all turns are taken
-  pub gone-over : isDone (y .phase) ≡ true → Goes file similarity lists caches t turns x h (record { single = y; taken = taken; event = Over }) h′ floats
+  pub gone-over : isDone (y .phase) ≡ true → Goes file similarity lists norms t turns x h (record { single = y; taken = taken; event = Over }) h′ floats
   gone-over e = record { slot-is = G .slot-is; stands = G .stands; went = λ ord. at-end (turn ord) (ended ord) t (G .passed ord) (G .few) e }
 
-  pub gone-through : isDone (y .phase) ≡ false → taken ≡ turns → Goes file similarity lists caches t turns x h (record { single = y; taken = taken; event = Paused }) h′ floats
+  pub gone-through : isDone (y .phase) ≡ false → taken ≡ turns → Goes file similarity lists norms t turns x h (record { single = y; taken = taken; event = Paused }) h′ floats
   gone-through e f = record {
     slot-is = G .slot-is;
     stands = G .stands;
@@ -131,13 +131,13 @@ module _ {file : List ℕ} {similarity : Similarity} {lists : List (List ℕ)} {
         (at-pause (turn ord) (ended ord) t (G .passed ord) e);
   }
 
-  module _ {r : Gone} {h″ : Held} {floats′ : List (List Float)} (S : Steps file similarity lists caches t (turns - taken) y h′ r h″ floats′) where
+  module _ {r : Gone} {h″ : Held} {floats′ : List (List Float)} (S : Steps file similarity lists norms t (turns - taken) y h′ r h″ floats′) where
     abbrev Strides : ℕ → Event → Type 0
-    Strides ord e = Strode file similarity lists caches t (turns - taken) (W file similarity lists x ord) (placeOf y (h′ .places)) (r .taken) (placeOf (r .single) (h″ .places)) e
+    Strides ord e = Strode file similarity lists norms t (turns - taken) (W file similarity lists x ord) (placeOf y (h′ .places)) (r .taken) (placeOf (r .single) (h″ .places)) e
 
     strode : (ord : ℕ) → Strides ord (r .event)
     strode ord =
-        subst (λ (q : ℕ). Strode file similarity lists caches t (turns - taken) (singleRoute (similarity .scoring) file lists q ord)
+        subst (λ (q : ℕ). Strode file similarity lists norms t (turns - taken) (singleRoute (similarity .scoring) file lists q ord)
         (placeOf y (h′ .places)) (r .taken) (placeOf (r .single) (h″ .places)) (r .event)) (G .slot-is) (S .strode ord)
 
     -- a stretch without a report
@@ -161,14 +161,14 @@ module _ {file : List ℕ} {similarity : Similarity} {lists : List (List ℕ)} {
         taken-by ord Over v = absurd v
         taken-by ord Paused v = omega (arith, v .1, G .few)
 
-    pub gone-report : isReport (r .event) ≡ true → Goes file similarity lists caches t turns x h (record { single = r .single; taken = taken + r .taken; event = r .event }) h″ floats′
+    pub gone-report : isReport (r .event) ≡ true → Goes file similarity lists norms t turns x h (record { single = r .single; taken = taken + r .taken; event = r .event }) h″ floats′
     gone-report f = record {
       slot-is = S .slot-is ∙ G .slot-is;
       stands = S .stands;
       went = λ ord. with-report ord (r .event) f (strode ord);
     }
 
-    pub going-on : isReport (r .event) ≡ false → Going file similarity lists caches t turns x h (taken + r .taken) (r .single) h″ floats′
+    pub going-on : isReport (r .event) ≡ false → Going file similarity lists norms t turns x h (taken + r .taken) (r .single) h″ floats′
     going-on f = record {
       few = taken-fits;
       slot-is = S .slot-is ∙ G .slot-is;

@@ -1,4 +1,5 @@
 -- Laws of the single run that belong to no one function.
+pub mod Kept
 pub mod Scorers
 pub mod Hunting
 pub mod Seeking

@@ -6,10 +6,10 @@ use Prim.Native.Nat.{ℕ, min, _+_, _≤_, _<_}
 use native.Mathlib.Numerals.{add-one}
 use native.Mathlib.Omega.{arith}
 use lib.ListN.{getD, length, length-set, set}
-use lib.Seq.{getD-set-other, getD-set-same}
+use lib.Seq.{getD-set-same}
 use lib.Ieee.{Float}
 use borrow.Author.Tests.{eq-eqb, le-ltb, lt-ltb, ne-eqb}
-use Rattle.route.specs.Postings.{Postings, TERMINATED, lastDoc}
+use Rattle.route.specs.Postings.{TERMINATED, lastDoc}
 use Rattle.route.specs.Cursor.{Cursor, seekBlockIn}
 use Rattle.route.specs.Single.{SinglePlace}
 use Rattle.route.specs.Inner.Lists.{ListOk}
@@ -17,6 +17,7 @@ use Rattle.route.proofs.Places.{last-cap}
 use Rattle.bm25.specs.declared.Scoring.{Scoring}
 use Rattle.bm25.specs.declared.Scoring.the-variants.{Unstepped}
 use Rattle.notefile.specs.Header.{documents}
+use Rattle.notefile.specs.Inner.Reads.{docsOf}
 use Rattle.decoded.proofs.AcceptedLists.{list-ok}
 use Rattle.skip_reader.specs.Inner.Decoded.{docIn}
 use Rattle.postings.specs.Inner.Places.{cursorOf, Moved}
@@ -25,8 +26,7 @@ use Rattle.skip_reader.proofs.Readers.{end-is}
 use Rattle.slot_rows.specs.Inner.Rows.{cursorIn, partIn, postingsIn, MovedRow, PlaceIn}
 use Rattle.slot_rows.proofs.Rows.{last-is, moves-in}
 use Rattle.term_scorer.specs.Inner.Slots.{Held, cursorAt, held, lastAt, listAt, partAt, Shallowed, Sixteen, SlotIn, StandingIn}
-use Rattle.term_scorer.specs.Inner.Weights.{Bounded, FloatRow, KeptBounds}
-use Rattle.term_scorer.proofs.Bounds.{bounded-kept, bounded-place, bounded-sixteen, kept-moved}
+use Rattle.term_scorer.specs.Inner.Weights.{Bounded, ScoresMade}
 use Rattle.term_scorer.proofs.Floats.{rows-set}
 use Rattle.term_scorer.specs.declared.score.Similarity.{Similarity}
 use Rattle.block_wand_single.specs.Inner.Places.{onPlace, phaseOf, skipped, MovedTo, Skips, ToPlace}
@@ -34,6 +34,7 @@ use Rattle.block_wand_single.specs.Inner.Stands.{Ready}
 use Rattle.block_wand_single.specs.declared.Phase.{Phase}
 use Rattle.block_wand_single.specs.declared.Phase.the-variants.{Hunt, Over, Walk}
 use Rattle.block_wand_single.specs.declared.Single.{Single}
+use Rattle.block_wand_single.proofs.Kept.{kept-bounded, kept-made, kept-row}
 
 -- ---- the list and the last document of the skip reader's block
 
@@ -50,12 +51,12 @@ module _ {file : List ℕ} {lists places : List (List ℕ)} {q : ℕ} (T : Stand
 
 -- ---- moves
 
-module _ (file list : List ℕ) {row docs freqs : List ℕ} (P : PlaceIn file (partIn list) row docs freqs) (i : ℕ) (h : i < 128) where
+module _ (file list : List ℕ) {row : List ℕ} {block : List (List ℕ)} (P : PlaceIn file (partIn list) row block) (i : ℕ) (h : i < 128) where
   abbrev p : SegmentPostings
   p = postingsIn file (partIn list) row
 
   there : Moved file (partIn list) (λ _. onPlace (cursorOf p) i)
-      (record { «skip_reader» = p .«skip_reader»; «block_loaded» = p .«block_loaded»; decoded = p .decoded; cur = i }) docs freqs
+      (record { «skip_reader» = p .«skip_reader»; «block_loaded» = p .«block_loaded»; decoded = p .decoded; cur = i }) block
   unfolding cursorOf
   there = record {
     cursor-is = λ _. refl;
@@ -63,49 +64,47 @@ module _ (file list : List ℕ) {row docs freqs : List ℕ} (P : PlaceIn file (p
   }
 
   -- to another place of the block decoded last
-  put-in : MovedRow file (partIn list) (λ _. onPlace (cursorIn row) i) row (set row 6 i) docs freqs (getD docs i 0)
+  put-in : MovedRow file (partIn list) (λ _. onPlace (cursorIn row) i) row (set row 6 i) block (getD (docsOf block) i 0)
   put-in = moves-in file list row (λ l c. onPlace c i) P i there refl
 
 module _ {file : List ℕ} {lists : List (List ℕ)} {q : ℕ} {h : Held} (S : SlotIn file lists h q) where
   -- a move of the slot's row, and the scan with it
-  module _ {h′ : Held} (sixteen : Sixteen (h′ .places) × Sixteen (h′ .docs) × Sixteen (h′ .freqs)) {to : Scoring → Cursor} {d : ℕ}
-      (M : MovedRow file (partAt lists q) to (getD (h .places) q []) (getD (h′ .places) q []) (getD (h′ .docs) q []) (getD (h′ .freqs) q []) d) where
+  module _ {h′ : Held} (sixteen : Sixteen (h′ .places) × Sixteen (h′ .blocks)) {to : Scoring → Cursor} {d : ℕ}
+      (M : MovedRow file (partAt lists q) to (getD (h .places) q []) (getD (h′ .places) q []) (getD (h′ .blocks) q []) d) where
     pub moved-to : (phase : Phase) (doc : ℕ) {place : Scoring → SinglePlace} → ((s : Scoring) → record { phase = phaseOf phase; cur = to s; doc = doc } ≡ place s)
         → MovedTo file lists q place h h′ (record { slot = q; doc = doc; phase = phase })
     moved-to phase doc e = record {
       slot-is = refl;
       place-is = λ s. ap (λ (z : Cursor). record { phase = phaseOf phase; cur = z; doc = doc }) (M .cursor-is s) ∙ e s;
-      slot = record { sixteen = sixteen; part-row = S .part-row; list = S .list; place = M .place };
-      bound-is = M .bound-is;
-      ahead-is = M .ahead-is;
+      kept = λ s norms floats K. kept-row K sixteen M;
     }
 
   -- nothing moves
-  stay : MovedRow file (partAt lists q) (λ _. cursorAt (h .places) q) (getD (h .places) q []) (getD (h .places) q []) (getD (h .docs) q []) (getD (h .freqs) q [])
+  stay : MovedRow file (partAt lists q) (λ _. cursorAt (h .places) q) (getD (h .places) q []) (getD (h .places) q []) (getD (h .blocks) q [])
       (docIn file (partAt lists q) (cursorAt (h .places) q .at))
   stay = record { place = S .place; cursor-is = λ _. refl; doc-is = refl; bound-is = λ k. (k, refl, refl); scores-is = λ k. (k, refl); ahead-is = λ e k. k }
 
   -- its skip reader alone
   module _ {to : Scoring → Cursor} {places′ : List (List ℕ)} (M : Shallowed file lists q to (h .places) places′) where
     shallow-to : (phase : Phase) (doc : ℕ) {place : Scoring → SinglePlace} → ((s : Scoring) → record { phase = phaseOf phase; cur = to s; doc = doc } ≡ place s)
-        → MovedTo file lists q place h (held places′ (h .docs) (h .freqs)) (record { slot = q; doc = doc; phase = phase })
+        → MovedTo file lists q place h (held places′ (h .blocks)) (record { slot = q; doc = doc; phase = phase })
     shallow-to phase doc e =
-        moved-to (ap length (M .only) ∙ length-set (h .places) q _ ∙ S .sixteen .0, S .sixteen .1, S .sixteen .2)
-        (M .moved (getD (h .docs) q []) (getD (h .freqs) q []) (S .place)) phase doc e
+        moved-to (ap length (M .only) ∙ length-set (h .places) q _ ∙ S .sixteen .0, S .sixteen .1)
+        (M .moved (getD (h .blocks) q []) (S .place)) phase doc e
 
   -- to another place of its block
   module _ (small : q < 16) (i : ℕ) (hi : i < 128) where
     abbrev put : Held
-    put = held (set (h .places) q (set (getD (h .places) q []) 6 i)) (h .docs) (h .freqs)
+    put = held (set (h .places) q (set (getD (h .places) q []) 6 i)) (h .blocks)
 
     row-there : getD (put .places) q [] ≡ set (getD (h .places) q []) 6 i
     row-there = let s = S .sixteen .0 in getD-set-same (h .places) q _ [] (omega arith)
 
-    put-sixteen : Sixteen (put .places) × Sixteen (h .docs) × Sixteen (h .freqs)
-    put-sixteen = (length-set (h .places) q _ ∙ S .sixteen .0, S .sixteen .1, S .sixteen .2)
+    put-sixteen : Sixteen (put .places) × Sixteen (h .blocks)
+    put-sixteen = (length-set (h .places) q _ ∙ S .sixteen .0, S .sixteen .1)
 
-    put-row : MovedRow file (partAt lists q) (λ _. onPlace (cursorAt (h .places) q) i) (getD (h .places) q []) (getD (put .places) q []) (getD (h .docs) q []) (getD (h .freqs) q [])
-        (getD (getD (h .docs) q []) i 0)
+    put-row : MovedRow file (partAt lists q) (λ _. onPlace (cursorAt (h .places) q) i) (getD (h .places) q []) (getD (put .places) q []) (getD (h .blocks) q [])
+        (getD (docsOf (getD (h .blocks) q [])) i 0)
     put-row = rw row-there (put-in file (getD lists q []) (S .place) i hi)
 
     pub put-to : (phase : Phase) (doc : ℕ) {place : Scoring → SinglePlace}
@@ -124,12 +123,7 @@ module _ {file : List ℕ} {lists : List (List ℕ)} {q : ℕ} {h : Held} (S : S
     put-then M = record {
       slot-is = M .slot-is;
       place-is = M .place-is;
-      slot = M .slot;
-      bound-is = λ k.
-          let v = M .bound-is k in
-          let w = put-row .bound-is (v .0) in
-          (w .0, v .1 ∙ w .1, v .2 ∙ w .2);
-      ahead-is = λ e k. put-row .ahead-is e (M .ahead-is e k);
+      kept = λ s norms floats K. M .kept s norms floats (kept-row K put-sixteen put-row);
     }
 
 -- ---- past a block
@@ -139,91 +133,57 @@ module _ {file : List ℕ} {lists places : List (List ℕ)} {q : ℕ} (T : Stand
   last-is-route s = last-here T s ∙ sym e
 
   pub skip-over : last ≡ 2147483647 → Skips file lists q end places places (record { slot = q; doc = end; phase = Over })
-  skip-over h = record { moved = λ docs freqs S. moved-to S (S .sixteen) (stay S) Over end (λ s. sym (rw (last-is-route s, eq-eqb last TERMINATED h))); off = refl }
+  skip-over h = record { moved = λ blocks S. moved-to S (S .sixteen) (stay S) Over end (λ s. sym (rw (last-is-route s, eq-eqb last TERMINATED h))); off = refl }
 
   pub skip-past : (last ≡ 2147483647 → ⊥) → {places′ : List (List ℕ)}
       → Shallowed file lists q (λ s. seekBlockIn (listAt s file lists q) 128 (last + 1) (cursorAt places q)) places places′
       → Skips file lists q end places places′ (record { slot = q; doc = last + 1; phase = Hunt })
-  skip-past h M = record { moved = λ docs freqs S. shallow-to S M Hunt (last + 1) (λ s. sym (rw (last-is-route s, ne-eqb last TERMINATED h, add-one last))); off = refl }
+  skip-past h M = record { moved = λ blocks S. shallow-to S M Hunt (last + 1) (λ s. sym (rw (last-is-route s, ne-eqb last TERMINATED h, add-one last))); off = refl }
 
 -- ---- to a place of a block, or out of it
 
-module _ {file : List ℕ} {lists places docs : List (List ℕ)} {q : ℕ} (small : q < 16) (n i : ℕ) (short : n ≤ 128) where
-  pub placed-in : i < n → ToPlace file lists q docs n i places (set places q (set (getD places q []) 6 i)) (record { slot = q; doc = getD (getD docs q []) i 0; phase = Walk })
+module _ {file : List ℕ} {lists places : List (List ℕ)} {blocks : List (List (List ℕ))} {q : ℕ} (S : SlotIn file lists (held places blocks) q) (small : q < 16) (n i : ℕ) (short : n ≤ 128) where
+  pub placed-in : i < n
+      → ToPlace file lists q blocks n i places (set places q (set (getD places q []) 6 i)) (record { slot = q; doc = getD (docsOf (getD blocks q [])) i 0; phase = Walk })
   placed-in h = record {
-    moved = λ freqs S. put-to S small i (omega arith) Walk (getD (getD docs q []) i 0) (λ s. sym (rw (lt-ltb i n h)));
-    same-block = λ freqs S _. ap (λ (z : Cursor). z .dec) (put-cursor S small i (omega arith));
+    moved = put-to S small i (omega arith) Walk (getD (docsOf (getD blocks q [])) i 0) (λ s. sym (rw (lt-ltb i n h)));
+    same-block = λ _. ap (λ (z : Cursor). z .dec) (put-cursor S small i (omega arith));
   }
 
   pub placed-out : n ≤ i → {last : ℕ} → last ≡ min n 127 → {places′ : List (List ℕ)} {r : Single}
-      → Skips file lists q 2147483647 (set places q (set (getD places q []) 6 last)) places′ r → ToPlace file lists q docs n i places places′ r
-  placed-out h {last} e {places′} {r} K = record {
-    moved = λ freqs S.
-        let hl : last < 128 = omega arith in
-        let M = put-then S small last hl (K .moved docs freqs (put-slot S small last hl)) in
-        record {
+      → Skips file lists q 2147483647 (set places q (set (getD places q []) 6 last)) places′ r → ToPlace file lists q blocks n i places places′ r
+  placed-out h {last} e {places′} {r} K =
+      let hl : last < 128 = omega arith in
+      let M = put-then S small last hl (K .moved blocks (put-slot S small last hl)) in
+      record {
+        moved = record {
           slot-is = M .slot-is;
           place-is = λ s.
               M .place-is s ∙ ap (λ (z : Cursor). skipped (listAt s file lists q) z TERMINATED) (put-cursor S small last hl)
               ∙ ap (λ (z : ℕ). skipped (listAt s file lists q) (onPlace (cursorAt places q) z) TERMINATED) e ∙ sym (rw (le-ltb i n h));
-          slot = M .slot;
-          bound-is = M .bound-is;
-          ahead-is = M .ahead-is;
+          kept = M .kept;
         };
-    same-block = λ freqs S w. absurd (true≢false (sym w ∙ K .off));
-  }
+        same-block = λ w. absurd (true≢false (sym w ∙ K .off));
+      }
 
 -- ---- ready again
 
-module _ {file : List ℕ} {similarity : Similarity} {lists : List (List ℕ)} {caches : List (List Float)} {q : ℕ} {h : Held} {floats : List (List Float)}
-    (R : Ready file similarity lists caches q h floats) where
-  abbrev list : Postings Float
-  list = listAt (similarity .scoring) file lists q
-
+module _ {file : List ℕ} {similarity : Similarity} {lists : List (List ℕ)} {norms : List (List Float)} {q : ℕ} {h : Held} {floats : List (List Float)}
+    (R : Ready file similarity lists norms q h floats) where
   -- behind a move
-  pub ready-moved : {place : Scoring → SinglePlace} {h′ : Held} {r : Single} → MovedTo file lists q place h h′ r → Ready file similarity lists caches q h′ floats
-  ready-moved {h′ = h′} M = record {
-    small = R .small;
-    norms-are = R .norms-are;
-    slot = M .slot;
-    weighed = R .weighed;
-    rows = R .rows;
-    bound = kept-moved list q (M .bound-is) (M .ahead-is) (R .bound);
-  }
+  pub ready-moved : {place : Scoring → SinglePlace} {h′ : Held} {r : Single} → MovedTo file lists q place h h′ r → Ready file similarity lists norms q h′ floats
+  ready-moved M = record { norms-are = R .norms-are; rows = R .rows; kept = M .kept (similarity .scoring) norms floats (R .kept) }
 
-  -- with the scores of a block
-  pub ready-scored : (values : List Float) → FloatRow values → Ready file similarity lists caches q h (set floats 2 values)
-  ready-scored values l =
-      let other : getD (set floats 2 values) 0 [] ≡ getD floats 0 [] = getD-set-other floats 2 0 values [] (λ e. absurd (omega arith)) in
-      record {
-        small = R .small;
-        norms-are = R .norms-are;
-        slot = R .slot;
-        weighed = R .weighed;
-        rows = rows-set 2 values (R .rows) (omega arith) l;
-        bound = subst (KeptBounds list q (getD (h .places) q [])) (sym other) (R .bound);
-      }
+  -- with the scores of its block
+  pub ready-made : {places′ : List (List ℕ)} {floats′ : List (List Float)} → ScoresMade (similarity .scoring) file lists q (h .places) floats places′ floats′
+      → Ready file similarity lists norms q (held places′ (h .blocks)) floats′
+  ready-made M = record { norms-are = R .norms-are; rows = M .rows; kept = kept-made (R .kept) M q (R .kept) }
 
   -- with its block's bound
-  module _ {places′ : List (List ℕ)} {bounds : List Float} {b : Float} (B : Bounded (similarity .scoring) file lists q (h .places) (getD floats 0 []) places′ bounds b) where
-    pub bounded-cursor : cursorAt places′ q ≡ cursorAt (h .places) q
-    bounded-cursor = bounded-place B (R .small) (R .slot .sixteen .0) (R .slot .place) .1
-
-    pub ready-bounded : Ready file similarity lists caches q (held places′ (h .docs) (h .freqs)) (set floats 0 bounds)
-    ready-bounded =
-        let s = R .slot .sixteen in
-        let t = R .rows .eighteen in
-        let row : getD (set floats 0 bounds) 0 [] ≡ bounds = getD-set-same floats 0 bounds [] (omega arith) in
-        record {
-          small = R .small;
-          norms-are = R .norms-are;
-          slot = record {
-            sixteen = (bounded-sixteen B (s .0), s .1, s .2);
-            part-row = R .slot .part-row;
-            list = R .slot .list;
-            place = bounded-place B (R .small) (s .0) (R .slot .place) .0;
-          };
-          weighed = R .weighed;
-          rows = rows-set 0 bounds (R .rows) (omega arith) (B .long ∙ R .rows .row 0 (omega arith));
-          bound = subst (KeptBounds list q (getD places′ q [])) (sym row) (bounded-kept B (R .small) (s .0) (R .slot .place));
-        }
+  pub ready-bounded : {places′ : List (List ℕ)} {bounds : List Float} {b : Float} → Bounded (similarity .scoring) file lists q (h .places) (getD floats 0 []) places′ bounds b
+      → Ready file similarity lists norms q (held places′ (h .blocks)) (set floats 0 bounds)
+  ready-bounded {bounds = bounds} B = record {
+    norms-are = R .norms-are;
+    rows = rows-set 0 bounds (R .rows) (omega arith) (B .long ∙ R .rows .row 0 (omega arith));
+    kept = kept-bounded (R .kept) B (R .rows);
+  }

@@ -1,6 +1,6 @@
 -- The walk over the block in a slot: its decoded documents and scores are the route's, so each posting that it passes is the route's turn.
 use mathlib.Core.Path.{_≡_, refl, sym, ap, _∙_, subst}
-use mathlib.Core.Bool.{true, false, false≢true}
+use mathlib.Core.Bool.{true, false≢true}
 use mathlib.Core.List.{List, []}
 use mathlib.Core.Logic.{inl, inr}
 use Prim.Native.Nat.{ℕ, suc, min, _+_, _*_, _-_, _≤_, _<_}
@@ -20,6 +20,7 @@ use Rattle.route.proofs.Cases.{on-test}
 use Rattle.route.proofs.Cursor.{on-block}
 use Rattle.route.proofs.Places.{docAt-lt, start-le}
 use Rattle.notefile.specs.Header.{documents}
+use Rattle.notefile.specs.Inner.Reads.{docsOf}
 use Rattle.reports.specs.Inner.Turns.{Went}
 use Rattle.reports.specs.declared.Event.the-variants.{Over, Paused, Report}
 use Rattle.reports.proofs.TurnLaws.{Quietly, at-end, at-pause, none-yet}
@@ -48,9 +49,9 @@ on-a-walk l Walk c d w k = k
 on-a-walk l Called c d w k = k
 on-a-walk l Done c d w k = absurd (false≢true w)
 
-module _ {file : List ℕ} {similarity : Similarity} {lists : List (List ℕ)} {caches : List (List Float)} where
+module _ {file : List ℕ} {similarity : Similarity} {lists : List (List ℕ)} {norms : List (List Float)} where
   -- what the route keeps is kept by turns without a report
-  kept-on : {x : Single} {h : Held} {floats : List (List Float)} → Stands file similarity lists caches x h floats → (t : Float) {m : ℕ} {p : route.SinglePlace}
+  kept-on : {x : Single} {h : Held} {floats : List (List Float)} → Stands file similarity lists norms x h floats → (t : Float) {m : ℕ} {p : route.SinglePlace}
       → Quietly (singleRoute (similarity .scoring) file lists (x .slot) 0 .turn) (singleRoute (similarity .scoring) file lists (x .slot) 0 .ended) t (placeOf x (h .places)) m p
       → SingleKept 128 (listAt (similarity .scoring) file lists (x .slot)) (p .phase) (p .cur) (p .doc)
   kept-on {x} {h} S t {m} {p} Q =
@@ -59,7 +60,7 @@ module _ {file : List ℕ} {similarity : Similarity} {lists : List (List ℕ)} {
       (λ e. went-near W (keeps S 0) t (placeOf x (h .places)) Over (S .kept) (at-end (W .turn) (W .ended) t Q {turns = m} (omega arith) e) .0)
       (λ e. went-near W (keeps S 0) t (placeOf x (h .places)) Paused (S .kept) (at-pause (W .turn) (W .ended) t Q e) .0)
 
-  module _ {x : Single} {places docs freqs : List (List ℕ)} {floats : List (List Float)} {values : List Float} (T : Tables file lists x places docs values similarity caches freqs floats) where
+  module _ {x : Single} {places : List (List ℕ)} {blocks : List (List (List ℕ))} {floats : List (List Float)} {values : List Float} (T : Tables file lists x places blocks values similarity norms floats) where
     abbrev q : ℕ
     q = x .slot
 
@@ -75,8 +76,11 @@ module _ {file : List ℕ} {similarity : Similarity} {lists : List (List ℕ)} {
     abbrev cur : ℕ
     cur = getD row 6 0
 
+    abbrev docs : List ℕ
+    docs = docsOf (getD blocks q [])
+
     ok : ListOk 128 (documents file) l
-    ok = right (standing-in (T .stands .ready .slot)) (similarity .scoring)
+    ok = right (standing-in (T .stands .ready .kept .slot)) (similarity .scoring)
 
     kept : SingleKept 128 l route.walk c (x .doc)
     kept = on-a-walk l (x .phase) c (x .doc) (T .walking) (T .stands .kept)
@@ -113,11 +117,11 @@ module _ {file : List ℕ} {similarity : Similarity} {lists : List (List ℕ)} {
       at-here : (i : ℕ) → here l ok (c .blk) within (c .loaded) n size i ≡ onPlace c i
       at-here i = sym (rw on)
 
-      doc-at : (i : ℕ) → i < 128 → docAt l (start 128 (c .blk) + i) ≡ getD (getD docs q []) i 0
+      doc-at : (i : ℕ) → i < 128 → docAt l (start 128 (c .blk) + i) ≡ getD docs i 0
       unfolding cursorIn postingsIn
       doc-at i h =
           ap (λ (z : ℕ). docAt l (start 128 z + i)) (sym on) ∙ doc-is file (partAt lists q) (similarity .scoring) (start 128 (c .dec) + i)
-          ∙ sym (T .stands .ready .slot .place .placed .holds .docs-are .at i h)
+          ∙ sym (T .stands .ready .kept .slot .place .placed .holds .docs-are .at i h)
 
       value-at : (i : ℕ) → i < n → l .score (start 128 (c .blk) + i) ≡ getD values i nan
       value-at i h =
@@ -125,10 +129,10 @@ module _ {file : List ℕ} {similarity : Similarity} {lists : List (List ℕ)} {
           let j : start 128 (c .dec) + i < l .len = rw on m in
           ap (λ (z : ℕ). l .score (start 128 z + i)) (sym on) ∙ sym (T .stands .scores (T .walking) .at i (omega arith) j) ∙ ap (λ (z : List Float). getD z i nan) (T .row-is)
 
-      in-block : (i : ℕ) → inBlock l c (getD docs q []) n i ≡ place i
+      in-block : (i : ℕ) → inBlock l c docs n i ≡ place i
       in-block i = elim (lt-or-ge i n) [
         | inl h ↦
-            rw (lt-ltb i n h) (ap (λ (z : Cursor). record { phase = route.walk; cur = z; doc = getD (getD docs q []) i 0 }) (sym (at-here i))
+            rw (lt-ltb i n h) (ap (λ (z : Cursor). record { phase = route.walk; cur = z; doc = getD docs i 0 }) (sym (at-here i))
             ∙ ap (λ (z : ℕ). record { phase = route.walk; cur = here l ok (c .blk) within (c .loaded) n size i; doc = z }) (sym (doc-at i (omega arith))))
         | inr h ↦ rw (le-ltb i n h) (ap (λ (z : Cursor). skipped l z TERMINATED) (sym (at-here (min n 127))))
       ]
@@ -210,27 +214,24 @@ module _ {file : List ℕ} {similarity : Similarity} {lists : List (List ℕ)} {
 
             -- ---- none is due
 
-            module _ (e : i ≡ end) {r : Single} {places′ : List (List ℕ)} (P : ToPlace file lists q docs n i places places′ r) where
-              moved : MovedTo file lists q (λ s. inBlock (listAt s file lists q) c (getD docs q []) n i) (held places docs freqs) (held places′ docs freqs) r
-              moved = P .moved freqs (T .stands .ready .slot)
-
+            module _ (e : i ≡ end) {r : Single} {places′ : List (List ℕ)} (P : ToPlace file lists q blocks n i places places′ r) where
               there : placeOf r places′ ≡ place i
-              there = moved .place-is (similarity .scoring) ∙ in-block i
+              there = P .moved .place-is (similarity .scoring) ∙ in-block i
 
               passes : (ord : ℕ) → Goes ord (placeOf x places) (i - cur) (placeOf r places′)
               passes ord = subst (Goes ord (placeOf x places) (i - cur)) (sym there) (reached ord)
 
-              pub walk-on : Steps file similarity lists caches t turns x (held places docs freqs) (record { single = r; taken = i - cur; event = Paused }) (held places′ docs freqs) floats
+              pub walk-on : Steps file similarity lists norms t turns x (held places blocks) (record { single = r; taken = i - cur; event = Paused }) (held places′ blocks) floats
               walk-on = record {
-                slot-is = moved .slot-is;
-                stands = stands-in r (moved .slot-is) (ready-moved (T .stands .ready) moved)
-                    (λ w. rw (P .same-block freqs (T .stands .ready .slot) w) (T .stands .scores (T .walking))) (kept-on (T .stands) t (passes 0));
+                slot-is = P .moved .slot-is;
+                stands = stands-in r (P .moved .slot-is) (ready-moved (T .stands .ready) (P .moved))
+                    (λ w. rw (P .same-block w) (T .stands .scores (T .walking))) (kept-on (T .stands) t (passes 0));
                 strode = λ ord. let Q = passes ord in (omega (arith, cur-in), high .1, Q .place-is, Q .silent);
               }
 
             -- ---- one is
 
-            module _ (e : i ≡ end → ⊥) {d : ℕ} (ed : d ≡ getD (getD docs q []) i 0) where
+            module _ (e : i ≡ end → ⊥) {d : ℕ} (ed : d ≡ getD docs i 0) where
               in-n : i < n
               in-n = elim (lt-or-ge i end) [
                 | inl h ↦ omega arith
@@ -247,10 +248,10 @@ module _ {file : List ℕ} {similarity : Similarity} {lists : List (List ℕ)} {
               small = omega (arith, in-n, short)
 
               abbrev put : Held
-              put = held (set places q (set row 6 i)) docs freqs
+              put = held (set places q (set row 6 i)) blocks
 
-              called-there : MovedTo file lists q (λ _. record { phase = route.called; cur = onPlace c i; doc = d }) (held places docs freqs) put (record { slot = q; doc = d; phase = Called })
-              called-there = put-to (T .stands .ready .slot) (T .stands .ready .small) i small Called d (λ _. refl)
+              called-there : MovedTo file lists q (λ _. record { phase = route.called; cur = onPlace c i; doc = d }) (held places blocks) put (record { slot = q; doc = d; phase = Called })
+              called-there = put-to (T .stands .ready .kept .slot) (T .stands .ready .kept .slot-in) i small Called d (λ _. refl)
 
               arrived : placeOf (record { slot = q; doc = d; phase = Called }) (put .places)
                   ≡ on-posting route.called i
@@ -271,13 +272,13 @@ module _ {file : List ℕ} {similarity : Similarity} {lists : List (List ℕ)} {
                   (subst (λ (z : ℕ). Told ord z (getD values i nan)) (doc-at i small ∙ sym ed)
                   (subst (Told ord (doc l ok (c .blk) within (c .loaded) n size i)) (value-at i in-n) w))
 
-              pub walk-due : Steps file similarity lists caches t turns x (held places docs freqs)
+              pub walk-due : Steps file similarity lists norms t turns x (held places blocks)
                   (record { single = record { slot = q; doc = d; phase = Called }; taken = i - cur + 1; event = Report d (getD values i nan) }) put floats
               walk-due = record {
                 slot-is = refl;
                 stands = record {
                   ready = ready-moved (T .stands .ready) called-there;
-                  scores = λ _. rw (ap (λ (z : Cursor). z .dec) (put-cursor (T .stands .ready .slot) (T .stands .ready .small) i small)) (T .stands .scores (T .walking));
+                  scores = λ _. rw (ap (λ (z : Cursor). z .dec) (put-cursor (T .stands .ready .kept .slot) (T .stands .ready .kept .slot-in) i small)) (T .stands .scores (T .walking));
                   kept = went-near (W 0) (keeps (T .stands) 0) t (placeOf x places) (Report d (getD values i nan)) (T .stands .kept) (reports 0) .0;
                 };
                 strode = reports;

@@ -2,13 +2,14 @@
 use crate::Phase;
 use crate::Single;
 use notefile::block::TERMINATED;
+use slot_rows::place::Blocks;
 use slot_rows::place::Places;
 use term_scorer::BOUNDS;
 use term_scorer::Floats;
-use term_scorer::SCORES;
+use term_scorer::score::Leg;
 use term_scorer::score::Similarity;
+use term_scorer::score::keep_scores;
 use term_scorer::score::new_block_max;
-use term_scorer::score::score_block;
 use term_scorer::slot;
 ghost use mathlib.Core.Path.{_≡_};
 ghost use Prim.Native.Nat.{_≤_, _<_};
@@ -24,22 +25,21 @@ fn enter(
     similarity: Similarity,
     single: Single,
     lists: &[[usize; 8]; 16],
-    caches: &[[f32; 256]; 16],
+    norms: &[[f32; 256]; 16],
     places: &mut Places,
-    docs: &mut [[u32; 128]; 16],
-    freqs: &mut [[u32; 128]; 16],
+    blocks: &mut Blocks,
     floats: &mut Floats,
 ) -> Single
-    requires { let slots = held (now places) (now docs) (now freqs) in
-        ⌜ Ready (now file) similarity (now lists) (now caches) (single .slot) slots (now floats) × (single .doc ≤ 2147483647) ⌝ }
+    requires { let slots = held (now places) (now blocks) in
+        ⌜ Ready (now file) similarity (now lists) (now norms) (single .slot) slots (now floats) × (single .doc ≤ 2147483647) ⌝ }
     ensures { λ r.
-        let old = held (before places) (before docs) (before freqs) in
-        let new = held (after places) (after docs) (after freqs) in
-        ⌜ Entered (before file) similarity (before lists) (before caches) single old r new (after floats) ⌝ }
+        let old = held (before places) (before blocks) in
+        let new = held (after places) (after blocks) in
+        ⌜ Entered (before file) similarity (before lists) (before norms) single old r new (after floats) ⌝ }
 {
     let q = single.slot;
-    let here = slot::doc(q, places, docs);
-    let doc = slot::seek(file, lists, q, here, single.doc, places, docs, freqs);
+    let here = slot::doc(q, places, blocks);
+    let doc = slot::seek(file, lists, q, here, single.doc, places, blocks);
     if doc == TERMINATED {
         return Single {
             slot: q,
@@ -47,17 +47,7 @@ fn enter(
             phase: Phase::Over,
         };
     }
-    score_block(
-        file,
-        similarity,
-        lists,
-        caches,
-        q,
-        places,
-        docs,
-        freqs,
-        &mut floats[SCORES],
-    );
+    keep_scores(file, similarity, lists, norms, q, places, blocks, floats);
     Single {
         slot: q,
         doc,
@@ -96,45 +86,42 @@ pub fn skip(
 // One turn of the hunt: into the block if its bound is above the threshold, else past it.
 pub fn hunt(
     file: &[u8],
-    similarity: Similarity,
+    leg: Leg,
     single: Single,
     lists: &[[usize; 8]; 16],
-    caches: &[[f32; 256]; 16],
-    threshold: f32,
+    norms: &[[f32; 256]; 16],
     places: &mut Places,
-    docs: &mut [[u32; 128]; 16],
-    freqs: &mut [[u32; 128]; 16],
+    blocks: &mut Blocks,
     floats: &mut Floats,
 ) -> Single
-    requires { let slots = held (now places) (now docs) (now freqs) in
-        ⌜ Stands (now file) similarity (now lists) (now caches) single slots (now floats) × (single .phase ≡ Hunt) ⌝ }
+    requires { let slots = held (now places) (now blocks) in
+        ⌜ Stands (now file) (leg .similarity) (now lists) (now norms) single slots (now floats) × (single .phase ≡ Hunt) ⌝ }
     ensures { λ r.
-        let old = held (before places) (before docs) (before freqs) in
-        let new = held (after places) (after docs) (after freqs) in
-        ⌜ Hunted (before file) similarity (before lists) (before caches) threshold single old r new (after floats) ⌝ }
+        let old = held (before places) (before blocks) in
+        let new = held (after places) (after blocks) in
+        ⌜ Hunted (before file) (leg .similarity) (before lists) (before norms) (leg .threshold) single old r new (after floats) ⌝ }
 {
     let q = single.slot;
+    let similarity = leg.similarity;
     let bound = new_block_max(
         file,
         similarity,
         lists,
-        caches,
+        norms,
         q,
         places,
-        docs,
-        freqs,
+        blocks,
         &mut floats[BOUNDS],
     );
-    if bound > threshold {
+    if bound > leg.threshold {
         return enter(
             file,
             similarity,
             single,
             lists,
-            caches,
+            norms,
             places,
-            docs,
-            freqs,
+            blocks,
             floats,
         );
     }

@@ -5,10 +5,11 @@ use crate::Single;
 use crate::hunt::hunt;
 use crate::walk::walk;
 use reports::Event;
+use slot_rows::place::Blocks;
 use slot_rows::place::Places;
 use term_scorer::Floats;
 use term_scorer::SCORES;
-use term_scorer::score::Similarity;
+use term_scorer::score::Leg;
 ghost use mathlib.Core.Path.{_≡_};
 ghost use mathlib.Core.Bool.{false};
 ghost use Prim.Native.Nat.{_<_};
@@ -66,50 +67,38 @@ fn gone(single: Single, taken: usize, event: Event) -> Gone
 // One turn of the hunt, or a walk over the block. Where no report is due it says Paused, also at the end.
 fn stride(
     file: &[u8],
-    similarity: Similarity,
+    leg: Leg,
     single: Single,
     lists: &[[usize; 8]; 16],
-    caches: &[[f32; 256]; 16],
-    threshold: f32,
-    turns: usize,
+    norms: &[[f32; 256]; 16],
     places: &mut Places,
-    docs: &mut [[u32; 128]; 16],
-    freqs: &mut [[u32; 128]; 16],
+    blocks: &mut Blocks,
     floats: &mut Floats,
 ) -> Gone
-    requires { let slots = held (now places) (now docs) (now freqs) in
-        ⌜ Stands (now file) similarity (now lists) (now caches) single slots (now floats)
-        × (isDone (single .phase) ≡ false) × (0 < turns) ⌝ }
+    requires { let slots = held (now places) (now blocks) in
+        ⌜ Stands (now file) (leg .similarity) (now lists) (now norms) single slots (now floats)
+        × (isDone (single .phase) ≡ false) × (0 < leg .turns) ⌝ }
     ensures { λ r.
-        let old = held (before places) (before docs) (before freqs) in
-        let new = held (after places) (after docs) (after freqs) in
-        ⌜ Steps (before file) similarity (before lists) (before caches) threshold turns single old r new (after floats) ⌝ }
+        let old = held (before places) (before blocks) in
+        let new = held (after places) (after blocks) in
+        ⌜ Steps (before file) (leg .similarity) (before lists) (before norms) (leg .threshold) (leg .turns)
+        single old r new (after floats) ⌝ }
 {
     let phase = single.phase;
     if on_walk(phase) {
+        let q = single.slot;
         return walk(
             file,
             single,
             lists,
-            threshold,
-            turns,
+            leg.threshold,
+            leg.turns,
             places,
-            docs,
-            &floats[SCORES],
+            blocks,
+            &floats[SCORES + q],
         );
     }
-    let single = hunt(
-        file,
-        similarity,
-        single,
-        lists,
-        caches,
-        threshold,
-        places,
-        docs,
-        freqs,
-        floats,
-    );
+    let single = hunt(file, leg, single, lists, norms, places, blocks, floats);
     Gone {
         single,
         taken: 1,
@@ -120,23 +109,21 @@ fn stride(
 // From where the scan stands to the next report, to its end, or through the turns that are allowed.
 pub fn go(
     file: &[u8],
-    similarity: Similarity,
+    leg: Leg,
     single: Single,
     lists: &[[usize; 8]; 16],
-    caches: &[[f32; 256]; 16],
-    threshold: f32,
-    turns: usize,
+    norms: &[[f32; 256]; 16],
     places: &mut Places,
-    docs: &mut [[u32; 128]; 16],
-    freqs: &mut [[u32; 128]; 16],
+    blocks: &mut Blocks,
     floats: &mut Floats,
 ) -> Gone
-    requires { let slots = held (now places) (now docs) (now freqs) in
-        ⌜ Stands (now file) similarity (now lists) (now caches) single slots (now floats) ⌝ }
+    requires { let slots = held (now places) (now blocks) in
+        ⌜ Stands (now file) (leg .similarity) (now lists) (now norms) single slots (now floats) ⌝ }
     ensures { λ r.
-        let old = held (before places) (before docs) (before freqs) in
-        let new = held (after places) (after docs) (after freqs) in
-        ⌜ Goes (before file) similarity (before lists) (before caches) threshold turns single old r new (after floats) ⌝ }
+        let old = held (before places) (before blocks) in
+        let new = held (after places) (after blocks) in
+        ⌜ Goes (before file) (leg .similarity) (before lists) (before norms) (leg .threshold) (leg .turns)
+        single old r new (after floats) ⌝ }
 {
     let mut single = single;
     let mut taken = 0usize;
@@ -145,22 +132,12 @@ pub fn go(
         if is_over(phase) {
             return gone(single, taken, Event::Over);
         }
-        if taken == turns {
+        if taken == leg.turns {
             return gone(single, taken, Event::Paused);
         }
-        let next = stride(
-            file,
-            similarity,
-            single,
-            lists,
-            caches,
-            threshold,
-            turns - taken,
-            places,
-            docs,
-            freqs,
-            floats,
-        );
+        let mut left = leg;
+        left.turns = leg.turns - taken;
+        let next = stride(file, left, single, lists, norms, places, blocks, floats);
         single = next.single;
         taken += next.taken;
         let event = next.event;

@@ -3,15 +3,16 @@ use crate::Gone;
 use crate::Phase;
 use crate::Single;
 use crate::hunt::skip;
+use notefile::block::DOCS;
 use notefile::block::TERMINATED;
 use reports::Event;
 use slot_rows::place::BLOCK;
+use slot_rows::place::Blocks;
 use slot_rows::place::COUNT;
 use slot_rows::place::CUR;
 use slot_rows::place::Places;
 ghost use mathlib.Core.Path.{_≡_};
-ghost use mathlib.Core.List.{List};
-ghost use Prim.Native.Nat.{ℕ, min, _+_, _*_, _-_, _≤_, _<_};
+ghost use Prim.Native.Nat.{min, _+_, _*_, _-_, _≤_, _<_};
 ghost use Rattle.arrays.specs.Lent.{before, after};
 ghost use Rattle.term_scorer.specs.Inner.Slots.{held, SlotIn};
 ghost use Rattle.block_wand_single.specs.Inner.Places.{startOf, ToPlace};
@@ -86,17 +87,16 @@ fn to_place(
     i: usize,
     n: usize,
     places: &mut Places,
-    docs: &[[u32; 128]; 16],
+    blocks: &Blocks,
 ) -> Single
-    requires { ⌜ (q < 16) × (n ≤ 128)
-        × ((freqs : List (List ℕ)) × SlotIn (now file) (now lists) (held (now places) (now docs) freqs) q) ⌝ }
-    ensures { λ r. ⌜ ToPlace (before file) (before lists) q (before docs) n i (before places) (after places) r ⌝ }
+    requires { ⌜ (q < 16) × (n ≤ 128) × SlotIn (now file) (now lists) (held (now places) (now blocks)) q ⌝ }
+    ensures { λ r. ⌜ ToPlace (before file) (before lists) q (before blocks) n i (before places) (after places) r ⌝ }
 {
     if i < n {
         places[q][CUR] = i;
         return Single {
             slot: q,
-            doc: docs[q][i],
+            doc: blocks[q][DOCS][i],
             phase: Phase::Walk,
         };
     }
@@ -112,12 +112,12 @@ pub fn walk(
     threshold: f32,
     turns: usize,
     places: &mut Places,
-    docs: &[[u32; 128]; 16],
+    blocks: &Blocks,
     values: &[f32; 128],
 ) -> Gone
-    requires { ⌜ Walkable (now file) (now lists) single (now places) (now docs) (now values) × (0 < turns) ⌝ }
+    requires { ⌜ Walkable (now file) (now lists) single (now places) (now blocks) (now values) × (0 < turns) ⌝ }
     ensures { λ r.
-        ⌜ Walks (before file) (before lists) single (before places) (before docs) (before values) threshold turns r (after places) ⌝ }
+        ⌜ Walks (before file) (before lists) single (before places) (before blocks) (before values) threshold turns r (after places) ⌝ }
 {
     let q = single.slot;
     let cur = places[q][CUR];
@@ -128,7 +128,7 @@ pub fn walk(
     let place = first_above(values, from, end, threshold);
     let taken = place - cur;
     if place == end {
-        let single = to_place(file, lists, q, place, n, places, docs);
+        let single = to_place(file, lists, q, place, n, places, blocks);
         return Gone {
             single,
             taken,
@@ -137,7 +137,7 @@ pub fn walk(
     }
     places[q][CUR] = place;
     let reported = taken + 1;
-    let doc = docs[q][place];
+    let doc = blocks[q][DOCS][place];
     let score = values[place];
     let single = Single {
         slot: q,

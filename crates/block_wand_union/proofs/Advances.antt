@@ -111,10 +111,10 @@ module _ (file : List ℕ) (lists : List (List ℕ)) (s : Scoring) (h : Held) (q
         }
 
     -- then the finished go, and the rest is sorted
-    pub advanced : (n len : ℕ) → length qs ≡ n → i ≡ len → (rs : List ℕ) → (let key = docAt (h′ .places) (h′ .docs) in rs ≡ sortBy key (sweep key n qs))
+    pub advanced : (n len : ℕ) → length qs ≡ n → i ≡ len → (rs : List ℕ) → (let key = docAt (h′ .places) (h′ .blocks) in rs ≡ sortBy key (sweep key n qs))
         → Advanced file lists s h (at h) len h′ (termsOf file lists s (h′ .places) rs)
     advanced n len k e rs r =
-        let key = docAt (h′ .places) (h′ .docs) in
+        let key = docAt (h′ .places) (h′ .blocks) in
         let f = termAt file lists s (h′ .places) in
         let keys = same-keys file lists s h′ qs (S .carried .stands) in
         let now : termsOf file lists s (h′ .places) rs ≡ sortBy byDoc (sweep byDoc n (at h′)) =

@@ -106,14 +106,14 @@ module _ (file : List ℕ) (lists : List (List ℕ)) (p : ℕ) (s : Scoring) (h 
       }
 
       -- one went past the pivot, and is put back
-      past : (doc ≡ p → ⊥) → (rs : List ℕ) → rs ≡ fromPlace (putBack (docAt (h″ .places) (h″ .docs))) qs j
+      past : (doc ≡ p → ⊥) → (rs : List ℕ) → rs ≡ fromPlace (putBack (docAt (h″ .places) (h″ .blocks))) qs j
           → PastPivot file lists p h (at h) before h″ (termsOf file lists s (h″ .places) rs)
       past ne rs r =
           let k = few in
           let l′ = set (at h′) j x′ in
           let e : termsOf file lists s (h″ .places) rs ≡ returned l′ j =
           ap (termsOf file lists s (h″ .places)) r
-          ∙ returned-map (docAt (h″ .places) (h″ .docs)) byDoc (termAt file lists s (h″ .places)) qs j (same-keys file lists s h″ qs still-stands)
+          ∙ returned-map (docAt (h″ .places) (h″ .blocks)) byDoc (termAt file lists s (h″ .places)) qs j (same-keys file lists s h″ qs still-stands)
           ∙ ap (λ z. returned z j) moved-is in
           rw e (record {
             carried = carried-trans file lists carries (carried-kept file lists h″ (kept.returned-kept l′ j) (carries .apart) (carries .stands));
@@ -131,7 +131,7 @@ module _ (file : List ℕ) (lists : List (List ℕ)) (p : ℕ) (s : Scoring) (h 
                 );
           })
 
-      pub goes-past : (doc ≡ p → ⊥) → (rs : List ℕ) → rs ≡ fromPlace (putBack (docAt (h″ .places) (h″ .docs))) qs j → {qs₀ : List ℕ} → qs ≡ qs₀
+      pub goes-past : (doc ≡ p → ⊥) → (rs : List ℕ) → rs ≡ fromPlace (putBack (docAt (h″ .places) (h″ .blocks))) qs j → {qs₀ : List ℕ} → qs ≡ qs₀
           → PastPivot file lists p h (termsOf file lists s (h .places) qs₀) before h″ (termsOf file lists s (h″ .places) rs)
       goes-past ne rs r e =
           subst (λ (z : List ℕ). PastPivot file lists p h (termsOf file lists s (h .places) z) before h″ (termsOf file lists s (h″ .places) rs)) e (past ne rs r)

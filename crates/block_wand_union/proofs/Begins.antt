@@ -33,7 +33,7 @@ use Rattle.block_wand_union.proofs.Runs.{place-kept, stands-kept}
 module _ (file : List ℕ) (lists : List (List ℕ)) (T : Terms) (h : Held) where
   -- a scorer as its slot was opened
   pub record Fresh (s : TermScorer) : Type 0 where
-    pub opened : FreshSlot (T .scoring) file lists (T .caches) h (s .slot)
+    pub opened : FreshSlot (T .scoring) file lists (T .norms) h (s .slot)
     pub scorer-is : s ≡ termAt file lists (T .scoring) (h .places) (s .slot)
 
   abbrev f : TermScorer → Scorer Float

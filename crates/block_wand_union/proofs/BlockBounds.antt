@@ -29,26 +29,26 @@ pub sum-snoc : (xs : List Float) (acc x : Float) → sumFrom f32 acc (xs ++ (x �
 sum-snoc [] acc x = refl
 sum-snoc (y ∷ ys) acc x = sum-snoc ys (f32 .add acc y) x
 
-module _ (file : List ℕ) (lists : List (List ℕ)) (T : Terms) (places docs freqs : List (List ℕ)) (doc : ℕ) (l : List TermScorer) where
+module _ (file : List ℕ) (lists : List (List ℕ)) (T : Terms) (places : List (List ℕ)) (blocks : List (List (List ℕ))) (doc : ℕ) (l : List TermScorer) where
   abbrev f : TermScorer → Scorer Float
   f = scorerAt file lists (T .scoring) places
 
   abbrev with : List (List Float) → Terms
-  with floats = terms (T .scoring) (T .caches) floats
+  with floats = terms (T .scoring) (T .norms) floats
 
   -- the first i have sought, and the bounds of their blocks are added up
   pub record Bounding (i : ℕ) (places′ : List (List ℕ)) (floats′ : List (List Float)) (sum : Float) : Type 0 where
-    pub seats : All (Seat file lists (with floats′) (held places′ docs freqs)) l
+    pub seats : All (Seat file lists (with floats′) (held places′ blocks)) l
     pub moved : Moving (seekBlock 128 doc) f l i (scorerAt file lists (T .scoring) places′) l
     pub sum-is : sum ≡ sumFrom f32 (f32 .nil) (map (blockMaxScore 128 f32) (map (seekBlock 128 doc) (map f (take i l))))
     pub rows : FloatRows floats′
 
-  pub bounding : All (Seat file lists T (held places docs freqs)) l → FloatRows (T .floats) → Bounding 0 places (T .floats) (f32 .nil)
+  pub bounding : All (Seat file lists T (held places blocks)) l → FloatRows (T .floats) → Bounding 0 places (T .floats) (f32 .nil)
   bounding a n = record { seats = a; moved = moving (seekBlock 128 doc) f l; sum-is = refl; rows = n }
 
   module _ {i : ℕ} {places′ : List (List ℕ)} {floats′ : List (List Float)} {sum : Float} (S : Bounding i places′ floats′ sum) where
-    pub seat-at : (inside : i < length l) → Seat file lists (with floats′) (held places′ docs freqs) (getD l i noScorer)
-    seat-at inside = all-at (Seat file lists (with floats′) (held places′ docs freqs)) l i noScorer inside (S .seats)
+    pub seat-at : (inside : i < length l) → Seat file lists (with floats′) (held places′ blocks) (getD l i noScorer)
+    seat-at inside = all-at (Seat file lists (with floats′) (held places′ blocks)) l i noScorer inside (S .seats)
 
     pub bounds-next : i < length l → Apart l → (q₀ : ℕ) → getD l i noScorer .slot ≡ q₀ → {places₁ places₂ : List (List ℕ)} {bounds₂ : List Float} {r : Float}
         → Shallowed file lists q₀ (λ k. seekBlockIn (listAt k file lists q₀) 128 doc (cursorAt places′ q₀)) places′ places₁
@@ -66,13 +66,13 @@ module _ (file : List ℕ) (lists : List (List ℕ)) (T : Terms) (places docs fr
         let sought : Scorer Float = seekBlock 128 doc (f x) in
         record {
           seats = rw (set-getD l i noScorer) at
-              (replaced-all l i x inside apart (Seat file lists (with floats′) (held places′ docs freqs)) (Seat file lists (with (set floats′ 0 bounds₂)) (held places₂ docs freqs))
-              (other-seat file lists x docs freqs M (with floats′) B X (S .rows)) (bounded-seat file lists x docs freqs M (with floats′) B X (S .rows)) (S .seats));
+              (replaced-all l i x inside apart (Seat file lists (with floats′) (held places′ blocks)) (Seat file lists (with (set floats′ 0 bounds₂)) (held places₂ blocks))
+              (other-seat file lists x blocks M (with floats′) B X (S .rows)) (bounded-seat file lists x blocks M (with floats′) B X (S .rows)) (S .seats));
           moved = moves-on-doc (seekBlock 128 doc) f l (S .moved) (scorerAt file lists (T .scoring) places₂) inside apart
-              (other-scorers file lists x docs freqs M (with floats′) B X (S .rows)) (shallow-scorer file lists x docs freqs M (with floats′) B X (S .rows));
+              (other-scorers file lists x blocks M (with floats′) B X (S .rows)) (shallow-scorer file lists x blocks M (with floats′) B X (S .rows));
           sum-is =
               ap (λ (z : Float). f32 .add z r) (S .sum-is) ∙ ap (f32 .add (sumFrom f32 (f32 .nil) (map (blockMaxScore 128 f32) (map (seekBlock 128 doc) (map f (take i l))))))
-              (bound-here file lists x docs freqs M (with floats′) B X (S .rows) ∙ ap (λ (z : Scorer Float). blockMaxScore 128 f32 (seekBlock 128 doc z)) here)
+              (bound-here file lists x blocks M (with floats′) B X (S .rows) ∙ ap (λ (z : Scorer Float). blockMaxScore 128 f32 (seekBlock 128 doc z)) here)
               ∙ sym (sum-snoc (map (blockMaxScore 128 f32) (map (seekBlock 128 doc) (map f (take i l)))) (f32 .nil) (blockMaxScore 128 f32 sought))
               ∙ sym (rw (
                 add-one,
@@ -81,10 +81,10 @@ module _ (file : List ℕ) (lists : List (List ℕ)) (T : Terms) (places docs fr
                 map-append (seekBlock 128 doc) (map f (take i l)) (f x ∷ []),
                 map-append (blockMaxScore 128 f32) (map (seekBlock 128 doc) (map f (take i l))) (sought ∷ []),
               ));
-          rows = bounded-rows file lists x docs freqs M (with floats′) B X (S .rows);
+          rows = bounded-rows file lists x blocks M (with floats′) B X (S .rows);
         }
 
-    pub bounded : (len : ℕ) → i ≡ len → BlocksSought file lists T (held places docs freqs) doc len (held places′ docs freqs) floats′ sum l
+    pub bounded : (len : ℕ) → i ≡ len → BlocksSought file lists T (held places blocks) doc len (held places′ blocks) floats′ sum l
     bounded len e = record {
       seats = S .seats;
       moving = rw e at (S .moved);

@@ -30,9 +30,10 @@ use Rattle.skip_reader.proofs.Readers.{end-is}
 use Rattle.slot_rows.specs.Inner.Rows.{cursorIn}
 use Rattle.slot_rows.proofs.Rows.{last-is, last-small}
 use Rattle.term_scorer.specs.Inner.Slots.{cursorAt, Held, lastAt, listAt, partAt, MovedSlot}
+use Rattle.term_scorer.specs.Inner.Weights.{TopKept}
 use Rattle.slot_order.specs.Inner.Rows.{Readable, termIn}
 use Rattle.slot_order.proofs.Rows.{map-at}
-use Rattle.block_wand_union.specs.Inner.Seats.{Carried, Lined, Stand, TopIs, scorerAt, termAt, termsOf}
+use Rattle.block_wand_union.specs.Inner.Seats.{Carried, Lined, Stand, scorerAt, termAt, termsOf}
 use Rattle.block_wand_union.specs.Inner.Moves.{LastRead, OneOn, leastLastOf}
 use Rattle.block_wand_union.proofs.Seats.{carried-kept, carried-move, carried-trans, fair, moved-stand, same-doc, same-off, scorer-is}
 use Rattle.block_wand_union.proofs.Slots.{all-unmap, of-slots, onDoc, own-slots, own-tops, readables, scorers-read, slots-of, terms-move, terms-read}
@@ -110,16 +111,16 @@ pub seeks-inside : (l : List TermScorer) (len at : ℕ) → at ≡ placeToSeek (
 seeks-inside l len at e pos long = omega (arith, seek-inside (take len l) (omega (arith, length-take len l)), length-take len l)
 
 -- what is read of the tables is of the scorers there: the place that seeks, and the least document
-module _ (file : List ℕ) (lists : List (List ℕ)) (s : Scoring) (h : Held) (tops : List Float) (order : List ℕ) {n len : ℕ} (few : len ≤ n)
-    (stands : All (Stand file lists h) (termsOf file lists s (h .places) (take n order))) (right : All (TopIs file lists s tops) (take n order)) where
+module _ (file : List ℕ) (lists : List (List ℕ)) (s : Scoring) (h : Held) (order : List ℕ) {n len : ℕ} (few : len ≤ n)
+    (stands : All (Stand file lists h) (termsOf file lists s (h .places) (take n order))) (right : All (TopKept s file lists) (take n order)) where
   abbrev read : List TermScorer
-  read = map (termIn tops (h .places) (h .docs)) order
+  read = map (termIn lists (h .places) (h .blocks)) order
 
   abbrev stood : List TermScorer
   stood = termsOf file lists s (h .places) (take n order)
 
   read-is : take n read ≡ stood
-  read-is = scorers-read file lists s h tops n order stands right
+  read-is = scorers-read file lists s h n order stands right
 
   pub place-read : {at : ℕ} → at ≡ placeToSeek (take len read) → at ≡ placeToSeek (take len stood)
   place-read e = e ∙ ap placeToSeek (sym (take-take len n read few) ∙ ap (take len) read-is)
@@ -171,15 +172,15 @@ module _ (file : List ℕ) (lists : List (List ℕ)) (s : Scoring) (qs : List �
     -- the row's slots are those of the scorers that are read, in the order restored from its place
     pub one-on : (len : ℕ) → 0 < len → len ≤ length qs → at ≡ placeToSeek (take len (here h))
         → d ≡ leastDocOf (behind (leastLastOf (h .places) 2147483647 (take len qs))) (drop len (here h))
-        → (tops : List Float) → All (TopIs file lists s tops) qs → {z : List TermScorer} → z ≡ map (termIn tops (h′ .places) (h′ .docs)) qs
+        → All (TopKept s file lists) qs → {z : List TermScorer} → z ≡ map (termIn lists (h′ .places) (h′ .blocks)) qs
         → {rs : List ℕ} → rs ≡ map slotOf (moved z at) → OneOn file lists s h (here h) len h′ (termsOf file lists s (h′ .places) rs)
-    one-on len pos few at-is d-is tops right {z} read {rs} r =
+    one-on len pos few at-is d-is right {z} read {rs} r =
         let f₀ = scorerAt file lists s (h .places) in
         let f₁ = scorerAt file lists s (h′ .places) in
         let first : All (Stand file lists h) (take len (here h)) = all-take (Stand file lists h) len (here h) (L .stands s) in
         let cut : take len qs ≡ map slotOf (take len (here h)) =
         sym (slots-of file lists s (h .places) (take len qs)) ∙ ap (map slotOf) (map-take (termAt file lists s (h .places)) len qs) in
-        let now : z ≡ here h′ = read ∙ terms-read file lists s h′ tops qs (moves .stands) right in
+        let now : z ≡ here h′ = read ∙ terms-read file lists s h′ qs (moves .stands) right in
         let out = of-slots file lists s h′ (moved (here h′) at) (kept-all (λ t. termAt file lists s (h′ .places) (t .slot) ≡ t) (moved-kept (here h′) at) (own-slots file lists s h′ qs)) in
         let e : termsOf file lists s (h′ .places) rs ≡ moved (here h′) at =
         ap (termsOf file lists s (h′ .places)) (r ∙ ap (λ y. map slotOf (moved y at)) now) ∙ out in

@@ -40,10 +40,10 @@ use Rattle.block_wand_union.specs.Inner.Turns.{AtPivot, Does, Hit, Pivot
 use Rattle.block_wand_union.specs.declared.Stage.{Stage}
 use Rattle.block_wand_union.specs.declared.Stage.the-variants.{Called, Looking}
 use Rattle.block_wand_union.specs.declared.align.Alignment.{Alignment}
-use Rattle.block_wand_union.specs.declared.turn.Span.{Span}
+use Rattle.block_wand_union.specs.declared.pivot.Span.{Span}
 use Rattle.block_wand_union.specs.declared.turn.Step.{Step}
 use Rattle.block_wand_union.proofs.Seats.{same-doc, seats-stand, still-seated}
-use Rattle.block_wand_union.proofs.Slots.{all-unmap, map-map, tops-kept}
+use Rattle.block_wand_union.proofs.Slots.{all-unmap, map-map}
 use Rattle.block_wand_union.proofs.Unmoved.{scorers-unmoved, seated-unmoved, terms-unmoved}
 
 full-is : (scoring : Scoring) (file : List ℕ) (lists : List (List ℕ)) (q : ℕ) → listAt scoring file lists q .full ≡ fullBlocks (partAt lists q)
@@ -181,10 +181,7 @@ module _ {file : List ℕ} {lists : List (List ℕ)} {T : Terms} {h : Held} {at 
     on-hit {t} {h″} {order″} {r = r} D =
         let k = first in
         record {
-          left = record {
-            seated = D .left .seated;
-            topped = λ tops a. D .left .topped tops (tops-kept file lists (T .scoring) h h′ (take n order) (take n order′) (O .carried) tops a);
-          };
+          left = D .left;
           does = subst (λ (u : Turn (UnionPlace Float) Float). Does file lists (T .scoring) u h″ order″ r)
               (sym (after-hit 128 t l before len p (omega arith) f g l′ (O .aligned-are (T .scoring)) (O .rest-are (T .scoring))))
               (D .does (loadsBack (map f (take before l)) (map g (take before l′))));
@@ -200,26 +197,23 @@ module _ {file : List ℕ} {lists : List (List ℕ)} {T : Terms} {h : Held} {at 
       let m = P .missed-is (T .scoring) in
       let e = after-miss 128 t l before len p (omega arith) f (m .0) (m .1) in
       record {
-        left = record {
-          seated = still-seated file lists (A .seated) (P .carried);
-          topped = tops-kept file lists (T .scoring) h h′ (take n order) (take k order′) (P .carried);
-        };
+        left = still-seated file lists (A .seated) (P .carried);
         does = record { next-is = ap (λ u. u .next) e ∙ ap (λ ss. goOn ss) (sym (m .2)); due-is = ap (λ u. u .due) e };
         few = few;
         long = long;
       }
 
 -- scorers on documents can still advance
-pub inside-unmoved : {file : List ℕ} {lists : List (List ℕ)} {scoring : Scoring} {caches : List (List Float)} {floats floats′ : List (List Float)} {h h′ : Held}
-    → Unmoved file lists scoring caches floats h floats′ h′ → (qs : List ℕ) → All (OnDocument file lists (terms scoring caches floats) h) qs → All (Inside lists h′) qs
-inside-unmoved {file} {lists} {scoring} {caches} {floats} {h = h} {h′ = h′} U qs a =
-    all-imp (OnDocument file lists (terms scoring caches floats) h) (Inside lists h′) qs
+pub inside-unmoved : {file : List ℕ} {lists : List (List ℕ)} {scoring : Scoring} {norms : List (List Float)} {floats floats′ : List (List Float)} {h h′ : Held}
+    → Unmoved file lists scoring norms floats h floats′ h′ → (qs : List ℕ) → All (OnDocument file lists (terms scoring norms floats) h) qs → All (Inside lists h′) qs
+inside-unmoved {file} {lists} {scoring} {norms} {floats} {h = h} {h′ = h′} U qs a =
+    all-imp (OnDocument file lists (terms scoring norms floats) h) (Inside lists h′) qs
     (λ q o. rw (ap (λ (c : Cursor). c .blk) (U .cursor-is q)) (o .inside)) a
 
 -- the scorers on the pivot are scored, and stay
 module _ (file : List ℕ) (lists : List (List ℕ)) (T : Terms) (t : Float) (h : Held) (order : List ℕ) (n len p : ℕ) (few : len ≤ n) {score : Float}
     (e : score ≡ sum f32 (map scoreHere (map (slotScorer file lists (T .scoring) (h .places)) (take len order))))
-    {h₁ : Held} {floats₁ : List (List Float)} (U : Unmoved file lists (T .scoring) (T .caches) (T .floats) h floats₁ h₁)
+    {h₁ : Held} {floats₁ : List (List Float)} (U : Unmoved file lists (T .scoring) (T .norms) (T .floats) h floats₁ h₁)
     (S : Seated file lists T h (termsOf file lists (T .scoring) (h .places) (take n order))) where
   abbrev at-route : TermScorer → Scorer Float
   at-route = scorerAt file lists (T .scoring) (h .places)
@@ -233,7 +227,7 @@ module _ (file : List ℕ) (lists : List (List ℕ)) (T : Terms) (t : Float) (h 
       e ∙ ap (λ z. sum f32 (map scoreHere (map (slotScorer file lists (T .scoring) (h .places)) z))) (sym (take-take len n order few))
       ∙ ap (λ z. sum f32 (map scoreHere z)) (sym (map-map at-route term (take len (take n order))) ∙ ap (map at-route) (map-take term len (take n order)))
 
-  pub seated₁ : Seated file lists (terms (T .scoring) (T .caches) floats₁) h₁ (termsOf file lists (T .scoring) (h₁ .places) (take n order))
+  pub seated₁ : Seated file lists (terms (T .scoring) (T .norms) floats₁) h₁ (termsOf file lists (T .scoring) (h₁ .places) (take n order))
   seated₁ = seated-unmoved U (take n order) S
 
   place-same : (stage : Stage) → placeIn file lists (T .scoring) (h .places) stage all ≡ placeIn file lists (T .scoring) (h₁ .places) stage (termsOf file lists (T .scoring) (h₁ .places) (take n order))
@@ -243,7 +237,7 @@ module _ (file : List ℕ) (lists : List (List ℕ)) (T : Terms) (t : Float) (h 
   pub hit-due : f32 .above score t ≡ true → n ≤ 16 → Sixteen order
       → Hit file lists T t h order n len p h₁ order floats₁ (record { union = record { len = n; stage = Called len }; due = true; doc = p; score = score })
   hit-due q small long = record {
-    left = record { seated = seated₁; topped = λ _ a. a };
+    left = seated₁;
     does = λ ls.
         let d = scored-due 128 t p ls at-route all len (omega (arith, length-map (take n order) (termAt file lists (T .scoring) (h .places)), length-take n order)) (rw score-is at q) in
         record { next-is = ap (λ u. u .next) d ∙ place-same (Called len); due-is = ap (λ u. u .due) d ∙ ap (λ (x : Float). some (record { doc = p; score = x })) (sym score-is) };
@@ -258,10 +252,7 @@ module _ (file : List ℕ) (lists : List (List ℕ)) (T : Terms) (t : Float) (h 
       let A = D .on (T .scoring) in
       let e = rw (terms-unmoved U (take n order), scorers-unmoved U (take len all), scorers-unmoved U (drop len all)) at (A .scorers-are) in
       record {
-        left = record {
-          seated = still-seated file lists seated₁ (A .carried);
-          topped = tops-kept file lists (T .scoring) h₁ h′ (take n order) (take k order′) (A .carried);
-        };
+        left = still-seated file lists seated₁ (A .carried);
         does = λ ls.
             let d = scored-quiet 128 t p ls at-route all len (rw score-is at q) in
             record { next-is = ap (λ u. u .next) d ∙ ap (λ ss. goOn ss) (sym e); due-is = ap (λ u. u .due) d };

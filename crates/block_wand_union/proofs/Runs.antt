@@ -25,8 +25,7 @@ use Rattle.reports.specs.Inner.Turns.{Went}
 use Rattle.reports.specs.declared.Event.the-variants as event
 use Rattle.reports.proofs.TurnLaws.{Quietly, at-end, at-pause, at-report, none-yet, one-more}
 use Rattle.term_scorer.specs.Inner.Slots.{Held, Sixteen}
-use Rattle.term_scorer.specs.Inner.Weights.{TopKept, topAt, TopRead}
-use Rattle.block_wand_union.specs.Inner.Seats.{Seat, Seated, Terms, TopCopied, TopIs, placeIn, scorerAt, slotScorer, stageOf, termAt, terms, termsOf}
+use Rattle.block_wand_union.specs.Inner.Seats.{Seat, Seated, Terms, placeIn, scorerAt, slotScorer, stageOf, termAt, terms, termsOf}
 use Rattle.block_wand_union.specs.Inner.Turns.{Turned, dueOf}
 use Rattle.block_wand_union.specs.Inner.Runs.{Stands, goneTo, placeOf, unionEnded}
 use Rattle.block_wand_union.specs.declared.Stage.{Stage}
@@ -61,36 +60,6 @@ module _ {file : List ℕ} {lists : List (List ℕ)} {T : Terms} {u : Union} {or
   pub kept-at : UnionKept 128 (documents file) f32 (placeIn file lists (T .scoring) (h .places) stage (termsOf file lists (T .scoring) (h .places) (take (u .len) order)))
   kept-at = rw (place-is file lists (T .scoring) (h .places) (record { len = u .len; stage = stage }) order) (stands-at .kept)
 
--- a run that stands has its list bounds
-module _ {file : List ℕ} {lists : List (List ℕ)} {T : Terms} {u : Union} {order : List ℕ} {h : Held} (S : Stands file lists T u order h) where
-  tops-kept : All (TopKept (T .scoring) file lists) (take (u .len) order)
-  tops-kept =
-      all-unmap (λ s. TopKept (T .scoring) file lists (s .slot)) (termAt file lists (T .scoring) (h .places)) (take (u .len) order)
-      (all-imp (Seat file lists T h) (λ s. TopKept (T .scoring) file lists (s .slot)) (termsOf file lists (T .scoring) (h .places) (take (u .len) order)) (λ _ s. s .top) (S .seated .seats))
-
-  pub tops-read : All (TopRead lists) (take (u .len) order)
-  tops-read = all-imp (TopKept (T .scoring) file lists) (TopRead lists) (take (u .len) order) (λ _ k. k .read) tops-kept
-
-  pub tops-are : (tops : List Float) → All (TopCopied lists tops) (take (u .len) order) → All (TopIs file lists (T .scoring) tops) (take (u .len) order)
-  tops-are tops a =
-      all-zip (TopCopied lists tops) (TopKept (T .scoring) file lists) (TopIs file lists (T .scoring) tops) (λ _ c k. c ∙ k .top-is) (take (u .len) order) a tops-kept
-
--- one list bound more in a row: one that is written again is the same
-pub one-top-more : (lists : List (List ℕ)) (tops : List Float) (order : List ℕ) (i : ℕ) → Sixteen tops → getD order i 0 < 16 → i < length order
-    → {v : Float} → v ≡ topAt lists (getD order i 0) → All (TopCopied lists tops) (take i order)
-    → All (TopCopied lists (set tops (getD order i 0) v)) (take (i + 1) order)
-one-top-more lists tops order i long small inside {v} e a =
-    let q = getD order i 0 in
-    let now : TopCopied lists (set tops q v) q = getD-set-same tops q v nan (omega arith) ∙ e in
-    let still : (r : ℕ) → TopCopied lists tops r → TopCopied lists (set tops q v) r =
-    λ r t.
-    on-test (eqb r q)
-    (λ b. let z = eqb-true r q b in rw z now)
-    (λ b. getD-set-other tops q r v nan (eqb-false r q b) ∙ t) in
-    rw (add-one, take-suc order i 0 inside)
-    (all-append (TopCopied lists (set tops q v)) (take i order) (q ∷ [])
-    (all-imp (TopCopied lists tops) (TopCopied lists (set tops q v)) (take i order) still a) (now, tt))
-
 -- seated scorers, whose slots are written back in their order
 module _ {file : List ℕ} {lists : List (List ℕ)} {T : Terms} {h : Held} {l : List TermScorer} (S : Seated file lists T h l) (stage : Stage) (n : ℕ) (order : List ℕ) (e : take n order ≡ map slotOf l) where
   pub place-kept : placeIn file lists (T .scoring) (h .places) stage l ≡ placeOf file lists (T .scoring) (record { len = n; stage = stage }) order (h .places)
@@ -102,24 +71,23 @@ module _ {file : List ℕ} {lists : List (List ℕ)} {T : Terms} {h : Held} {l :
       → Stands file lists T (record { len = n; stage = stage }) order h
   stands-kept few room k = record { few = few; room = room; seated = rw (e, same-terms file lists T h l (S .seats)) S; kept = rw place-kept at k }
 
--- ---- the loop of `walk`
+-- ---- the loop of `go`
 
 -- from where a run stood, so many turns were taken, none with a report
-pub record OnWay (file : List ℕ) (lists : List (List ℕ)) (scoring : Scoring) (caches : List (List Float)) (t : Float) (tops : List Float) (from : UnionPlace Float) (turns : ℕ)
+pub record OnWay (file : List ℕ) (lists : List (List ℕ)) (scoring : Scoring) (norms : List (List Float)) (t : Float) (from : UnionPlace Float) (turns : ℕ)
     (h : Held) (floats : List (List Float)) (u : Union) (order : List ℕ) (taken : ℕ) : Type 0 where
   pub quietly : Quietly (unionTurn 128 f32) unionEnded t from taken (placeOf file lists scoring u order (h .places))
-  pub stands : Stands file lists (terms scoring caches floats) u order h
-  pub topped : All (TopIs file lists scoring tops) (take (u .len) order)
+  pub stands : Stands file lists (terms scoring norms floats) u order h
   pub within : taken ≤ turns
 
 -- no turn yet
-pub begun : {file : List ℕ} {lists : List (List ℕ)} {scoring : Scoring} {caches : List (List Float)} {floats : List (List Float)} (t : Float) {tops : List Float} {h : Held} (u : Union) (order : List ℕ) (turns : ℕ)
-    → Stands file lists (terms scoring caches floats) u order h → All (TopIs file lists scoring tops) (take (u .len) order)
-    → OnWay file lists scoring caches t tops (placeOf file lists scoring u order (h .places)) turns h floats u order 0
-begun t u order turns S a = record { quietly = none-yet (unionTurn 128 f32) unionEnded t _; stands = S; topped = a; within = omega arith }
+pub begun : {file : List ℕ} {lists : List (List ℕ)} {scoring : Scoring} {norms : List (List Float)} {floats : List (List Float)} (t : Float) {h : Held} (u : Union) (order : List ℕ) (turns : ℕ)
+    → Stands file lists (terms scoring norms floats) u order h
+    → OnWay file lists scoring norms t (placeOf file lists scoring u order (h .places)) turns h floats u order 0
+begun t u order turns S = record { quietly = none-yet (unionTurn 128 f32) unionEnded t _; stands = S; within = omega arith }
 
-module _ {file : List ℕ} {lists : List (List ℕ)} {scoring : Scoring} {caches : List (List Float)} {t : Float} {tops : List Float} {from : UnionPlace Float} {turns : ℕ}
-    {h : Held} {floats : List (List Float)} {u : Union} {order : List ℕ} {taken : ℕ} (S : OnWay file lists scoring caches t tops from turns h floats u order taken) where
+module _ {file : List ℕ} {lists : List (List ℕ)} {scoring : Scoring} {norms : List (List Float)} {t : Float} {from : UnionPlace Float} {turns : ℕ}
+    {h : Held} {floats : List (List Float)} {u : Union} {order : List ℕ} {taken : ℕ} (S : OnWay file lists scoring norms t from turns h floats u order taken) where
   -- its three ends: at the route's, after all turns that were allowed, and at a report
   pub over : isOver (stageOf (u .stage)) ≡ true → Went (unionTurn 128 f32) unionEnded t from turns taken (placeOf file lists scoring u order (h .places)) event.Over
   over e = at-end (unionTurn 128 f32) unionEnded t (S .quietly) (S .within) e
@@ -129,7 +97,7 @@ module _ {file : List ℕ} {lists : List (List ℕ)} {scoring : Scoring} {caches
     paused e = rw (sym e) (at-pause (unionTurn 128 f32) unionEnded t (S .quietly) on)
 
     module _ (room : taken < turns) {h′ : Held} {order′ : List ℕ} {floats′ : List (List Float)} {r : Step}
-        (D : Turned file lists (terms scoring caches floats) t (u .stage) h order (u .len) h′ order′ floats′ r) where
+        (D : Turned file lists (terms scoring norms floats) t (u .stage) h order (u .len) h′ order′ floats′ r) where
       next-is : unionTurn 128 f32 t (placeOf file lists scoring u order (h .places)) .next ≡ placeOf file lists scoring (r .union) order′ (h′ .places)
       next-is =
           sym (ap (λ z. unionTurn 128 f32 t z .next) (place-is file lists scoring (h .places) u order)) ∙ D .does .next-is ∙ place-is file lists scoring (h′ .places) (r .union) order′
@@ -138,23 +106,22 @@ module _ {file : List ℕ} {lists : List (List ℕ)} {scoring : Scoring} {caches
       due-is = sym (ap (λ z. unionTurn 128 f32 t z .due) (place-is file lists scoring (h .places) u order)) ∙ D .does .due-is
 
       -- a turn leaves a run that can go on
-      pub stands-on : Stands file lists (terms scoring caches floats′) (r .union) order′ h′
+      pub stands-on : Stands file lists (terms scoring norms floats′) (r .union) order′ h′
       stands-on =
           let a = D .few in
           let b = S .stands .few in
           record {
             few = omega arith;
             room = D .long;
-            seated = D .left .seated;
+            seated = D .left;
             kept = rw next-is at (union-nears 128 (documents file) f32 [] tt .nears t (placeOf file lists scoring u order (h .places)) on (S .stands .kept) .0);
           }
 
       -- a turn without a report
-      pub quiet-turn : r .due ≡ false → OnWay file lists scoring caches t tops from turns h′ floats′ (r .union) order′ (taken + 1)
+      pub quiet-turn : r .due ≡ false → OnWay file lists scoring norms t from turns h′ floats′ (r .union) order′ (taken + 1)
       quiet-turn e = record {
         quietly = rw add-one (one-more (unionTurn 128 f32) unionEnded t (S .quietly) on (due-is ∙ rw e) next-is);
         stands = stands-on;
-        topped = D .left .topped tops (S .topped);
         within = omega arith;
       }
 

@@ -25,15 +25,14 @@ use Rattle.term_scorer.specs.Inner.Weights.{Bounded, FloatRows, KeptBounds, Sam
 use Rattle.term_scorer.proofs.Bounds.{bounded-kept, bounded-off, bounded-place, bounded-scores, bounded-sixteen, kept-moved, kept-same}
 use Rattle.term_scorer.proofs.Floats.{rows-set}
 use Rattle.term_scorer.proofs.Slots as slots
-use Rattle.block_wand_union.specs.Inner.Seats.{Carried, MaxScoreAt, Seat, Seated, Stand, Terms, TopIs, scorerAt, terms}
+use Rattle.block_wand_union.specs.Inner.Seats.{Carried, MaxScoreAt, Seat, Seated, Stand, Terms, scorerAt, terms}
 
 -- ---- rows
 
 -- a slot's rows are as they were
 pub record SameRows (h h′ : Held) (q : ℕ) : Type 0 where
   pub places : getD (h′ .places) q [] ≡ getD (h .places) q []
-  pub docs : getD (h′ .docs) q [] ≡ getD (h .docs) q []
-  pub freqs : getD (h′ .freqs) q [] ≡ getD (h .freqs) q []
+  pub block : getD (h′ .blocks) q [] ≡ getD (h .blocks) q []
 
 row-off : {A : Type 0} (xs ys : List (List A)) (q r : ℕ) → ys ≡ set xs q (getD ys q []) → (r ≡ q → ⊥) → getD ys r [] ≡ getD xs r []
 row-off xs ys q r e n = ap (λ z. getD z r []) e ∙ getD-set-other xs q r (getD ys q []) [] n
@@ -42,7 +41,7 @@ still-sixteen : {A : Type 0} (xs ys : List A) (q : ℕ) (y : A) → ys ≡ set x
 still-sixteen xs ys q y e h = ap length e ∙ length-set xs q y ∙ h
 
 abbrev AllSixteen : Held → Type 0
-AllSixteen h = Sixteen (h .places) × Sixteen (h .docs) × Sixteen (h .freqs)
+AllSixteen h = Sixteen (h .places) × Sixteen (h .blocks)
 
 -- the first of scorers in slots of their own
 pub first-apart : (len : ℕ) (l : List TermScorer) → Apart l → Apart (take len l)
@@ -55,13 +54,13 @@ module _ (file : List ℕ) (lists : List (List ℕ)) where
   stand-same : (h h′ : Held) (s : TermScorer) → AllSixteen h′ → SameRows h h′ (s .slot) → Stand file lists h s → Stand file lists h′ s
   stand-same h h′ s n R S = record {
     slot-in = S .slot-in;
-    slot = record { sixteen = n; part-row = S .slot .part-row; list = S .slot .list; place = rw (R .places, R .docs, R .freqs) (S .slot .place) };
+    slot = record { sixteen = n; part-row = S .slot .part-row; list = S .slot .list; place = rw (R .places, R .block) (S .slot .place) };
     doc-is = S .doc-is ∙ ap (λ (row : List ℕ). docIn file (partAt lists (s .slot)) (cursorIn row .at)) (sym (R .places));
   }
 
   seat-same : (T : Terms) (floats′ : List (List Float)) (h h′ : Held) (s : TermScorer) → AllSixteen h′ → SameRows h h′ (s .slot)
       → SameCells (s .slot) (getD (T .floats) 0 []) (getD floats′ 0 []) → getD floats′ (2 + s .slot) [] ≡ getD (T .floats) (2 + s .slot) []
-      → Seat file lists T h s → Seat file lists (terms (T .scoring) (T .caches) floats′) h′ s
+      → Seat file lists T h s → Seat file lists (terms (T .scoring) (T .norms) floats′) h′ s
   seat-same T floats′ h h′ s n R e m S = record {
     stand = stand-same h h′ s n R (S .stand);
     weighed = S .weighed;
@@ -77,15 +76,13 @@ module _ (file : List ℕ) (lists : List (List ℕ)) where
     pub others-rows : (r : ℕ) → (r ≡ q → ⊥) → SameRows h h′ r
     others-rows r n = record {
       places = row-off (h .places) (h′ .places) q r (M .places-only) n;
-      docs = row-off (h .docs) (h′ .docs) q r (M .docs-only) n;
-      freqs = row-off (h .freqs) (h′ .freqs) q r (M .freqs-only) n;
+      block = row-off (h .blocks) (h′ .blocks) q r (M .blocks-only) n;
     }
 
     moved-sixteen : AllSixteen h → AllSixteen h′
-    moved-sixteen (p, d, f) = (
+    moved-sixteen (p, b) = (
       still-sixteen (h .places) (h′ .places) q (getD (h′ .places) q []) (M .places-only) p,
-      still-sixteen (h .docs) (h′ .docs) q (getD (h′ .docs) q []) (M .docs-only) d,
-      still-sixteen (h .freqs) (h′ .freqs) q (getD (h′ .freqs) q []) (M .freqs-only) f,
+      still-sixteen (h .blocks) (h′ .blocks) q (getD (h′ .blocks) q []) (M .blocks-only) b,
     )
 
     pub same-off : (scoring : Scoring) → SameOff q (scorerAt file lists scoring (h .places)) (scorerAt file lists scoring (h′ .places))
@@ -127,19 +124,18 @@ module _ (file : List ℕ) (lists : List (List ℕ)) where
 
   -- ---- the scorer whose skip reader moves, and whose bound is then known
 
-  module _ (s : TermScorer) (docs freqs : List (List ℕ)) {to : Scoring → Cursor} {places places₁ : List (List ℕ)}
+  module _ (s : TermScorer) (blocks : List (List (List ℕ))) {to : Scoring → Cursor} {places places₁ : List (List ℕ)}
       (M : Shallowed file lists (s .slot) to places places₁) where
     -- the decoded block stays
-    shallow-moved : Stand file lists (held places docs freqs) s
-        → MovedSlot file lists (s .slot) to (held places docs freqs) (held places₁ docs freqs) (docIn file (partAt lists (s .slot)) (cursorAt places (s .slot) .at))
+    shallow-moved : Stand file lists (held places blocks) s
+        → MovedSlot file lists (s .slot) to (held places blocks) (held places₁ blocks) (docIn file (partAt lists (s .slot)) (cursorAt places (s .slot) .at))
     shallow-moved S = record {
       places-only = M .only;
-      docs-only = sym (set-getD docs (s .slot) []);
-      freqs-only = sym (set-getD freqs (s .slot) []);
-      moved = M .moved (getD docs (s .slot) []) (getD freqs (s .slot) []) (S .slot .place);
+      blocks-only = sym (set-getD blocks (s .slot) []);
+      moved = M .moved (getD blocks (s .slot) []) (S .slot .place);
     }
 
-    pub shallow-seat : (T : Terms) → Seat file lists T (held places docs freqs) s → Seat file lists T (held places₁ docs freqs) s
+    pub shallow-seat : (T : Terms) → Seat file lists T (held places blocks) s → Seat file lists T (held places₁ blocks) s
     shallow-seat T S =
         let N = shallow-moved (S .stand) in
         let Z = moved-seat s N T S in
@@ -153,7 +149,7 @@ module _ (file : List ℕ) (lists : List (List ℕ)) where
         }
 
     module _ (T : Terms) {places₂ : List (List ℕ)} {bounds₂ : List Float} {r : Float} (B : Bounded (T .scoring) file lists (s .slot) places₁ (getD (T .floats) 0 []) places₂ bounds₂ r)
-        (S : Seat file lists T (held places docs freqs) s) (n : FloatRows (T .floats)) where
+        (S : Seat file lists T (held places blocks) s) (n : FloatRows (T .floats)) where
       abbrev floats₂ : List (List Float)
       floats₂ = set (T .floats) 0 bounds₂
 
@@ -164,19 +160,19 @@ module _ (file : List ℕ) (lists : List (List ℕ)) where
       scores-there : (q : ℕ) → getD floats₂ (2 + q) [] ≡ getD (T .floats) (2 + q) []
       scores-there q = getD-set-other (T .floats) 0 (2 + q) bounds₂ [] (λ z. omega (arith, z))
 
-      seat₁ : Seat file lists T (held places₁ docs freqs) s
+      seat₁ : Seat file lists T (held places₁ blocks) s
       seat₁ = shallow-seat T S
 
-      there : PlaceIn file (partAt lists (s .slot)) (getD places₂ (s .slot) []) (getD docs (s .slot) []) (getD freqs (s .slot) []) × (cursorAt places₂ (s .slot) ≡ cursorAt places₁ (s .slot))
+      there : PlaceIn file (partAt lists (s .slot)) (getD places₂ (s .slot) []) (getD blocks (s .slot) []) × (cursorAt places₂ (s .slot) ≡ cursorAt places₁ (s .slot))
       there = bounded-place B (S .stand .slot-in) (seat₁ .stand .slot .sixteen .0) (seat₁ .stand .slot .place)
 
       cursor₂ : cursorAt places₂ (s .slot) ≡ cursorAt places₁ (s .slot)
       cursor₂ = there .1
 
-      sixteen₂ : AllSixteen (held places₂ docs freqs)
-      sixteen₂ = let l = seat₁ .stand .slot .sixteen in (bounded-sixteen B (l .0), l .1, l .2)
+      sixteen₂ : AllSixteen (held places₂ blocks)
+      sixteen₂ = let l = seat₁ .stand .slot .sixteen in (bounded-sixteen B (l .0), l .1)
 
-      pub bounded-seat : Seat file lists (terms (T .scoring) (T .caches) floats₂) (held places₂ docs freqs) s
+      pub bounded-seat : Seat file lists (terms (T .scoring) (T .norms) floats₂) (held places₂ blocks) s
       bounded-seat =
           let Z = seat₁ in
           let n₁ = Z .stand .slot .sixteen .0 in
@@ -194,12 +190,12 @@ module _ (file : List ℕ) (lists : List (List ℕ)) where
           }
 
       -- the other slots
-      other-rows : (z : ℕ) → (z ≡ (s .slot) → ⊥) → SameRows (held places docs freqs) (held places₂ docs freqs) z
-      other-rows z o = record { places = bounded-off B z o ∙ row-off places places₁ (s .slot) z (M .only) o; docs = refl; freqs = refl }
+      other-rows : (z : ℕ) → (z ≡ (s .slot) → ⊥) → SameRows (held places blocks) (held places₂ blocks) z
+      other-rows z o = record { places = bounded-off B z o ∙ row-off places places₁ (s .slot) z (M .only) o; block = refl }
 
-      pub other-seat : (z : TermScorer) → Off (s .slot) z → Seat file lists T (held places docs freqs) z → Seat file lists (terms (T .scoring) (T .caches) floats₂) (held places₂ docs freqs) z
+      pub other-seat : (z : TermScorer) → Off (s .slot) z → Seat file lists T (held places blocks) z → Seat file lists (terms (T .scoring) (T .norms) floats₂) (held places₂ blocks) z
       other-seat z o R =
-          seat-same T floats₂ (held places docs freqs) (held places₂ docs freqs) z sixteen₂ (other-rows (z .slot) o)
+          seat-same T floats₂ (held places blocks) (held places₂ blocks) z sixteen₂ (other-rows (z .slot) o)
           (subst (SameCells (z .slot) (getD (T .floats) 0 [])) (sym bounds-there) (B .others (z .slot) (R .stand .slot-in) o)) (scores-there (z .slot)) R
 
       pub bounded-rows : FloatRows floats₂
@@ -230,13 +226,12 @@ module _ (file : List ℕ) (lists : List (List ℕ)) where
   fair scoring h (y ∷ ys) a b = (record { doc-is = same-doc scoring h y (a .0); max-is = b .0 }, fair scoring h ys (a .1) (b .1))
 
   pub carried-refl : (h : Held) (l : List TermScorer) → Apart l → All (Stand file lists h) l → Carried file lists h l h l
-  carried-refl h l apart a = record { stands = a; apart = apart; topped = λ k t b. b; seats = λ T s. s }
+  carried-refl h l apart a = record { stands = a; apart = apart; seats = λ T s. s }
 
   pub carried-trans : {h h′ h″ : Held} {l l′ l″ : List TermScorer} → Carried file lists h l h′ l′ → Carried file lists h′ l′ h″ l″ → Carried file lists h l h″ l″
   carried-trans C D = record {
     stands = D .stands;
     apart = D .apart;
-    topped = λ k t b. D .topped k t (C .topped k t b);
     seats = λ T s. D .seats T (C .seats T s);
   }
 
@@ -249,7 +244,6 @@ module _ (file : List ℕ) (lists : List (List ℕ)) where
   carried-kept h k apart a = record {
     stands = kept-all (Stand file lists h) k a;
     apart = kept-apart k apart;
-    topped = λ r t b. kept-all (λ z. TopIs file lists r t (z .slot)) k b;
     seats = λ T s. kept-all (Seat file lists T h) k s;
   }
 
@@ -270,7 +264,6 @@ module _ (file : List ℕ) (lists : List (List ℕ)) where
         record {
           stands = replaced-all l i x′ inside apart (Stand file lists h) (Stand file lists h′) (λ s o R. stand-same h h′ s n (others-rows M (s .slot) o) R) (moved-stand x M S) a;
           apart = slots-apart l (set l i x′) slots apart;
-          topped = λ k t b. slots-all (TopIs file lists k t) l (set l i x′) slots b;
           seats = λ T s. replaced-all l i x′ inside apart (Seat file lists T h) (Seat file lists T h′)
               (λ z o R. seat-same T (T .floats) h h′ z n (others-rows M (z .slot) o) (record { bound = refl; ahead = λ k u. refl }) refl R) (moved-seat x M T (all-at (Seat file lists T h) l i noScorer inside s)) s;
         }

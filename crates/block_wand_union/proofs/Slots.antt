@@ -21,8 +21,9 @@ use Rattle.skip_reader.specs.Inner.Decoded.{docIn}
 use Rattle.slot_rows.specs.Inner.Rows.{cursorIn, postingsIn}
 use Rattle.slot_rows.proofs.Rows.{doc-in-array}
 use Rattle.term_scorer.specs.Inner.Slots.{cursorAt, Held, listAt, partAt, MovedSlot}
+use Rattle.term_scorer.specs.Inner.Weights.{topAt, TopKept, TopRead}
 use Rattle.slot_order.specs.Inner.Rows.{Readable, docAt, termIn}
-use Rattle.block_wand_union.specs.Inner.Seats.{Carried, Lined, MaxScoreAt, Seat, Stand, Terms, TopIs, termAt, termsOf}
+use Rattle.block_wand_union.specs.Inner.Seats.{Lined, MaxScoreAt, Seat, Seated, Stand, Terms, termAt, termsOf}
 use Rattle.block_wand_union.proofs.Seats.{others-rows}
 
 pub all-unmap : {A B : Type 0} (P : B → Type 0) (g : A → B) (xs : List A) → All P (map g xs) → All (λ x. P (g x)) xs
@@ -60,37 +61,37 @@ module _ (file : List ℕ) (lists : List (List ℕ)) where
 
   -- the document that is read is the place's
   doc-read : (s : Scoring) (h : Held) (q : ℕ) → Stand file lists h (term s h q)
-      → docIn file (partAt lists q) (cursorAt (h .places) q .at) ≡ docAt (h .places) (h .docs) q
+      → docIn file (partAt lists q) (cursorAt (h .places) q .at) ≡ docAt (h .places) (h .blocks) q
   doc-read s h q S = doc-in-array file (getD lists q []) (getD (h .places) q []) (S .slot .list) (S .slot .place)
 
-  pub doc-known : (s : Scoring) (h : Held) (q : ℕ) → Stand file lists h (term s h q) → {d : ℕ} → d ≡ docAt (h .places) (h .docs) q
+  pub doc-known : (s : Scoring) (h : Held) (q : ℕ) → Stand file lists h (term s h q) → {d : ℕ} → d ≡ docAt (h .places) (h .blocks) q
       → d ≡ docIn file (partAt lists q) (cursorAt (h .places) q .at)
   doc-known s h q S e = e ∙ sym (doc-read s h q S)
 
   pub same-keys : (s : Scoring) (h : Held) (qs : List ℕ) → All (Stand file lists h) (here s h qs)
-      → All (SameKey (docAt (h .places) (h .docs)) byDoc (term s h)) qs
+      → All (SameKey (docAt (h .places) (h .blocks)) byDoc (term s h)) qs
   same-keys s h [] a = tt
   same-keys s h (q ∷ qs) a = (doc-read s h q (a .0), same-keys s h qs (a .1))
 
-  pub terms-read : (s : Scoring) (h : Held) (tops : List Float) (qs : List ℕ) → All (Stand file lists h) (here s h qs) → All (TopIs file lists s tops) qs
-      → map (termIn tops (h .places) (h .docs)) qs ≡ here s h qs
-  terms-read s h tops [] a b = refl
-  terms-read s h tops (q ∷ qs) a b =
-      let e : termIn tops (h .places) (h .docs) q ≡ term s h q =
-      ap (λ (x : ℕ). record { doc = x; «max_score» = getD tops q nan; slot = q }) (sym (doc-read s h q (a .0)))
-      ∙ ap (λ (x : Float). record { doc = docIn file (partAt lists q) (cursorAt (h .places) q .at); «max_score» = x; slot = q }) (b .0) in
-      let t = terms-read s h tops qs (a .1) (b .1) in
+  pub terms-read : (s : Scoring) (h : Held) (qs : List ℕ) → All (Stand file lists h) (here s h qs) → All (TopKept s file lists) qs
+      → map (termIn lists (h .places) (h .blocks)) qs ≡ here s h qs
+  terms-read s h [] a b = refl
+  terms-read s h (q ∷ qs) a b =
+      let e : termIn lists (h .places) (h .blocks) q ≡ term s h q =
+      ap (λ (x : ℕ). record { doc = x; «max_score» = topAt lists q; slot = q }) (sym (doc-read s h q (a .0)))
+      ∙ ap (λ (x : Float). record { doc = docIn file (partAt lists q) (cursorAt (h .places) q .at); «max_score» = x; slot = q }) (b .0 .top-is) in
+      let t = terms-read s h qs (a .1) (b .1) in
       rw (e, t)
 
   -- of a row's first n slots
-  pub scorers-read : (s : Scoring) (h : Held) (tops : List Float) (n : ℕ) (order : List ℕ) → All (Stand file lists h) (here s h (take n order)) → All (TopIs file lists s tops) (take n order)
-      → take n (map (termIn tops (h .places) (h .docs)) order) ≡ here s h (take n order)
-  scorers-read s h tops n order a b = sym (map-take (termIn tops (h .places) (h .docs)) n order) ∙ terms-read s h tops (take n order) a b
+  pub scorers-read : (s : Scoring) (h : Held) (n : ℕ) (order : List ℕ) → All (Stand file lists h) (here s h (take n order)) → All (TopKept s file lists) (take n order)
+      → take n (map (termIn lists (h .places) (h .blocks)) order) ≡ here s h (take n order)
+  scorers-read s h n order a b = sym (map-take (termIn lists (h .places) (h .blocks)) n order) ∙ terms-read s h (take n order) a b
 
   -- so the pivot is theirs
-  pub pivot-read : (t : Float) (s : Scoring) (h : Held) (tops : List Float) (n : ℕ) (order : List ℕ) → All (Stand file lists h) (here s h (take n order)) → All (TopIs file lists s tops) (take n order)
-      → {p : Pivot} → p ≡ pivotOf t (take n (map (termIn tops (h .places) (h .docs)) order)) → p ≡ pivotOf t (here s h (take n order))
-  pivot-read t s h tops n order a b e = e ∙ ap (pivotOf t) (scorers-read s h tops n order a b)
+  pub pivot-read : (t : Float) (s : Scoring) (h : Held) (n : ℕ) (order : List ℕ) → All (Stand file lists h) (here s h (take n order)) → All (TopKept s file lists) (take n order)
+      → {p : Pivot} → p ≡ pivotOf t (take n (map (termIn lists (h .places) (h .blocks)) order)) → p ≡ pivotOf t (here s h (take n order))
+  pivot-read t s h n order a b e = e ∙ ap (pivotOf t) (scorers-read s h n order a b)
 
   -- the scorers of slots are those of their own slots, with their own list bounds
   pub own-slots : (s : Scoring) (h : Held) (qs : List ℕ) → All (λ t. term s h (t .slot) ≡ t) (here s h qs)
@@ -159,10 +160,12 @@ module _ (file : List ℕ) (lists : List (List ℕ)) where
         let t = terms-move qs i (omega arith) (a .1) M in
         rw (e, t)
 
--- a row that has the list bounds of slots has those of the slots that are left
-pub tops-kept : (file : List ℕ) (lists : List (List ℕ)) (s : Scoring) (h h′ : Held) (qs rs : List ℕ)
-    → Carried file lists h (termsOf file lists s (h .places) qs) h′ (termsOf file lists s (h′ .places) rs)
-    → (tops : List Float) → All (TopIs file lists s tops) qs → All (TopIs file lists s tops) rs
-tops-kept file lists s h h′ qs rs C tops a =
-    all-unmap (λ t. TopIs file lists s tops (t .slot)) (termAt file lists s (h′ .places)) rs
-    (C .topped s tops (all-map (TopIs file lists s tops) (λ t. TopIs file lists s tops (t .slot)) (termAt file lists s (h .places)) qs (λ _ x. x) a))
+-- scorers that are seated have their list bounds
+module _ {file : List ℕ} {lists : List (List ℕ)} {T : Terms} {h : Held} (qs : List ℕ) (S : Seated file lists T h (termsOf file lists (T .scoring) (h .places) qs)) where
+  pub tops-kept : All (TopKept (T .scoring) file lists) qs
+  tops-kept =
+      all-unmap (λ s. TopKept (T .scoring) file lists (s .slot)) (termAt file lists (T .scoring) (h .places)) qs
+      (all-imp (Seat file lists T h) (λ s. TopKept (T .scoring) file lists (s .slot)) (termsOf file lists (T .scoring) (h .places) qs) (λ _ s. s .top) (S .seats))
+
+  pub tops-read : All (TopRead lists) qs
+  tops-read = all-imp (TopKept (T .scoring) file lists) (TopRead lists) qs (λ _ k. k .read) tops-kept

@@ -27,11 +27,11 @@ use Rattle.ordering.proofs.Moving.{moved-all}
 use Rattle.ordering.proofs.UnionTurns.{called-turn, high-turn, low-turn, nowhere-turn}
 use Rattle.notefile.specs.Header.{documents}
 use Rattle.term_scorer.specs.Inner.Slots.{Held, Sixteen}
-use Rattle.block_wand_union.specs.Inner.Seats.{Carried, Inside, Lined, MaxScoreAt, Seat, Seated, Stand, Terms, TopIs, placeIn, scorerAt, termAt, terms, termsOf}
+use Rattle.block_wand_union.specs.Inner.Seats.{Carried, Inside, Lined, MaxScoreAt, Seat, Seated, Stand, Terms, placeIn, scorerAt, termAt, terms, termsOf}
 use Rattle.block_wand_union.specs.Inner.Moves.{AdvancedAll, BlocksSought, TooLow}
 use Rattle.block_wand_union.specs.Inner.Turns.{AtPivot, Does, Pivoted, ToPivot, Turned, quietStep}
 use Rattle.block_wand_union.specs.declared.Stage.the-variants.{Called, Looking, Over}
-use Rattle.block_wand_union.specs.declared.turn.Span.{Span}
+use Rattle.block_wand_union.specs.declared.pivot.Span.{Span}
 use Rattle.block_wand_union.specs.declared.turn.Step.{Step}
 use Rattle.block_wand_union.proofs.Seats.{fair, first-apart, seats-stand, still-seated}
 use Rattle.block_wand_union.proofs.Slots.{all-unmap, lined, same-terms, slots-of, tops-kept}
@@ -49,8 +49,8 @@ module _ {file : List ℕ} {lists : List (List ℕ)} {T : Terms} {h : Held} {l :
 
 -- ---- at a pivot that was found
 
-module _ {file : List ℕ} {lists : List (List ℕ)} {T : Terms} {t : Float} {tops : List Float} {h : Held} {order : List ℕ} {n : ℕ} {at : Span}
-    (Q : ToPivot file lists T t tops h order n at) where
+module _ {file : List ℕ} {lists : List (List ℕ)} {T : Terms} {t : Float} {h : Held} {order : List ℕ} {n : ℕ} {at : Span}
+    (Q : ToPivot file lists T t h order n at) where
   abbrev l : List TermScorer
   l = termsOf file lists (T .scoring) (h .places) (take n order)
 
@@ -90,7 +90,7 @@ module _ {file : List ℕ} {lists : List (List ℕ)} {T : Terms} {t : Float} {to
     g = scorerAt file lists (T .scoring) (h′ .places)
 
     abbrev T′ : Terms
-    T′ = terms (T .scoring) (T .caches) floats′
+    T′ = terms (T .scoring) (T .norms) floats′
 
     -- their documents stay
     still : termsOf file lists (T .scoring) (h′ .places) (take n order) ≡ l
@@ -130,20 +130,20 @@ module _ {file : List ℕ} {lists : List (List ℕ)} {T : Terms} {t : Float} {to
     high q {h″} {order″} {r = r} P = record {
       does = subst (λ (u : Turn (UnionPlace Float) Float). Does file lists (T .scoring) u h″ order″ r)
           (sym (high-turn 128 t l f (fair-here (Q .seated)) before len p (Q .found) g (B .moving) _ (sum-above q) refl)) (rw still at (P .does));
-      left = record { seated = P .left .seated; topped = P .left .topped };
+      left = P .left;
       few = P .few;
       long = P .long;
     }
 
     -- they are too low
-    pub low : f32 .above upper t ≡ false → {h″ : Held} {order″ : List ℕ} → TooLow file lists tops h′ order n len h″ order″
+    pub low : f32 .above upper t ≡ false → {h″ : Held} {order″ : List ℕ} → TooLow file lists h′ order n len h″ order″
         → Turned file lists T t Looking h order n h″ order″ floats′ (quietStep n Looking)
     low q {h″} {order″} P =
-        let O = P .one (T .scoring) (Q .topped) in
+        let O = P .one (T .scoring) (tops-kept (take n order) (Q .seated)) in
         let e = low-turn 128 t l f (fair-here (Q .seated)) before len p (Q .found) g (B .moving) _ (sum-above q) (rw still at (O .scorers-are)) in
         record {
           does = record { next-is = ap (λ u. u .next) e; due-is = ap (λ u. u .due) e };
-          left = record { seated = still-seated file lists seated′ (O .carried); topped = tops-kept file lists (T .scoring) h′ h″ (take n order) (take n order″) (O .carried) };
+          left = still-seated file lists seated′ (O .carried);
           few = omega arith;
           long = P .long;
         }
@@ -161,10 +161,10 @@ module _ {file : List ℕ} {lists : List (List ℕ)} {T : Terms} (t : Float) {h 
   pub nowhere : Nowhere ≡ pivotOf t all → Turned file lists T t Looking h order n h order (T .floats) (quietStep n Over)
   nowhere e =
       let q = nowhere-turn 128 t all at-route (fair-here S) e in
-      record { does = record { next-is = ap (λ u. u .next) q; due-is = ap (λ u. u .due) q }; left = record { seated = S; topped = λ _ a. a }; few = omega arith; long = long }
+      record { does = record { next-is = ap (λ u. u .next) q; due-is = ap (λ u. u .due) q }; left = S; few = omega arith; long = long }
 
   pub stays : Turned file lists T t Over h order n h order (T .floats) (quietStep n Over)
-  stays = record { does = record { next-is = refl; due-is = refl }; left = record { seated = S; topped = λ _ a. a }; few = omega arith; long = long }
+  stays = record { does = record { next-is = refl; due-is = refl }; left = S; few = omega arith; long = long }
 
   -- the scorers on the report's document go on
   pub goes-on : {k : ℕ} {h′ : Held} {order′ : List ℕ} {r : ℕ} → AdvancedAll file lists h order n k h′ order′ r
@@ -174,7 +174,7 @@ module _ {file : List ℕ} {lists : List (List ℕ)} {T : Terms} (t : Float) {h 
       let A = D .on (T .scoring) in
       record {
         does = record { next-is = ap (λ u. u .next) q ∙ ap (λ ss. goOn ss) (sym (A .scorers-are)); due-is = ap (λ u. u .due) q };
-        left = record { seated = still-seated file lists S (A .carried); topped = tops-kept file lists (T .scoring) h h′ (take n order) (take r order′) (A .carried) };
+        left = still-seated file lists S (A .carried);
         few = D .few;
         long = D .long;
       }

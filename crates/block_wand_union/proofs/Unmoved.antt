@@ -15,10 +15,10 @@ use Rattle.block_wand_union.specs.Inner.Seats.{Seat, Seated, Unmoved, sc
 
 -- ---- one posting
 
-pub unmoved : (file : List ℕ) (lists : List (List ℕ)) (scoring : Scoring) (caches : List (List Float)) {floats floats′ : List (List Float)} {q : ℕ} (small : q < 16)
-    {places places′ : List (List ℕ)} (docs freqs : List (List ℕ)) (n : Sixteen places) → ScoresMade scoring file lists q places floats places′ floats′
-    → Unmoved file lists scoring caches floats (held places docs freqs) floats′ (held places′ docs freqs)
-unmoved file lists scoring caches small docs freqs n M = record {
+pub unmoved : (file : List ℕ) (lists : List (List ℕ)) (scoring : Scoring) (norms : List (List Float)) {floats floats′ : List (List Float)} {q : ℕ} (small : q < 16)
+    {places places′ : List (List ℕ)} (blocks : List (List (List ℕ))) (n : Sixteen places) → ScoresMade scoring file lists q places floats places′ floats′
+    → Unmoved file lists scoring norms floats (held places blocks) floats′ (held places′ blocks)
+unmoved file lists scoring norms small blocks n M = record {
   cursor-is = made-cursor small n M;
   seats = λ s S.
       let c = made-cursor small n M (s .slot) in
@@ -39,16 +39,16 @@ unmoved file lists scoring caches small docs freqs n M = record {
 
 -- ---- several
 
-module _ {file : List ℕ} {lists : List (List ℕ)} {scoring : Scoring} {caches : List (List Float)} where
-  pub unmoved-refl : {floats : List (List Float)} {h : Held} → FloatRows floats → Unmoved file lists scoring caches floats h floats h
+module _ {file : List ℕ} {lists : List (List ℕ)} {scoring : Scoring} {norms : List (List Float)} where
+  pub unmoved-refl : {floats : List (List Float)} {h : Held} → FloatRows floats → Unmoved file lists scoring norms floats h floats h
   unmoved-refl F = record { cursor-is = λ q. refl; seats = λ s S. S; rows = F }
 
   pub unmoved-trans : {floats floats′ floats″ : List (List Float)} {h h′ h″ : Held}
-      → Unmoved file lists scoring caches floats h floats′ h′ → Unmoved file lists scoring caches floats′ h′ floats″ h″ → Unmoved file lists scoring caches floats h floats″ h″
+      → Unmoved file lists scoring norms floats h floats′ h′ → Unmoved file lists scoring norms floats′ h′ floats″ h″ → Unmoved file lists scoring norms floats h floats″ h″
   unmoved-trans U W = record { cursor-is = λ q. W .cursor-is q ∙ U .cursor-is q; seats = λ s S. W .seats s (U .seats s S); rows = W .rows }
 
   -- the scorers of slots are what they were, and so are the route's
-  module _ {floats floats′ : List (List Float)} {h h′ : Held} (U : Unmoved file lists scoring caches floats h floats′ h′) where
+  module _ {floats floats′ : List (List Float)} {h h′ : Held} (U : Unmoved file lists scoring norms floats h floats′ h′) where
     pub terms-unmoved : (qs : List ℕ) → termsOf file lists scoring (h′ .places) qs ≡ termsOf file lists scoring (h .places) qs
     terms-unmoved [] = refl
     terms-unmoved (q ∷ qs) =
@@ -63,11 +63,11 @@ module _ {file : List ℕ} {lists : List (List ℕ)} {scoring : Scoring} {caches
         ap (λ (c : Cursor). record { ord = s .slot; list = listAt scoring file lists (s .slot); cur = c }) (U .cursor-is (s .slot)) in
         rw (e, scorers-unmoved l)
 
-    pub seated-unmoved : (qs : List ℕ) → Seated file lists (terms scoring caches floats) h (termsOf file lists scoring (h .places) qs)
-        → Seated file lists (terms scoring caches floats′) h′ (termsOf file lists scoring (h′ .places) qs)
+    pub seated-unmoved : (qs : List ℕ) → Seated file lists (terms scoring norms floats) h (termsOf file lists scoring (h .places) qs)
+        → Seated file lists (terms scoring norms floats′) h′ (termsOf file lists scoring (h′ .places) qs)
     seated-unmoved qs S =
         rw (terms-unmoved qs) (record {
-          seats = all-imp (Seat file lists (terms scoring caches floats) h) (Seat file lists (terms scoring caches floats′) h′) (termsOf file lists scoring (h .places) qs) (λ s z. U .seats s z) (S .seats);
+          seats = all-imp (Seat file lists (terms scoring norms floats) h) (Seat file lists (terms scoring norms floats′) h′) (termsOf file lists scoring (h .places) qs) (λ s z. U .seats s z) (S .seats);
           apart = S .apart;
           rows = U .rows;
         })

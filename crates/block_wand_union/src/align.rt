@@ -1,5 +1,6 @@
 // The scorers before the pivot come onto it, or one goes past it.
 use slot_order::restore::put_back;
+use slot_rows::place::Blocks;
 use slot_rows::place::Places;
 use term_scorer::slot;
 ghost use Prim.Native.Nat.{_≤_, _<_};
@@ -24,25 +25,24 @@ pub fn align_scorers(
     pivot_doc: u32,
     order: &mut [usize; 16],
     places: &mut Places,
-    docs: &mut [[u32; 128]; 16],
-    freqs: &mut [[u32; 128]; 16],
+    blocks: &mut Blocks,
 ) -> Alignment
-    requires { let slots = held (now places) (now docs) (now freqs) in
+    requires { let slots = held (now places) (now blocks) in
         ⌜ («before_pivot_len» < n) × (n ≤ 16) × («pivot_doc» ≤ 2147483647) × Sixteen (now order)
         × Lined (now file) (now lists) slots (take n (now order)) ⌝ }
     ensures { λ r.
-        let old = held (before places) (before docs) (before freqs) in
-        let new = held (after places) (after docs) (after freqs) in
+        let old = held (before places) (before blocks) in
+        let new = held (after places) (after blocks) in
         ⌜ Aligns (before file) (before lists) «pivot_doc» old (before order) n «before_pivot_len» new (after order) r ⌝ }
 {
     let mut i = before_pivot_len;
     while 0 < i {
         i -= 1;
         let q = order[i];
-        let at = slot::doc(q, places, docs);
-        let doc = slot::seek(file, lists, q, at, pivot_doc, places, docs, freqs);
+        let at = slot::doc(q, places, blocks);
+        let doc = slot::seek(file, lists, q, at, pivot_doc, places, blocks);
         if doc != pivot_doc {
-            let len = put_back(order, n, i, places, docs);
+            let len = put_back(order, n, i, places, blocks);
             return Alignment {
                 len,
                 on_pivot: false,

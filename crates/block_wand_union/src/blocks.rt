@@ -1,4 +1,5 @@
 // The blocks that may hold the pivot, and the sum of their bounds.
+use slot_rows::place::Blocks;
 use slot_rows::place::Places;
 use term_scorer::BOUNDS;
 use term_scorer::Floats;
@@ -19,24 +20,22 @@ pub fn seek_blocks(
     file: &[u8],
     similarity: Similarity,
     lists: &[[usize; 8]; 16],
-    caches: &[[f32; 256]; 16],
+    norms: &[[f32; 256]; 16],
     pivot_len: usize,
     pivot_doc: u32,
     order: &[usize; 16],
     places: &mut Places,
-    docs: &[[u32; 128]; 16],
-    freqs: &[[u32; 128]; 16],
+    blocks: &Blocks,
     floats: &mut Floats,
 ) -> f32
-    requires { let T = terms (similarity .scoring) (now caches) (now floats) in
-        let slots = held (now places) (now docs) (now freqs) in
+    requires { let T = terms (similarity .scoring) (now norms) (now floats) in
         let first = termsOf (now file) (now lists) (similarity .scoring) (now places) (take «pivot_len» (now order)) in
         ⌜ («pivot_len» ≤ 16) × (similarity .norms ≡ normReader (now file)) × Sixteen (now order)
-        × Seated (now file) (now lists) T slots first ⌝ }
+        × Seated (now file) (now lists) T (held (now places) (now blocks)) first ⌝ }
     ensures { λ r.
-        let T = terms (similarity .scoring) (before caches) (before floats) in
-        let old = held (before places) (before docs) (before freqs) in
-        let new = held (after places) (before docs) (before freqs) in
+        let T = terms (similarity .scoring) (before norms) (before floats) in
+        let old = held (before places) (before blocks) in
+        let new = held (after places) (before blocks) in
         ⌜ ((n : ℕ) → «pivot_len» ≤ n
         → let l = termsOf (before file) (before lists) (similarity .scoring) (before places) (take n (before order)) in
         Seated (before file) (before lists) T old l
@@ -47,18 +46,17 @@ pub fn seek_blocks(
     while i < pivot_len {
         let q = order[i];
         slot::shallow_seek(file, lists, q, pivot_doc, places);
-        let bound = score::block_max(
-            file,
-            similarity,
-            lists,
-            caches,
-            q,
-            places,
-            docs,
-            freqs,
-            &mut floats[BOUNDS],
-        );
-        sum = sum + bound;
+        sum = sum
+            + score::block_max(
+                file,
+                similarity,
+                lists,
+                norms,
+                q,
+                places,
+                blocks,
+                &mut floats[BOUNDS],
+            );
         i += 1;
     }
     sum

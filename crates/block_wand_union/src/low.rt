@@ -5,6 +5,7 @@ use slot_order::pivot::least_doc;
 use slot_order::pivot::scorer_to_seek;
 use slot_order::structs::in_order;
 use slot_order::structs::keep_order;
+use slot_rows::place::Blocks;
 use slot_rows::place::Places;
 use term_scorer::slot;
 ghost use mathlib.Core.Path.{_≡_};
@@ -14,6 +15,7 @@ ghost use Rattle.arrays.specs.Lent.{before, after};
 ghost use Rattle.arrays.specs.Every.{All};
 ghost use Rattle.route.specs.Union.{behind};
 ghost use Rattle.term_scorer.specs.Inner.Slots.{held, Sixteen};
+ghost use Rattle.term_scorer.specs.Inner.Weights.{TopRead};
 ghost use Rattle.block_wand_union.specs.Inner.Seats.{Lined};
 ghost use Rattle.block_wand_union.specs.Inner.Moves.{leastLastOf, LastRead, TooLow};
 
@@ -52,27 +54,32 @@ pub fn block_max_was_too_low_advance_one_scorer(
     lists: &[[usize; 8]; 16],
     n: usize,
     pivot_len: usize,
-    tops: &[f32; 16],
     order: &mut [usize; 16],
     places: &mut Places,
-    docs: &mut [[u32; 128]; 16],
-    freqs: &mut [[u32; 128]; 16],
+    blocks: &mut Blocks,
 )
-    requires { let slots = held (now places) (now docs) (now freqs) in
-        ⌜ (0 < «pivot_len») × («pivot_len» ≤ n) × (n ≤ 16) × Sixteen (now tops) × Sixteen (now order)
-        × Lined (now file) (now lists) slots (take n (now order)) ⌝ }
+    requires { let slots = held (now places) (now blocks) in
+        ⌜ (0 < «pivot_len») × («pivot_len» ≤ n) × (n ≤ 16) × Sixteen (now order)
+        × Lined (now file) (now lists) slots (take n (now order)) × All (TopRead (now lists)) (take n (now order)) ⌝ }
     ensures { λ _.
-        let old = held (before places) (before docs) (before freqs) in
-        let new = held (after places) (after docs) (after freqs) in
-        ⌜ TooLow (before file) (before lists) (before tops) old (before order) n «pivot_len» new (after order) ⌝ }
+        let old = held (before places) (before blocks) in
+        let new = held (after places) (after blocks) in
+        ⌜ TooLow (before file) (before lists) old (before order) n «pivot_len» new (after order) ⌝ }
 {
     let doc_to_seek_after = least_last_doc(order, pivot_len, places);
-    let target = least_doc(order, n, pivot_len, behind(doc_to_seek_after), places, docs);
-    let at = scorer_to_seek(order, pivot_len, tops);
+    let target = least_doc(
+        order,
+        n,
+        pivot_len,
+        behind(doc_to_seek_after),
+        places,
+        blocks,
+    );
+    let at = scorer_to_seek(order, pivot_len, lists);
     let q = order[at];
-    let doc = slot::doc(q, places, docs);
-    slot::seek(file, lists, q, doc, target, places, docs, freqs);
-    let scorers = in_order(order, n, tops, places, docs);
+    let doc = slot::doc(q, places, blocks);
+    slot::seek(file, lists, q, doc, target, places, blocks);
+    let scorers = in_order(order, n, lists, places, blocks);
     let moved = restored(scorers, at);
     keep_order(moved, order);
 }

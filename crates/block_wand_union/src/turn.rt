@@ -4,13 +4,15 @@ use crate::Union;
 use crate::align::align_scorers;
 use crate::blocks::seek_blocks;
 use crate::low::block_max_was_too_low_advance_one_scorer;
+use crate::pivot::Span;
 use crate::pivot::advance_all_scorers_on_pivot;
 use crate::pivot::score_on_pivot;
 use ordering::Pivot;
 use slot_order::pivot::find_pivot_doc;
+use slot_rows::place::Blocks;
 use slot_rows::place::Places;
 use term_scorer::Floats;
-use term_scorer::score::Similarity;
+use term_scorer::score::Leg;
 ghost use mathlib.Core.Path.{_≡_};
 ghost use Prim.Native.Nat.{_≤_};
 ghost use lib.ListN.{take};
@@ -18,23 +20,10 @@ ghost use Rattle.arrays.specs.Lent.{before, after};
 ghost use Rattle.arrays.specs.Every.{All};
 ghost use Rattle.notefile.specs.Header.{normReader};
 ghost use Rattle.term_scorer.specs.Inner.Slots.{held, Sixteen};
-ghost use Rattle.block_wand_union.specs.Inner.Seats.{OnDocument, Seated, TopIs, terms, termsOf};
+ghost use Rattle.block_wand_union.specs.Inner.Seats.{OnDocument, Seated, terms, termsOf};
 ghost use Rattle.block_wand_union.specs.Inner.Turns.{AtPivot, Hit, Pivoted, ToPivot, Turned, quietStep};
 ghost use Rattle.block_wand_union.specs.Inner.Runs.{Stands};
 ghost use Rattle.block_wand_union.specs.declared.Stage.the-variants.{Looking};
-
-// What scores and bounds are made with, and the threshold that they must exceed.
-pub struct Bar {
-    pub similarity: Similarity,
-    pub threshold: f32,
-}
-
-// Where a pivot is: the scorers up to before_pivot_len stand before it, those up to pivot_len on it.
-pub struct Span {
-    pub before_pivot_len: usize,
-    pub pivot_len: usize,
-    pub pivot_doc: u32,
-}
 
 // The scorers left and the stage that follows, and whether document doc is due with its score.
 pub struct Step {
@@ -59,44 +48,32 @@ fn quiet(len: usize, stage: Stage) -> Step
 // All of the first scorers stand on the pivot: it is scored. They go on, unless a report is due, which comes first.
 fn hit(
     file: &[u8],
-    bar: Bar,
-    n: usize,
+    leg: Leg,
     span: Span,
     lists: &[[usize; 8]; 16],
-    caches: &[[f32; 256]; 16],
+    norms: &[[f32; 256]; 16],
     order: &mut [usize; 16],
     places: &mut Places,
-    docs: &mut [[u32; 128]; 16],
-    freqs: &mut [[u32; 128]; 16],
+    blocks: &mut Blocks,
     floats: &mut Floats,
 ) -> Step
-    requires { let T = terms (bar .similarity .scoring) (now caches) (now floats) in
-        let slots = held (now places) (now docs) (now freqs) in
-        let l = termsOf (now file) (now lists) (bar .similarity .scoring) (now places) (take n (now order)) in
-        ⌜ (span .«pivot_len» ≤ n) × (n ≤ 16) × (bar .similarity .norms ≡ normReader (now file)) × Sixteen (now order)
+    requires { let T = terms (leg .similarity .scoring) (now norms) (now floats) in
+        let slots = held (now places) (now blocks) in
+        let l = termsOf (now file) (now lists) (leg .similarity .scoring) (now places) (take (span .len) (now order)) in
+        ⌜ (span .«pivot_len» ≤ span .len) × (span .len ≤ 16) × (leg .similarity .norms ≡ normReader (now file)) × Sixteen (now order)
         × Seated (now file) (now lists) T slots l
         × All (OnDocument (now file) (now lists) T slots) (take (span .«pivot_len») (now order)) ⌝ }
     ensures { λ r.
-        let T = terms (bar .similarity .scoring) (before caches) (before floats) in
-        let old = held (before places) (before docs) (before freqs) in
-        let new = held (after places) (after docs) (after freqs) in
-        ⌜ Hit (before file) (before lists) T (bar .threshold) old (before order) n
+        let T = terms (leg .similarity .scoring) (before norms) (before floats) in
+        let old = held (before places) (before blocks) in
+        let new = held (after places) (after blocks) in
+        ⌜ Hit (before file) (before lists) T (leg .threshold) old (before order) (span .len)
         (span .«pivot_len») (span .«pivot_doc») new (after order) (after floats) r ⌝ }
 {
+    let n = span.len;
     let pivot_len = span.pivot_len;
-    let score = score_on_pivot(
-        file,
-        bar.similarity,
-        lists,
-        caches,
-        pivot_len,
-        order,
-        places,
-        docs,
-        freqs,
-        floats,
-    );
-    if score > bar.threshold {
+    let score = score_on_pivot(file, leg, span, lists, norms, order, places, blocks, floats);
+    if score > leg.threshold {
         let stage = Stage::Called(pivot_len);
         return Step {
             union: Union { len: n, stage },
@@ -105,60 +82,45 @@ fn hit(
             score,
         };
     }
-    let len = advance_all_scorers_on_pivot(file, lists, n, pivot_len, order, places, docs, freqs);
+    let len = advance_all_scorers_on_pivot(file, lists, n, pivot_len, order, places, blocks);
     quiet(len, Stage::Looking)
 }
 
 // The scorers before the pivot are sent to it.
 fn on_pivot(
     file: &[u8],
-    bar: Bar,
-    n: usize,
+    leg: Leg,
     span: Span,
     lists: &[[usize; 8]; 16],
-    caches: &[[f32; 256]; 16],
+    norms: &[[f32; 256]; 16],
     order: &mut [usize; 16],
     places: &mut Places,
-    docs: &mut [[u32; 128]; 16],
-    freqs: &mut [[u32; 128]; 16],
+    blocks: &mut Blocks,
     floats: &mut Floats,
 ) -> Step
-    requires { let scoring = bar .similarity .scoring in
-        let slots = held (now places) (now docs) (now freqs) in
-        let l = termsOf (now file) (now lists) scoring (now places) (take n (now order)) in
-        ⌜ (n ≤ 16) × (bar .similarity .norms ≡ normReader (now file)) × Sixteen (now order)
-        × AtPivot (now file) (now lists) (terms scoring (now caches) (now floats)) slots l span ⌝ }
+    requires { let scoring = leg .similarity .scoring in
+        let slots = held (now places) (now blocks) in
+        let l = termsOf (now file) (now lists) scoring (now places) (take (span .len) (now order)) in
+        ⌜ (span .len ≤ 16) × (leg .similarity .norms ≡ normReader (now file)) × Sixteen (now order)
+        × AtPivot (now file) (now lists) (terms scoring (now norms) (now floats)) slots l span ⌝ }
     ensures { λ r.
-        let T = terms (bar .similarity .scoring) (before caches) (before floats) in
-        let old = held (before places) (before docs) (before freqs) in
-        let new = held (after places) (after docs) (after freqs) in
-        ⌜ Pivoted (before file) (before lists) T (bar .threshold) old (before order) n span new (after order) (after floats) r ⌝ }
+        let T = terms (leg .similarity .scoring) (before norms) (before floats) in
+        let old = held (before places) (before blocks) in
+        let new = held (after places) (after blocks) in
+        ⌜ Pivoted (before file) (before lists) T (leg .threshold) old (before order) (span .len) span new (after order) (after floats) r ⌝ }
 {
     let alignment = align_scorers(
         file,
         lists,
-        n,
+        span.len,
         span.before_pivot_len,
         span.pivot_doc,
         order,
         places,
-        docs,
-        freqs,
+        blocks,
     );
     if alignment.on_pivot {
-        return hit(
-            file,
-            bar,
-            n,
-            span,
-            lists,
-            caches,
-            order,
-            places,
-            docs,
-            freqs,
-            floats,
-        );
+        return hit(file, leg, span, lists, norms, order, places, blocks, floats);
     }
     quiet(alignment.len, Stage::Looking)
 }
@@ -166,97 +128,69 @@ fn on_pivot(
 // The skip readers seek the pivot. Then one scorer goes past blocks that are too low, or the scorers go to the pivot.
 fn to_pivot(
     file: &[u8],
-    bar: Bar,
-    n: usize,
+    leg: Leg,
     span: Span,
     lists: &[[usize; 8]; 16],
-    caches: &[[f32; 256]; 16],
-    tops: &[f32; 16],
+    norms: &[[f32; 256]; 16],
     order: &mut [usize; 16],
     places: &mut Places,
-    docs: &mut [[u32; 128]; 16],
-    freqs: &mut [[u32; 128]; 16],
+    blocks: &mut Blocks,
     floats: &mut Floats,
 ) -> Step
-    requires { let T = terms (bar .similarity .scoring) (now caches) (now floats) in
-        let slots = held (now places) (now docs) (now freqs) in
-        ⌜ (bar .similarity .norms ≡ normReader (now file)) × Sixteen (now tops)
-        × ToPivot (now file) (now lists) T (bar .threshold) (now tops) slots (now order) n span ⌝ }
+    requires { let T = terms (leg .similarity .scoring) (now norms) (now floats) in
+        let slots = held (now places) (now blocks) in
+        ⌜ (leg .similarity .norms ≡ normReader (now file))
+        × ToPivot (now file) (now lists) T (leg .threshold) slots (now order) (span .len) span ⌝ }
     ensures { λ r.
-        let T = terms (bar .similarity .scoring) (before caches) (before floats) in
-        let old = held (before places) (before docs) (before freqs) in
-        let new = held (after places) (after docs) (after freqs) in
-        ⌜ Turned (before file) (before lists) T (bar .threshold) Looking old (before order) n new (after order) (after floats) r ⌝ }
+        let T = terms (leg .similarity .scoring) (before norms) (before floats) in
+        let old = held (before places) (before blocks) in
+        let new = held (after places) (after blocks) in
+        ⌜ Turned (before file) (before lists) T (leg .threshold) Looking old (before order) (span .len) new (after order) (after floats) r ⌝ }
 {
     let upper_bound = seek_blocks(
         file,
-        bar.similarity,
+        leg.similarity,
         lists,
-        caches,
+        norms,
         span.pivot_len,
         span.pivot_doc,
         order,
         places,
-        docs,
-        freqs,
+        blocks,
         floats,
     );
-    if upper_bound > bar.threshold {
-        return on_pivot(
-            file,
-            bar,
-            n,
-            span,
-            lists,
-            caches,
-            order,
-            places,
-            docs,
-            freqs,
-            floats,
-        );
+    if upper_bound > leg.threshold {
+        return on_pivot(file, leg, span, lists, norms, order, places, blocks, floats);
     }
-    block_max_was_too_low_advance_one_scorer(
-        file,
-        lists,
-        n,
-        span.pivot_len,
-        tops,
-        order,
-        places,
-        docs,
-        freqs,
-    );
+    let n = span.len;
+    block_max_was_too_low_advance_one_scorer(file, lists, n, span.pivot_len, order, places, blocks);
     quiet(n, Stage::Looking)
 }
 
 // A pivot, if there is one, and a step to it.
 fn look(
     file: &[u8],
-    bar: Bar,
+    leg: Leg,
     n: usize,
     lists: &[[usize; 8]; 16],
-    caches: &[[f32; 256]; 16],
-    tops: &[f32; 16],
+    norms: &[[f32; 256]; 16],
     order: &mut [usize; 16],
     places: &mut Places,
-    docs: &mut [[u32; 128]; 16],
-    freqs: &mut [[u32; 128]; 16],
+    blocks: &mut Blocks,
     floats: &mut Floats,
 ) -> Step
-    requires { let scoring = bar .similarity .scoring in
-        let slots = held (now places) (now docs) (now freqs) in
+    requires { let scoring = leg .similarity .scoring in
+        let slots = held (now places) (now blocks) in
         let u = quietStep n Looking .union in
-        ⌜ (bar .similarity .norms ≡ normReader (now file)) × Sixteen (now tops)
-        × All (TopIs (now file) (now lists) scoring (now tops)) (take n (now order))
-        × Stands (now file) (now lists) (terms scoring (now caches) (now floats)) u (now order) slots ⌝ }
+        ⌜ (leg .similarity .norms ≡ normReader (now file))
+        × Stands (now file) (now lists) (terms scoring (now norms) (now floats)) u (now order) slots ⌝ }
     ensures { λ r.
-        let T = terms (bar .similarity .scoring) (before caches) (before floats) in
-        let old = held (before places) (before docs) (before freqs) in
-        let new = held (after places) (after docs) (after freqs) in
-        ⌜ Turned (before file) (before lists) T (bar .threshold) Looking old (before order) n new (after order) (after floats) r ⌝ }
+        let T = terms (leg .similarity .scoring) (before norms) (before floats) in
+        let old = held (before places) (before blocks) in
+        let new = held (after places) (after blocks) in
+        ⌜ Turned (before file) (before lists) T (leg .threshold) Looking old (before order) n new (after order) (after floats) r ⌝ }
 {
-    let pivot = find_pivot_doc(order, n, tops, bar.threshold, places, docs);
+    let pivot = find_pivot_doc(order, n, lists, leg.threshold, places, blocks);
     match pivot {
         Pivot::Nowhere => quiet(n, Stage::Over),
         Pivot::At {
@@ -265,24 +199,12 @@ fn look(
             pivot_doc,
         } => {
             let span = Span {
+                len: n,
                 before_pivot_len,
                 pivot_len,
                 pivot_doc,
             };
-            to_pivot(
-                file,
-                bar,
-                n,
-                span,
-                lists,
-                caches,
-                tops,
-                order,
-                places,
-                docs,
-                freqs,
-                floats,
-            )
+            to_pivot(file, leg, span, lists, norms, order, places, blocks, floats)
         }
     }
 }
@@ -290,57 +212,34 @@ fn look(
 // Behind a report the scorers on its document go on; over, nothing does.
 pub fn turn(
     file: &[u8],
-    bar: Bar,
+    leg: Leg,
     union: Union,
     lists: &[[usize; 8]; 16],
-    caches: &[[f32; 256]; 16],
-    tops: &[f32; 16],
+    norms: &[[f32; 256]; 16],
     order: &mut [usize; 16],
     places: &mut Places,
-    docs: &mut [[u32; 128]; 16],
-    freqs: &mut [[u32; 128]; 16],
+    blocks: &mut Blocks,
     floats: &mut Floats,
 ) -> Step
-    requires { let scoring = bar .similarity .scoring in
-        let slots = held (now places) (now docs) (now freqs) in
-        ⌜ (bar .similarity .norms ≡ normReader (now file)) × Sixteen (now tops)
-        × All (TopIs (now file) (now lists) scoring (now tops)) (take (union .len) (now order))
-        × Stands (now file) (now lists) (terms scoring (now caches) (now floats)) union (now order) slots ⌝ }
+    requires { let scoring = leg .similarity .scoring in
+        let slots = held (now places) (now blocks) in
+        ⌜ (leg .similarity .norms ≡ normReader (now file))
+        × Stands (now file) (now lists) (terms scoring (now norms) (now floats)) union (now order) slots ⌝ }
     ensures { λ r.
-        let T = terms (bar .similarity .scoring) (before caches) (before floats) in
-        let old = held (before places) (before docs) (before freqs) in
-        let new = held (after places) (after docs) (after freqs) in
-        ⌜ Turned (before file) (before lists) T (bar .threshold) (union .stage) old (before order) (union .len) new
+        let T = terms (leg .similarity .scoring) (before norms) (before floats) in
+        let old = held (before places) (before blocks) in
+        let new = held (after places) (after blocks) in
+        ⌜ Turned (before file) (before lists) T (leg .threshold) (union .stage) old (before order) (union .len) new
         (after order) (after floats) r ⌝ }
 {
+    let n = union.len;
     let stage = union.stage;
     match stage {
-        Stage::Looking => look(
-            file,
-            bar,
-            union.len,
-            lists,
-            caches,
-            tops,
-            order,
-            places,
-            docs,
-            freqs,
-            floats,
-        ),
+        Stage::Looking => look(file, leg, n, lists, norms, order, places, blocks, floats),
         Stage::Called(k) => {
-            let len = advance_all_scorers_on_pivot(
-                file,
-                lists,
-                union.len,
-                k,
-                order,
-                places,
-                docs,
-                freqs,
-            );
+            let len = advance_all_scorers_on_pivot(file, lists, n, k, order, places, blocks);
             quiet(len, Stage::Looking)
         }
-        Stage::Over => quiet(union.len, Stage::Over),
+        Stage::Over => quiet(n, Stage::Over),
     }
 }

@@ -11,7 +11,7 @@ ghost use mathlib.Core.Bool.{true};
 ghost use Prim.Native.Nat.{_≤_};
 ghost use Rattle.arrays.specs.Lent.{before};
 ghost use Rattle.bm25.specs.Inner.Bound.{allCovered};
-ghost use Rattle.bm25_block.specs.Inner.Block.{allExact, blockCovered, postingScore, weighedAt};
+ghost use Rattle.bm25_block.specs.Inner.Block.{ExactWhere, allExact, blockCovered, postingScore, weighedAt};
 ghost use Rattle.bm25_block.specs.Inner.Codes.{Below};
 
 // Whether the bound lies below none of the first n scores, where f32 holds each frequency.
@@ -55,11 +55,18 @@ fn rounded_covered(
 }
 
 // Whether the bound lies below none of the first n scores. Nearly every block has no frequency above 2^24.
-fn norms_covered(weight: f32, norms: &[f32; 128], freqs: &[u32; 128], n: usize, bound: f32) -> bool
-    requires { ⌜ n ≤ 128 ⌝ }
+fn norms_covered(
+    weight: f32,
+    norms: &[f32; 128],
+    small: bool,
+    freqs: &[u32; 128],
+    n: usize,
+    bound: f32,
+) -> bool
+    requires { ⌜ (n ≤ 128) × ExactWhere small (now freqs) ⌝ }
     ensures { λ r. ⌜ r ≡ allCovered bound n (weighedAt weight (before freqs) (before norms)) ⌝ }
 {
-    if all_exact(freqs) {
+    if all_exact(small, freqs) {
         return exact_covered(weight, norms, freqs, n, bound);
     }
     rounded_covered(weight, norms, freqs, n, bound)
@@ -80,7 +87,7 @@ pub fn covered(
 {
     let mut norms = [0.0f32; 128];
     read_norms(file, reader, &w.cache, docs, &mut norms);
-    norms_covered(w.weight, &norms, freqs, n, bound)
+    norms_covered(w.weight, &norms, false, freqs, n, bound)
 }
 
 // Whether neither the list's bound nor the block's own, from its skip entry's pair of codes, lies below a score of a full block.
@@ -98,7 +105,7 @@ pub fn block_covered(
     freq_code: u8,
     max_score: f32,
 ) -> bool
-    requires { ⌜ Below limit (now docs) × (small ≡ true → allExact (now freqs) ≡ true) ⌝ }
+    requires { ⌜ Below limit (now docs) × ExactWhere small (now freqs) ⌝ }
     ensures { λ r. ⌜ r ≡ blockCovered reader (before file) w (before docs) (before freqs) «norm_code» «freq_code» «max_score» ⌝ }
 {
     let code = norm_code as usize;
@@ -106,8 +113,5 @@ pub fn block_covered(
     let low = if own < max_score { own } else { max_score };
     let mut norms = [0.0f32; 128];
     read_norms_below(file, reader, &w.cache, docs, limit, &mut norms);
-    if small {
-        return exact_covered(w.weight, &norms, freqs, 128, low);
-    }
-    norms_covered(w.weight, &norms, freqs, 128, low)
+    norms_covered(w.weight, &norms, small, freqs, 128, low)
 }

@@ -12,13 +12,18 @@ ghost use mathlib.Core.Bool.{true};
 ghost use Prim.Native.Nat.{_≤_};
 ghost use Rattle.arrays.specs.Lent.{before, after};
 ghost use Rattle.floats.specs.Whole.{wholeF32};
-ghost use Rattle.bm25_block.specs.Inner.Block.{Weighed, CutDown, Scored, allExact};
+ghost use Rattle.bm25.specs.declared.Scoring.the-variants.{Unstepped, Stepped};
+ghost use Rattle.bm25_block.specs.Inner.Block.{Weighed, CutDown, ScoredBy, Scored, ExactWhere, allExact};
 ghost use Rattle.bm25_block.specs.Inner.Codes.{Below};
 
-// Whether every frequency is a whole number that f32 holds.
-fn all_exact(term_freqs: &[u32; 128]) -> bool
+// Whether every frequency is a whole number that f32 holds. Where `small` says so, they are not looked at.
+fn all_exact(small: bool, term_freqs: &[u32; 128]) -> bool
+    requires { ⌜ ExactWhere small (now «term_freqs») ⌝ }
     ensures { λ r. ⌜ r ≡ allExact (before «term_freqs») ⌝ }
 {
+    if small {
+        return true;
+    }
     all_at_most(term_freqs, 16777216)
 }
 
@@ -57,11 +62,12 @@ fn weigh_rounded(weight: f32, term_freqs: &[u32; 128], scores: &mut [f32; 128])
     }
 }
 
-// Scores in place of norms: nearly every block has no frequency above 2^24, and then the loop has no branch.
-fn weigh(weight: f32, term_freqs: &[u32; 128], scores: &mut [f32; 128])
+// Scores in place of norms. Nearly every block has no frequency above 2^24, and then the loop has no branch.
+fn weigh(weight: f32, small: bool, term_freqs: &[u32; 128], scores: &mut [f32; 128])
+    requires { ⌜ ExactWhere small (now «term_freqs») ⌝ }
     ensures { λ _. ⌜ Weighed weight (before «term_freqs») (before scores) (after scores) ⌝ }
 {
-    if all_exact(term_freqs) {
+    if all_exact(small, term_freqs) {
         weigh_exact(weight, term_freqs, scores);
     } else {
         weigh_rounded(weight, term_freqs, scores);
@@ -80,23 +86,94 @@ fn step_all(scores: &mut [f32; 128])
     }
 }
 
-// The scores of 128 postings, by their documents, each one of the first `limit`, and frequencies.
+// The unstepped scores of 128 postings, by lent norms and a weight.
+fn score_unstepped(
+    file: &[u8],
+    reader: FieldNormReader,
+    cache: &[f32; 256],
+    weight: f32,
+    limit: u32,
+    small: bool,
+    docs: &[u32; 128],
+    term_freqs: &[u32; 128],
+    scores: &mut [f32; 128],
+)
+    requires { ⌜ Below limit (now docs) × ExactWhere small (now «term_freqs») ⌝ }
+    ensures { λ _. ⌜ ScoredBy reader (before file) (before cache) weight Unstepped (before docs) (before «term_freqs») (after scores) ⌝ }
+{
+    read_norms_below(file, reader, cache, docs, limit, scores);
+    weigh(weight, small, term_freqs, scores);
+}
+
+// The stepped scores of 128 postings, by lent norms and a weight.
+fn score_stepped(
+    file: &[u8],
+    reader: FieldNormReader,
+    cache: &[f32; 256],
+    weight: f32,
+    limit: u32,
+    small: bool,
+    docs: &[u32; 128],
+    term_freqs: &[u32; 128],
+    scores: &mut [f32; 128],
+)
+    requires { ⌜ Below limit (now docs) × ExactWhere small (now «term_freqs») ⌝ }
+    ensures { λ _. ⌜ ScoredBy reader (before file) (before cache) weight Stepped (before docs) (before «term_freqs») (after scores) ⌝ }
+{
+    score_unstepped(
+        file,
+        reader,
+        cache,
+        weight,
+        limit,
+        small,
+        docs,
+        term_freqs,
+        scores,
+    );
+    step_all(scores);
+}
+
+// The scores of 128 postings, by their documents, each one of the first `limit`, and frequencies; `small` says that f32 holds each.
+// `score_unstepped` is called from two places, so the compiler keeps it a function of its own and sets this one into its caller:
+// the struct is not copied again.
 pub fn score_block(
     file: &[u8],
     reader: FieldNormReader,
     w: Bm25Weight,
     scoring: Scoring,
     limit: u32,
+    small: bool,
     docs: &[u32; 128],
     term_freqs: &[u32; 128],
     scores: &mut [f32; 128],
 )
-    requires { ⌜ Below limit (now docs) ⌝ }
+    requires { ⌜ Below limit (now docs) × ExactWhere small (now «term_freqs») ⌝ }
     ensures { λ _. ⌜ Scored reader (before file) w scoring (before docs) (before «term_freqs») (after scores) ⌝ }
 {
-    read_norms_below(file, reader, &w.cache, docs, limit, scores);
-    weigh(w.weight, term_freqs, scores);
-    if let Scoring::Stepped = scoring {
-        step_all(scores);
+    let weight = w.weight;
+    match scoring {
+        Scoring::Unstepped => score_unstepped(
+            file,
+            reader,
+            &w.cache,
+            weight,
+            limit,
+            small,
+            docs,
+            term_freqs,
+            scores,
+        ),
+        Scoring::Stepped => score_stepped(
+            file,
+            reader,
+            &w.cache,
+            weight,
+            limit,
+            small,
+            docs,
+            term_freqs,
+            scores,
+        ),
     }
 }

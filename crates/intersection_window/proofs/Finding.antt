@@ -21,6 +21,7 @@ use Rattle.route.specs.Intersection.{candidatesFrom, candidatesIn}
 use Rattle.route.proofs.Places.{docAt-in, docAt-out}
 use Rattle.bm25.specs.declared.Scoring.{Scoring}
 use Rattle.notefile.specs.Header.{documents}
+use Rattle.notefile.specs.Inner.Reads.{docsOf}
 use Rattle.notefile.specs.declared.part.Part.{Part}
 use Rattle.decoded.proofs.AcceptedLists.{list-ok}
 use Rattle.skip_reader.specs.Inner.Decoded.{Decoded, doc-is}
@@ -45,9 +46,9 @@ module _ (scoring : Scoring) {file : List ℕ} {lists : List (List ℕ)} {h : He
   b = cursorAt (h .places) q .dec
 
   abbrev docs : List ℕ
-  docs = getD (h .docs) q []
+  docs = docsOf (getD (h .blocks) q [])
 
-  decoded : Decoded file part b docs (getD (h .freqs) q [])
+  decoded : Decoded file part b (getD (h .blocks) q [])
   unfolding postingsIn cursorIn
   decoded = S .place .placed .holds
 

@@ -72,7 +72,7 @@ module _ (x : Query) (d leaderEnd : ℕ) (h₀ : Held) where
   slots i = drop i (take (x .len) (x .order))
 
   pub record Gathering (i end : ℕ) (total : Float) (places : List (List ℕ)) (bounds : List Float) : Type 0 where
-    pub ready : Ready x (held places (h₀ .docs) (h₀ .freqs)) bounds
+    pub ready : Ready x (held places (h₀ .blocks)) bounds
     pub low : 1 ≤ i
     pub high : i ≤ x .len
     pub leader : getD places (slotAt x 0) [] ≡ getD (h₀ .places) (slotAt x 0) []
@@ -141,7 +141,7 @@ module _ (x : Query) (d leaderEnd : ℕ) (h₀ : Held) where
         q = slotAt x i
 
         abbrev h : Held
-        h = held places (h₀ .docs) (h₀ .freqs)
+        h = held places (h₀ .blocks)
 
         hq : q < x .len
         hq = O .below i hi
@@ -153,10 +153,10 @@ module _ (x : Query) (d leaderEnd : ℕ) (h₀ : Held) where
         to k = seekBlockIn (listAt k (x .file) (x .lists) q) 128 d (cursorAt places q)
 
         module _ {places₁ : List (List ℕ)} (W : Shallowed (x .file) (x .lists) q to places places₁) where
-          M : MovedSlot (x .file) (x .lists) q to h (held places₁ (h₀ .docs) (h₀ .freqs)) (docIn (x .file) (partAt (x .lists) q) (cursorAt places q .at))
+          M : MovedSlot (x .file) (x .lists) q to h (held places₁ (h₀ .blocks)) (docIn (x .file) (partAt (x .lists) q) (cursorAt places q .at))
           M = shallow-moves (G .ready .seated .slot q hq) W
 
-          pub seated-there : SlotsIn x (held places₁ (h₀ .docs) (h₀ .freqs))
+          pub seated-there : SlotsIn x (held places₁ (h₀ .blocks))
           seated-there = still-seated x (G .ready .seated) hq M
 
           pub kept-there : BoundsKept x places₁ bounds

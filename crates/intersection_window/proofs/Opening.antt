@@ -20,11 +20,11 @@ use Rattle.skip_reader.specs.Inner.Decoded.{docIn}
 use Rattle.slot_rows.specs.Inner.Rows.{cursorIn, firstOf}
 use Rattle.term_scorer.specs.Inner.Slots.{Held, MovedSlot, Shallowed, cursorAt, held, lastAt, listAt, partAt}
 use Rattle.term_scorer.specs.Inner.Weights.{Bounded}
-use Rattle.intersection_window.specs.Inner.Scorers.{BoundsKept, InOrder, Query, Ready, SlotsIn, leaderIn, listIn, scorerAt, secondariesIn, slotAt}
+use Rattle.intersection_window.specs.Inner.Scorers.{BoundsKept, InOrder, Query, Ready, SlotsIn, StillScored, leaderIn, listIn, scorerAt, secondariesIn, slotAt}
 use Rattle.intersection_window.specs.Inner.Windows.{Gathered, Gathers, Turns, boundsOf}
 use Rattle.intersection_window.specs.declared.window.Secondaries.{Secondaries}
 use Rattle.intersection_window.specs.declared.window.Window.the-variants.{Low, Open, Over}
-use Rattle.intersection_window.proofs.Seats.{known-cursor, known-only, known-ready, last-here, last-low, moved-only, others-stay, scorer-is, shallow-moves, still-kept, still-seated}
+use Rattle.intersection_window.proofs.Seats.{known-cursor, known-only, known-ready, known-scored, last-here, last-low, moved-only, moved-scored, others-stay, row-scored, scorer-is, shallow-moves, still-kept, still-seated}
 use Rattle.intersection_window.proofs.Gathering.{not-back}
 
 all-sought : (d : ℕ) (ss : List (Scorer Float)) → allRemain 128 d ss ≡ true → seekBlockAll 128 d ss ≡ map (seekBlock 128 d) ss
@@ -72,10 +72,10 @@ module _ (x : Query) (O : InOrder x) (t : Float) (d : ℕ) (live : d < 214748364
   to k = seekBlockIn (listAt k (x .file) (x .lists) q) 128 d (cursorAt (h .places) q)
 
   module _ {places₁ : List (List ℕ)} (W : Shallowed (x .file) (x .lists) q to (h .places) places₁) where
-    M : MovedSlot (x .file) (x .lists) q to h (held places₁ (h .docs) (h .freqs)) (docIn (x .file) (partAt (x .lists) q) (cursorAt (h .places) q .at))
+    M : MovedSlot (x .file) (x .lists) q to h (held places₁ (h .blocks)) (docIn (x .file) (partAt (x .lists) q) (cursorAt (h .places) q .at))
     M = shallow-moves (R .seated .slot q hq) W
 
-    pub leader-seated : SlotsIn x (held places₁ (h .docs) (h .freqs))
+    pub leader-seated : SlotsIn x (held places₁ (h .blocks))
     leader-seated = still-seated x (R .seated) hq M
 
     pub leader-kept : BoundsKept x places₁ bounds
@@ -85,7 +85,7 @@ module _ (x : Query) (O : InOrder x) (t : Float) (d : ℕ) (live : d < 214748364
     leader-is = scorer-is x (R .seated) hq M
 
     module _ {places₂ : List (List ℕ)} {bounds₂ : List Float} {b : Float} (B : Bounded (x .scoring) (x .file) (x .lists) q places₁ bounds places₂ bounds₂ b) where
-      pub ready-there : Ready x (held places₂ (h .docs) (h .freqs)) bounds₂
+      pub ready-there : Ready x (held places₂ (h .blocks)) bounds₂
       ready-there = known-ready x (O .few) leader-seated hq B (R .long) leader-kept
 
       leader-there : leaderIn x places₂ ≡ seekBlock 128 d ld
@@ -101,19 +101,24 @@ module _ (x : Query) (O : InOrder x) (t : Float) (d : ℕ) (live : d < 214748364
           ∙ others-stay x O (O .leader) (moved-only x (R .seated) hq M) 1 (x .len) (omega arith) (λ k u v e. omega arith)
 
       module _ {last : ℕ} (el : last ≡ lastAt places₂ q) {places₃ : List (List ℕ)} {bounds₃ : List Float} {r : Secondaries}
-          (G : Gathers x d last (held places₂ (h .docs) (h .freqs)) places₃ bounds₃ r) where
+          (G : Gathers x d last (held places₂ (h .blocks)) places₃ bounds₃ r) where
         leader-still : getD places₃ q [] ≡ getD places₂ q [] → leaderIn x places₃ ≡ seekBlock 128 d ld
         leader-still e = ap (λ (row : List ℕ). record { ord = q; list = listIn x q; cur = cursorIn row }) e ∙ leader-there
+
+        scores-still : getD places₃ q [] ≡ getD places₂ q [] → StillScored x q (h .places) places₃
+        scores-still e floats K =
+            row-scored x places₂ places₃ q e floats (known-scored x (O .few) leader-seated hq B floats (moved-scored x (R .seated) hq M floats K))
 
         remain-is : allRemain 128 d ss ≡ r .remain
         remain-is = sym (G .remain-is ∙ ap (allRemain 128 d) secs-stay)
 
-        pub window-over : not (r .remain) ≡ true → Turns x t d h Over (held places₃ (h .docs) (h .freqs)) bounds₃
+        pub window-over : not (r .remain) ≡ true → Turns x t d h Over (held places₃ (h .blocks)) bounds₃
         window-over e =
             let none = not-back (r .remain) true e in
             let U = G .run-out none in
             record {
               ready = U .ready;
+              scores = scores-still (U .leader);
               turned =
                   turn-over t d ld ss live (remain-is ∙ none)
                   ∙ ap (λ (z : Scorer Float). record { stage = over; doc = d; leader = z; secs = seekBlockAll 128 d ss }) (sym (leader-still (U .leader)))
@@ -121,7 +126,7 @@ module _ (x : Query) (O : InOrder x) (t : Float) (d : ℕ) (live : d < 214748364
             }
 
         module _ (e : not (r .remain) ≡ false) where
-          pub gathered : Gathered x d last (held places₂ (h .docs) (h .freqs)) places₃ bounds₃ r
+          pub gathered : Gathered x d last (held places₂ (h .blocks)) places₃ bounds₃ r
           gathered = G .gathered (not-back (r .remain) false e)
 
           abbrev end : ℕ
@@ -154,9 +159,10 @@ module _ (x : Query) (O : InOrder x) (t : Float) (d : ℕ) (live : d < 214748364
           small : end ≤ 2147483647
           small = omega (arith, gathered .small, el, last-low (ready-there .seated) hq)
 
-          pub window-low : f32 .above (f32 .add b total) t ≡ false → Turns x t d h (Low end) (held places₃ (h .docs) (h .freqs)) bounds₃
+          pub window-low : f32 .above (f32 .add b total) t ≡ false → Turns x t d h (Low end) (held places₃ (h .blocks)) bounds₃
           window-low a = record {
             ready = gathered .ready;
+            scores = scores-still (gathered .leader);
             turned = (
               turn-low t d ld ss live all secs-are ends sums (test-is ∙ a)
                   ∙ ap (λ (z : Scorer Float). record { stage = window; doc = suc end; leader = z; secs = secondariesIn x places₃ }) (sym leader-then),
@@ -165,8 +171,8 @@ module _ (x : Query) (O : InOrder x) (t : Float) (d : ℕ) (live : d < 214748364
           }
 
           module _ (a : f32 .above (f32 .add b total) t ≡ true) {h′ : Held} {first : ℕ}
-              (L : MovedSlot (x .file) (x .lists) q (λ _. firstOf (cursorAt places₃ q)) (held places₃ (h .docs) (h .freqs)) h′ first) where
-            abbrev S : SlotsIn x (held places₃ (h .docs) (h .freqs))
+              (L : MovedSlot (x .file) (x .lists) q (λ _. firstOf (cursorAt places₃ q)) (held places₃ (h .blocks)) h′ first) where
+            abbrev S : SlotsIn x (held places₃ (h .blocks))
             S = gathered .ready .seated
 
             cursor-is : cursorAt (h′ .places) q ≡ firstOf (cursorAt places₃ q)
@@ -190,6 +196,7 @@ module _ (x : Query) (O : InOrder x) (t : Float) (d : ℕ) (live : d < 214748364
             pub window-open : Turns x t d h (Open end total) h′ bounds₃
             window-open = record {
               ready = record { seated = still-seated x S hq L; kept = still-kept x S hq L bounds₃ (gathered .ready .kept); long = gathered .ready .long };
+              scores = λ floats K. moved-scored x S hq L floats (scores-still (gathered .leader) floats K);
               turned = (
                 turn-open t d ld ss live all secs-are ends sums (test-is ∙ a)
                     ∙ ap (λ (z : ℕ). placeOf (stageOf z (map (blockMaxScore 128 f32) (secondariesIn x places₃))) (loadLeader 128 (seekBlock 128 d ld)) (secondariesIn x places₃)) block-is

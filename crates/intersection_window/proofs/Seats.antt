@@ -1,7 +1,7 @@
 -- One scorer moves in its slot: the others stay, and all are seated as before.
 use mathlib.Core.List.{List, []}
 use mathlib.Core.Path.{ap, refl, subst, sym, _∙_, _≡_}
-use Prim.Native.Nat.{ℕ, _<_, _≤_}
+use Prim.Native.Nat.{ℕ, _+_, _<_, _≤_}
 use native.Mathlib.Omega.{arith}
 use lib.Dec.{eqb}
 use lib.ListN.{getD, length, length-set, set}
@@ -16,15 +16,16 @@ use Rattle.route.proofs.Cases.{on-test}
 use Rattle.route.proofs.Places.{last-cap}
 use Rattle.bm25.specs.declared.Scoring.{Scoring}
 use Rattle.notefile.specs.Header.{documents}
+use Rattle.notefile.specs.Inner.Reads.{docsOf}
 use Rattle.decoded.proofs.AcceptedLists.{list-ok}
 use Rattle.skip_reader.specs.Inner.Decoded.{docIn}
 use Rattle.skip_reader.proofs.Readers.{end-is}
 use Rattle.slot_rows.specs.Inner.Rows.{PlaceIn, cursorIn}
 use Rattle.slot_rows.proofs.Rows.{cur-inside, doc-in-array, last-is, last-small}
 use Rattle.term_scorer.specs.Inner.Slots.{Held, MovedSlot, Shallowed, Sixteen, SlotIn, cursorAt, held, lastAt, partAt}
-use Rattle.term_scorer.specs.Inner.Weights.{Bounded, BoundKept, FloatRow}
-use Rattle.term_scorer.proofs.Bounds.{bounded-kept, bounded-off, bounded-place, bounded-sixteen, kept-moved, others-kept}
-use Rattle.intersection_window.specs.Inner.Scorers.{InOrder, Query, Ready, SlotsIn, StillKept, BoundsKept, Unmoved, listIn, scorerAt, scorersBetween, slotAt}
+use Rattle.term_scorer.specs.Inner.Weights.{BlockScores, Bounded, BoundKept, FloatRow}
+use Rattle.term_scorer.proofs.Bounds.{bounded-kept, bounded-off, bounded-place, bounded-scores, bounded-sixteen, kept-moved, others-kept}
+use Rattle.intersection_window.specs.Inner.Scorers.{InOrder, Query, Ready, SlotsIn, StillKept, StillScored, BoundsKept, Unmoved, listIn, scorerAt, scorersBetween, slotAt}
 use Rattle.intersection_window.proofs.Parts.{part-same}
 
 -- what holds of slot q, and of every other
@@ -36,27 +37,36 @@ abbrev pub Only : ℕ → Held → Held → Type 0
 Only q h h′ = (r : ℕ) → (r ≡ q → ⊥) → Unmoved r h h′
 
 pub unmoved : (q : ℕ) (h : Held) → Unmoved q h h
-unmoved q h = record { place = refl; docs = refl; freqs = refl }
+unmoved q h = record { place = refl; block = refl }
 
 pub unmoved-trans : {q : ℕ} {h h′ h″ : Held} → Unmoved q h h′ → Unmoved q h′ h″ → Unmoved q h h″
-unmoved-trans u v = record { place = v .place ∙ u .place; docs = v .docs ∙ u .docs; freqs = v .freqs ∙ u .freqs }
+unmoved-trans u v = record { place = v .place ∙ u .place; block = v .block ∙ u .block }
 
 other : {A : Type 0} (xss yss : List (List A)) (q r : ℕ) (row : List A) → yss ≡ set xss q row → (r ≡ q → ⊥) → getD yss r [] ≡ getD xss r []
 other xss yss q r row e n = ap (λ (z : List (List _)). getD z r []) e ∙ getD-set-other xss q r row [] n
 
 -- a skip reader that moves alone moves its scorer
 pub shallow-moves : {file : List ℕ} {lists : List (List ℕ)} {q : ℕ} {to : Scoring → Cursor} {h : Held} {places′ : List (List ℕ)} → SlotIn file lists h q
-    → Shallowed file lists q to (h .places) places′ → MovedSlot file lists q to h (held places′ (h .docs) (h .freqs)) (docIn file (partAt lists q) (cursorAt (h .places) q .at))
+    → Shallowed file lists q to (h .places) places′ → MovedSlot file lists q to h (held places′ (h .blocks)) (docIn file (partAt lists q) (cursorAt (h .places) q .at))
 shallow-moves {q = q} {h = h} S M = record {
   places-only = M .only;
-  docs-only = sym (set-getD (h .docs) q []);
-  freqs-only = sym (set-getD (h .freqs) q []);
-  moved = M .moved (getD (h .docs) q []) (getD (h .freqs) q []) (S .place);
+  blocks-only = sym (set-getD (h .blocks) q []);
+  moved = M .moved (getD (h .blocks) q []) (S .place);
 }
 
+-- scores that are made afterwards were made before, of the same decoded block
+still-scored : (x : Query) (places places′ : List (List ℕ)) (q : ℕ)
+    → (getD (getD places′ q []) 8 0 ≡ 1 → (getD (getD places q []) 8 0 ≡ 1) × (cursorAt places′ q .dec ≡ cursorAt places q .dec)) → StillScored x q places places′
+still-scored x places places′ q e floats K k =
+    let (made, same) = e k in
+    subst (λ (b : ℕ). BlockScores (listIn x q) b (getD floats (2 + q) [])) (sym same) (K made)
+
+pub row-scored : (x : Query) (places places′ : List (List ℕ)) (q : ℕ) → getD places′ q [] ≡ getD places q [] → StillScored x q places places′
+row-scored x places places′ q e floats K = rw e K
+
 module _ (x : Query) {h h′ : Held} (S : SlotsIn x h) {q : ℕ} (hq : q < x .len) where
-  seated-by : Sixteen (h′ .places) × Sixteen (h′ .docs) × Sixteen (h′ .freqs) → Only q h h′
-      → PlaceIn (x .file) (partAt (x .lists) q) (getD (h′ .places) q []) (getD (h′ .docs) q []) (getD (h′ .freqs) q []) → SlotsIn x h′
+  seated-by : Sixteen (h′ .places) × Sixteen (h′ .blocks) → Only q h h′
+      → PlaceIn (x .file) (partAt (x .lists) q) (getD (h′ .places) q []) (getD (h′ .blocks) q []) → SlotsIn x h′
   seated-by s o p = record {
     sixteen = s;
     slot =
@@ -66,24 +76,22 @@ module _ (x : Query) {h h′ : Held} (S : SlotsIn x h) {q : ℕ} (hq : q < x .le
         let u = o r n in
         let k = S .slot r hr in
         let up = u .place in
-        let ud = u .docs in
-        let uf = u .freqs in
-        record { sixteen = s; part-row = k .part-row; list = k .list; place = rw (up, ud, uf) (k .place) });
+        let ub = u .block in
+        record { sixteen = s; part-row = k .part-row; list = k .list; place = rw (up, ub) (k .place) });
   }
 
   module _ {to : Scoring → Cursor} {doc : ℕ} (M : MovedSlot (x .file) (x .lists) q to h h′ doc) where
     pub moved-only : Only q h h′
     moved-only r n = record {
       place = other (h .places) (h′ .places) q r _ (M .places-only) n;
-      docs = other (h .docs) (h′ .docs) q r _ (M .docs-only) n;
-      freqs = other (h .freqs) (h′ .freqs) q r _ (M .freqs-only) n;
+      block = other (h .blocks) (h′ .blocks) q r _ (M .blocks-only) n;
     }
 
     pub still-seated : SlotsIn x h′
     still-seated =
-        let (p, d, f) = S .sixteen in
+        let (p, b) = S .sixteen in
         seated-by
-        (ap length (M .places-only) ∙ length-set (h .places) q _ ∙ p, ap length (M .docs-only) ∙ length-set (h .docs) q _ ∙ d, ap length (M .freqs-only) ∙ length-set (h .freqs) q _ ∙ f)
+        (ap length (M .places-only) ∙ length-set (h .places) q _ ∙ p, ap length (M .blocks-only) ∙ length-set (h .blocks) q _ ∙ b)
         moved-only (M .moved .place)
 
     pub still-kept : StillKept x (h .places) (h′ .places)
@@ -91,6 +99,9 @@ module _ (x : Query) {h h′ : Held} (S : SlotsIn x h) {q : ℕ} (hq : q < x .le
         at-slot (λ r. r < x .len → BoundKept (x .scoring) (x .file) (x .lists) (h′ .places) bounds r) q
         (λ _. kept-moved (listIn x q) q (M .moved .bound-is) (M .moved .ahead-is) (B q hq))
         (λ r n hr. let u = moved-only r n .place in rw u (B r hr))
+
+    pub moved-scored : StillScored x q (h .places) (h′ .places)
+    moved-scored = still-scored x (h .places) (h′ .places) q (M .moved .scores-is)
 
     -- the moved scorer is the route's
     pub scorer-is : scorerAt x (h′ .places) q ≡ record { ord = q; list = listIn x q; cur = to (x .scoring) }
@@ -114,7 +125,7 @@ module _ {x : Query} {h : Held} (S : SlotsIn x h) {q : ℕ} (hq : q < x .len) wh
   pub cur-small : getD (getD (h .places) q []) 6 0 < 128
   cur-small = cur-inside (x .file) (getD (x .lists) q []) (getD (h .places) q []) (S .slot q hq .list) (S .slot q hq .place)
 
-  pub doc-here : {doc : ℕ} → doc ≡ getD (getD (h .docs) q []) (getD (getD (h .places) q []) 6 0) 0 → doc ≡ docIn (x .file) (partAt (x .lists) q) (cursorAt (h .places) q .at)
+  pub doc-here : {doc : ℕ} → doc ≡ getD (docsOf (getD (h .blocks) q [])) (getD (getD (h .places) q []) 6 0) 0 → doc ≡ docIn (x .file) (partAt (x .lists) q) (cursorAt (h .places) q .at)
   doc-here e = e ∙ sym (doc-in-array (x .file) (getD (x .lists) q []) (getD (h .places) q []) (S .slot q hq .list) (S .slot q hq .place))
 
   pub list-right : ListOk 128 (documents (x .file)) (listIn x q)
@@ -137,19 +148,22 @@ module _ {x : Query} {h : Held} (S : SlotsIn x h) {q : ℕ} (hq : q < x .len) wh
 module _ (x : Query) (few : x .len ≤ 16) {h : Held} (S : SlotsIn x h) {q : ℕ} (hq : q < x .len) {bounds : List Float} {places′ : List (List ℕ)} {bounds′ : List Float} {b : Float}
     (B : Bounded (x .scoring) (x .file) (x .lists) q (h .places) bounds places′ bounds′ b) where
   abbrev h′ : Held
-  h′ = held places′ (h .docs) (h .freqs)
+  h′ = held places′ (h .blocks)
 
   pub known-only : Only q h h′
-  known-only r n = record { place = bounded-off B r n; docs = refl; freqs = refl }
+  known-only r n = record { place = bounded-off B r n; block = refl }
 
-  there : PlaceIn (x .file) (partAt (x .lists) q) (getD places′ q []) (getD (h .docs) q []) (getD (h .freqs) q []) × (cursorAt places′ q ≡ cursorAt (h .places) q)
+  there : PlaceIn (x .file) (partAt (x .lists) q) (getD places′ q []) (getD (h .blocks) q []) × (cursorAt places′ q ≡ cursorAt (h .places) q)
   there = bounded-place B (omega arith) (S .sixteen .0) (S .slot q hq .place)
 
   pub known-cursor : cursorAt places′ q ≡ cursorAt (h .places) q
   known-cursor = there .1
 
   known-seated : SlotsIn x h′
-  known-seated = seated-by x S hq (bounded-sixteen B (S .sixteen .0), S .sixteen .1, S .sixteen .2) known-only (there .0)
+  known-seated = seated-by x S hq (bounded-sixteen B (S .sixteen .0), S .sixteen .1) known-only (there .0)
+
+  pub known-scored : StillScored x q (h .places) places′
+  known-scored = still-scored x (h .places) places′ q (λ k. (sym (bounded-scores B (omega arith) (S .sixteen .0)) ∙ k, ap (λ (c : Cursor). c .dec) known-cursor))
 
   pub known-bound : getD bounds′ q nan ≡ blockMax 128 f32 (listIn x q) (cursorAt (h .places) q)
   known-bound = B .bound-there ∙ B .bound-is

@@ -31,7 +31,7 @@ module _ (n : ℕ) (order : List ℕ) (floats₀ : List (List Float)) where
     pub running-is : running ≡ sumAt i
     pub written : (k : ℕ) → i ≤ k → k < n → getD (restsRow floats) k nan ≡ sumAt (suc k)
     pub same : boundsRow floats ≡ boundsRow floats₀
-    pub scores : scoresRow floats ≡ scoresRow floats₀
+    pub scores : (q : ℕ) → scoresRow floats q ≡ scoresRow floats₀ q
     pub rows : FloatRows floats
 
   pub begun : 0 < n → FloatRows floats₀ → Summing n (f32 .nil) floats₀
@@ -41,7 +41,7 @@ module _ (n : ℕ) (order : List ℕ) (floats₀ : List (List Float)) where
     running-is = sym (ap (sumBack f32) (part-none order boundAt n n (omega arith)));
     written = λ k u v. absurd (omega arith);
     same = refl;
-    scores = refl;
+    scores = λ q. refl;
     rows = r;
   }
 
@@ -78,7 +78,7 @@ module _ (n : ℕ) (order : List ℕ) (floats₀ : List (List Float)) where
                     rw z (getD-set-same (restsRow floats) j running nan (omega arith) ∙ at)
               ];
           same = b;
-          scores = getD-set-other floats 1 2 (set (restsRow floats) j running) [] (λ z. omega arith) ∙ S .scores;
+          scores = λ q. getD-set-other floats 1 (2 + q) (set (restsRow floats) j running) [] (λ z. omega (arith, z)) ∙ S .scores q;
           rows = rows-set 1 (set (restsRow floats) j running) (S .rows) (omega arith) (length-set (restsRow floats) j running ∙ l);
         }
 

@@ -1,10 +1,13 @@
 // A window: all skip readers on the blocks that may hold a document, and the bounds of these blocks against the threshold.
+use slot_rows::place::Blocks;
 use slot_rows::place::Places;
 use term_scorer::BOUNDS;
 use term_scorer::Floats;
 use term_scorer::RESTS;
 use term_scorer::score;
+use term_scorer::score::Leg;
 use term_scorer::score::Similarity;
+use term_scorer::score::new_block_max;
 use term_scorer::slot;
 ghost use mathlib.Core.Path.{_≡_};
 ghost use Prim.Native.Nat.{min, _≤_, _<_};
@@ -41,22 +44,21 @@ fn gather(
     file: &[u8],
     similarity: Similarity,
     lists: &[[usize; 8]; 16],
-    caches: &[[f32; 256]; 16],
+    norms: &[[f32; 256]; 16],
     n: usize,
     order: &[usize; 16],
     doc: u32,
     leader_end: u32,
     places: &mut Places,
-    docs: &[[u32; 128]; 16],
-    freqs: &[[u32; 128]; 16],
+    blocks: &Blocks,
     bounds: &mut [f32; 128],
 ) -> Secondaries
-    requires { let asked = query similarity (now file) (now lists) (now caches) n (now order) in
-        let slots = held (now places) (now docs) (now freqs) in
+    requires { let asked = query similarity (now file) (now lists) (now norms) n (now order) in
+        let slots = held (now places) (now blocks) in
         ⌜ InOrder asked × Ready asked slots (now bounds) × (doc ≤ 2147483647) ⌝ }
     ensures { λ r.
-        let asked = query similarity (before file) (before lists) (before caches) n (before order) in
-        let old = held (before places) (before docs) (before freqs) in
+        let asked = query similarity (before file) (before lists) (before norms) n (before order) in
+        let old = held (before places) (before blocks) in
         ⌜ Gathers asked doc «leader_end» old (after places) (after bounds) r ⌝ }
 {
     let mut window_end = leader_end;
@@ -73,17 +75,7 @@ fn gather(
             };
         }
         window_end = least(window_end, slot::last_doc_in_block(q, places));
-        let bound = score::block_max(
-            file,
-            similarity,
-            lists,
-            caches,
-            q,
-            places,
-            docs,
-            freqs,
-            bounds,
-        );
+        let bound = score::block_max(file, similarity, lists, norms, q, places, blocks, bounds);
         block_max_sum = block_max_sum + bound;
         i += 1;
     }
@@ -97,60 +89,45 @@ fn gather(
 // The window from doc on: over where a list has run out, else too low or open, the leader's block loaded.
 pub fn next_window(
     file: &[u8],
-    similarity: Similarity,
+    leg: Leg,
     lists: &[[usize; 8]; 16],
-    caches: &[[f32; 256]; 16],
+    norms: &[[f32; 256]; 16],
     n: usize,
     order: &[usize; 16],
     doc: u32,
-    threshold: f32,
     places: &mut Places,
-    docs: &mut [[u32; 128]; 16],
-    freqs: &mut [[u32; 128]; 16],
+    blocks: &mut Blocks,
     bounds: &mut [f32; 128],
 ) -> Window
-    requires { let asked = query similarity (now file) (now lists) (now caches) n (now order) in
-        let slots = held (now places) (now docs) (now freqs) in
-        ⌜ InOrder asked × Ready asked slots (now bounds) × (doc < 2147483647) ⌝ }
+    requires { let asked = query (leg .similarity) (now file) (now lists) (now norms) n (now order) in
+        ⌜ InOrder asked × Ready asked (held (now places) (now blocks)) (now bounds) × (doc < 2147483647) ⌝ }
     ensures { λ r.
-        let asked = query similarity (before file) (before lists) (before caches) n (before order) in
-        let old = held (before places) (before docs) (before freqs) in
-        let new = held (after places) (after docs) (after freqs) in
-        ⌜ Turns asked threshold doc old r new (after bounds) ⌝ }
+        let asked = query (leg .similarity) (before file) (before lists) (before norms) n (before order) in
+        ⌜ Turns asked (leg .threshold) doc (held (before places) (before blocks)) r (held (after places) (after blocks)) (after bounds) ⌝ }
 {
-    let leader = order[0];
-    slot::seek_block(file, lists, leader, doc, places);
-    let leader_block_max = score::new_block_max(
-        file,
-        similarity,
-        lists,
-        caches,
-        leader,
-        places,
-        docs,
-        freqs,
-        bounds,
-    );
-    let leader_end = slot::last_doc_in_block(leader, places);
+    let similarity = leg.similarity;
+    let q = order[0];
+    slot::seek_block(file, lists, q, doc, places);
+    let leader_block_max = new_block_max(file, similarity, lists, norms, q, places, blocks, bounds);
+    let leader_end = slot::last_doc_in_block(q, places);
     let found = gather(
         file,
         similarity,
         lists,
-        caches,
+        norms,
         n,
         order,
         doc,
         leader_end,
         places,
-        docs,
-        freqs,
+        blocks,
         bounds,
     );
     if !found.remain {
         return Window::Over;
     }
-    if leader_block_max + found.block_max_sum > threshold {
-        slot::load(file, lists, leader, places, docs, freqs);
+    if leader_block_max + found.block_max_sum > leg.threshold {
+        slot::load(file, lists, q, places, blocks);
         return Window::Open(found.window_end, found.block_max_sum);
     }
     Window::Low(found.window_end)

@@ -59,11 +59,11 @@ module _ (maxScore own : Float) (t : T (within 1000 maxScore)) (b : T (within 10
       by-test true e = own-lower e
       by-test false e = max-score-lower e
 
--- the scores that the list's struct gives are the list's
+-- a test of the scores that the list's struct gives is a test of the list's
 pub scores-are : (file : List ℕ) (x : Part) (w : Bm25Weight) → WeightIn x w → ((k : ℕ) → getD file k 0 < 256) → (reader : FieldNormReader) → reader ≡ normReader file
-    → (docs freqs : List ℕ) (bound : Float) (n : ℕ) → allCovered bound n (postingScore reader file w docs freqs) ≡ allCovered bound n (scoreAmong file x docs freqs)
-scores-are file x w W bytes reader er docs freqs bound n =
-    covered-same bound (postingScore reader file w docs freqs) (scoreAmong file x docs freqs) n (λ i l. score-of-doc x w W file bytes er (getD docs i 0) (getD freqs i 0))
+    → (docs freqs : List ℕ) (bound : Float) (n : ℕ) {r : Bool} → r ≡ allCovered bound n (postingScore reader file w docs freqs) → r ≡ allCovered bound n (scoreAmong file x docs freqs)
+scores-are file x w W bytes reader er docs freqs bound n g =
+    g ∙ covered-same bound (postingScore reader file w docs freqs) (scoreAmong file x docs freqs) n (λ i l. score-of-doc x w W file bytes er (getD docs i 0) (getD freqs i 0))
 
 -- f32 holds the frequencies of a full block whose width is at most 24
 pub narrow-exact : {file : List ℕ} {x : Part} {b at : ℕ} → PackedIn file x b at → (e : SkipEntry) → e ≡ skipEntryOf file x b → {r : Bool} {freqs : List ℕ} → FreqsRead file x b r freqs

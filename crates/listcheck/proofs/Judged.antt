@@ -1,12 +1,12 @@
 -- What a block and the blocks before it are refused for, out of what the readers answered.
-use mathlib.Core.Path.{_≡_, refl, sym, ap, _∙_, subst}
+use mathlib.Core.Path.{_≡_, refl, sym, ap, _∙_}
 use mathlib.Core.Bool.{Bool, true, false, _&&_, cond}
 use mathlib.Core.List.{List}
 use Prim.Native.Nat.{ℕ, suc, _+_, _*_, _≤_, _<_}
 use native.Mathlib.Numerals.{add-one}
 use native.Mathlib.Omega.{arith}
 use lib.Dec.{T}
-use lib.ListN.{getD}
+use lib.ListN.{length, getD, set}
 use lib.Ieee.{Float}
 use borrow.Author.Tests.{lt-ltb, le-ltb}
 use Rattle.arrays.specs.Every.{every}
@@ -22,10 +22,11 @@ use Rattle.notefile.specs.Conditions.{blockDocsRight, blockFreqsRight, covers, 
 use Rattle.notefile.specs.Inner.Order.{firstOf, blocksRefusal}
 use Rattle.notefile.specs.Inner.Structs.{skipEntryOf}
 use Rattle.notefile.specs.Inner.Given.{Limits, WeightIn}
-use Rattle.notefile.specs.Inner.Reads.{DocsRead, FreqsRead, scoreAmong, blockRefusal, lower}
+use Rattle.notefile.specs.Inner.Reads.{docsOf, freqsOf, DocsRead, FreqsRead, Sized, TailValues, scoreAmong, blockRefusal, lower}
 use Rattle.notefile.specs.declared.part.Part.{Part}
 use Rattle.notefile.specs.declared.skip.SkipEntry.{SkipEntry}
 use Rattle.notefile.proofs.Decoded.{every-same}
+use Rattle.notefile.proofs.Pairs.{new-docs, new-freqs, old-docs, old-freqs, two-still}
 use Rattle.notefile.proofs.FullBlocks.{full-size}
 use Rattle.notefile.proofs.Scores.{block-bound-by, list-bound-in, block-bound-in}
 use Rattle.listcheck.specs.Inner.Answers.{PackedRead}
@@ -79,7 +80,7 @@ module _ (file : List ℕ) (x : Part) (b : ℕ) {docs : List ℕ} {d : Bool} (D 
           let own = blockBoundIn w (e .«norm_code») (e .«freq_code») in
           let own-is : own ≡ blockBound file x b = rw ee (block-bound-by x w W file bytes b) in
           lower-bounds em (full-size x b full) full own-is (max-score-in x L em) (bound-in file x b bytes L own-is)
-          (g ∙ scores-are file x w W bytes reader er docs freqs (lowerBound own maxScore) 128)
+          (scores-are file x w W bytes reader er docs freqs (lowerBound own maxScore) 128 g)
 
       module _ {r : Bool} (e : r ≡ boundsRight file x b) where
         pub bounds-wrong : r ≡ false → 9 ≡ blockRefusal file x b
@@ -88,20 +89,35 @@ module _ (file : List ℕ) (x : Part) (b : ℕ) {docs : List ℕ} {d : Bool} (D 
         pub all-right : r ≡ true → 0 ≡ blockRefusal file x b
         all-right f = rw (sym (D .same) ∙ d-right, sym (F .same) ∙ f-right, sym e ∙ f)
 
--- a full block's documents and frequencies
-module _ (file : List ℕ) (x : Part) (b : ℕ) {docs freqs : List ℕ} {d : Bool} (D : DocsRead file x b d docs) where
-  pub docs-refused : d ≡ false → PackedRead file x b 7 docs freqs
+-- a block's documents and frequencies, written one after the other
+module _ {file : List ℕ} {x : Part} {b : ℕ} {block : List (List ℕ)} (Z : Sized block) {docs : List ℕ} {d : Bool} (D : DocsRead file x b d docs) where
+  pub freqs-fit : length (freqsOf (set block 0 docs)) ≡ 128
+  freqs-fit = ap length (old-freqs block docs) ∙ Z .long-freqs
+
+  pub freqs-still : TailValues file x (docsOf block) (freqsOf block) → TailValues file x (docsOf block) (freqsOf (set block 0 docs))
+  freqs-still R = rw (old-freqs block docs) R
+
+  module _ {freqs : List ℕ} {f : Bool} (F : FreqsRead file x b f freqs) where
+    pub docs-both : DocsRead file x b d (docsOf (set (set block 0 docs) 1 freqs))
+    docs-both = rw (old-docs (set block 0 docs) freqs, new-docs block (Z .two) docs) D
+
+    pub freqs-both : FreqsRead file x b f (freqsOf (set (set block 0 docs) 1 freqs))
+    freqs-both = rw (new-freqs (set block 0 docs) (two-still block (Z .two) 0 docs) freqs) F
+
+-- what those of a full block are refused for
+module _ (file : List ℕ) (x : Part) (b : ℕ) {docs : List ℕ} {d : Bool} (D : DocsRead file x b d docs) where
+  pub docs-refused : {block : List (List ℕ)} → d ≡ false → PackedRead file x b 7 block
   docs-refused e = record { same = rw (sym (D .same) ∙ e); docs-read = λ z. absurd (omega arith); freqs-read = λ z. absurd (omega arith) }
 
-  module _ (d-right : d ≡ true) {f : Bool} (F : FreqsRead file x b f freqs) where
-    pub freqs-refused : f ≡ false → PackedRead file x b 8 docs freqs
+  module _ (d-right : d ≡ true) {freqs : List ℕ} {f : Bool} (F : FreqsRead file x b f freqs) where
+    pub freqs-refused : {block : List (List ℕ)} → f ≡ false → PackedRead file x b 8 block
     freqs-refused e = record { same = rw (sym (D .same) ∙ d-right, sym (F .same) ∙ e); docs-read = λ z. absurd (omega arith); freqs-read = λ z. absurd (omega arith) }
 
-    pub packed-right : f ≡ true → PackedRead file x b 0 docs freqs
-    packed-right e = record {
+    pub packed-right : {block : List (List ℕ)} → Sized block → f ≡ true → PackedRead file x b 0 (set (set block 0 docs) 1 freqs)
+    packed-right Z e = record {
       same = rw (sym (D .same) ∙ d-right, sym (F .same) ∙ e);
-      docs-read = λ _. subst (λ (z : Bool). DocsRead file x b z docs) d-right D;
-      freqs-read = λ _. subst (λ (z : Bool). FreqsRead file x b z freqs) e F;
+      docs-read = λ _. rw d-right at (docs-both Z D F);
+      freqs-read = λ _. rw e at (freqs-both Z D F);
     }
 
 -- what they are refused for, the block is refused for

@@ -1,6 +1,9 @@
 // Bounds: whether a bound lies below no score that it covers.
 use bm25::Bm25Weight;
 use fieldnorm::FieldNormReader;
+use notefile::block::Block;
+use notefile::block::DOCS;
+use notefile::block::FREQS;
 use notefile::part::Part;
 ghost use mathlib.Core.Path.{_≡_};
 ghost use Prim.Native.Nat.{_≤_};
@@ -8,7 +11,7 @@ ghost use Rattle.arrays.specs.Lent.{before};
 ghost use Rattle.bm25.specs.Inner.Bound.{allCovered};
 ghost use Rattle.notefile.specs.Header.{normReader};
 ghost use Rattle.notefile.specs.Inner.Given.{WeightIn};
-ghost use Rattle.notefile.specs.Inner.Reads.{scoreAmong};
+ghost use Rattle.notefile.specs.Inner.Reads.{docsOf, freqsOf, scoreAmong};
 
 // Whether the bound lies below no score of the first n postings.
 pub fn scores_covered(
@@ -18,11 +21,10 @@ pub fn scores_covered(
     w: Bm25Weight,
     n: usize,
     bound: f32,
-    docs: &[u32; 128],
-    freqs: &[u32; 128],
+    block: &Block,
 ) -> bool
     requires { ⌜ (reader ≡ normReader (now file)) × WeightIn x w × (n ≤ 128) ⌝ }
-    ensures { λ r. ⌜ r ≡ allCovered bound n (scoreAmong (before file) x (before docs) (before freqs)) ⌝ }
+    ensures { λ r. ⌜ r ≡ allCovered bound n (scoreAmong (before file) x (docsOf (before block)) (freqsOf (before block))) ⌝ }
 {
-    bm25_block::bound::covered(file, reader, w, docs, freqs, n, bound)
+    bm25_block::bound::covered(file, reader, w, &block[DOCS], &block[FREQS], n, bound)
 }

@@ -8,10 +8,13 @@ use bm25_block::bound::block_covered;
 use compression::documents::documents;
 use compression::frequencies::frequencies;
 use fieldnorm::FieldNormReader;
+use notefile::block::Block;
+use notefile::block::DOCS;
+use notefile::block::FREQS;
 use notefile::block::packed_docs;
 use notefile::block::packed_freqs;
-use notefile::block::places;
 use notefile::block::read_tail;
+use notefile::block::sized;
 use notefile::part::Part;
 use notefile::part::weight_of;
 use notefile::skip::SkipEntry;
@@ -25,10 +28,10 @@ ghost use Rattle.notefile.specs.Lists.{blockAt, fullBlocks, previousDoc};
 ghost use Rattle.notefile.specs.Inner.Order.{blocksRefusal, listRefusal};
 ghost use Rattle.notefile.specs.Inner.Structs.{lastBefore, skipEntryOf};
 ghost use Rattle.notefile.specs.Inner.Given.{Against, BlocksIn, Limits, NormsIn, PackedIn, Parted, Skipped};
-ghost use Rattle.notefile.specs.Inner.Reads.{TailValues, blockRefusal, lower};
+ghost use Rattle.notefile.specs.Inner.Reads.{docsOf, freqsOf, TailValues, blockRefusal, lower};
 ghost use Rattle.listcheck.specs.Inner.Answers.{PackedRead};
 
-// What the documents and frequencies of full block b are refused for: 7, 8 or nothing. They are left in the arrays.
+// What the documents and frequencies of full block b are refused for: 7, 8 or nothing. They are left in the block.
 fn check_packed(
     file: &[u8],
     limit: u32,
@@ -36,20 +39,18 @@ fn check_packed(
     e: SkipEntry,
     b: usize,
     at: usize,
-    docs: &mut [u32; 128],
-    freqs: &mut [u32; 128],
+    block: &mut Block,
 ) -> u32
     requires { ⌜ PackedIn (now file) x b at × (e ≡ skipEntryOf (now file) x b) × (limit ≡ documents (now file)) × (limit ≤ 1048576)
         × (lastBefore (now file) x b ≡ previousDoc (now file) x b) × (lastBefore (now file) x b ≤ 1048576) ⌝ }
-    ensures { λ r. ⌜ PackedRead (before file) x b r (after docs) (after freqs) ⌝ }
+    ensures { λ r. ⌜ PackedRead (before file) x b r (after block) ⌝ }
 {
-    places(docs);
-    places(freqs);
+    sized(block);
     let previous = last_before(file, x, b);
-    if !packed_docs(file, x, b, at, e, previous, limit, docs) {
+    if !packed_docs(file, x, b, at, e, previous, limit, &mut block[DOCS]) {
         return 7;
     }
-    if !packed_freqs(file, x, b, at, e, freqs) {
+    if !packed_freqs(file, x, b, at, e, &mut block[FREQS]) {
         return 8;
     }
     0
@@ -66,11 +67,10 @@ fn check_block(
     e: SkipEntry,
     b: usize,
     found: u32,
-    docs: &[u32; 128],
-    freqs: &[u32; 128],
+    block: &Block,
 ) -> u32
     requires { ⌜ Against (now file) x limit reader w «max_score» × PackedIn (now file) x b (blockAt (now file) x b)
-        × (e ≡ skipEntryOf (now file) x b) × PackedRead (now file) x b found (now docs) (now freqs) ⌝ }
+        × (e ≡ skipEntryOf (now file) x b) × PackedRead (now file) x b found (now block) ⌝ }
     ensures { λ r. ⌜ r ≡ blockRefusal (before file) x b ⌝ }
 {
     if found != 0 {
@@ -83,8 +83,8 @@ fn check_block(
         reader,
         w,
         limit,
-        docs,
-        freqs,
+        &block[DOCS],
+        &block[FREQS],
         small,
         e.norm_code,
         e.freq_code,
@@ -103,24 +103,24 @@ fn check_tail(
     x: Part,
     w: Bm25Weight,
     max_score: f32,
-    docs: &mut [u32; 128],
-    freqs: &mut [u32; 128],
+    block: &mut Block,
 ) -> u32
     requires { ⌜ Against (now file) x limit reader w «max_score» × Skipped (now file) x
-        × TailValues (now file) x (now docs) (now freqs)
+        × TailValues (now file) x (docsOf (now block)) (freqsOf (now block))
         × (lastBefore (now file) x (fullBlocks x) ≡ previousDoc (now file) x (fullBlocks x)) ⌝ }
     ensures { λ r. ⌜ r ≡ blockRefusal (before file) x (fullBlocks x) ⌝ }
 {
+    sized(block);
     let b = x.count / 128;
     let n = x.count % 128;
     let previous = last_before(file, x, b);
-    if !documents(docs, n, false, b == 0, previous, limit, false) {
+    if !documents(&mut block[DOCS], n, false, b == 0, previous, limit, false) {
         return 7;
     }
-    if !frequencies(freqs, n, false) {
+    if !frequencies(&mut block[FREQS], n, false) {
         return 8;
     }
-    if !scores_covered(file, reader, x, w, n, max_score, docs, freqs) {
+    if !scores_covered(file, reader, x, w, n, max_score, block) {
         return 9;
     }
     0
@@ -155,30 +155,17 @@ fn check_blocks(
     ensures { λ r. ⌜ r ≡ blocksRefusal (before file) x (fullBlocks x) ⌝ }
 {
     let blocks = x.count / 128;
-    let mut docs = [0u32; 128];
-    let mut freqs = [0u32; 128];
+    let mut block = [[0u32; 128]; 2];
     let mut lowest: u32 = 0;
     let mut at = x.postings;
     let mut b: usize = 0;
     while b < blocks {
         let e = read_skip_entry(file, x, b);
-        let found = check_packed(file, limit, x, e, b, at, &mut docs, &mut freqs);
+        let found = check_packed(file, limit, x, e, b, at, &mut block);
         if found == 7 {
             return 7;
         }
-        let r = check_block(
-            file,
-            limit,
-            reader,
-            x,
-            w,
-            max_score,
-            e,
-            b,
-            found,
-            &docs,
-            &freqs,
-        );
+        let r = check_block(file, limit, reader, x, w, max_score, e, b, found, &block);
         lowest = lower_of(lowest, r);
         at += 16 * ((e.doc_bits + e.freq_bits) as usize);
         b += 1;
@@ -202,9 +189,8 @@ pub fn check_list(
     let TailPlace::At(at) = place else {
         return 5;
     };
-    let mut docs = [0u32; 128];
-    let mut freqs = [0u32; 128];
-    if !read_tail(file, x, at, &mut docs, &mut freqs) {
+    let mut block = [[0u32; 128]; 2];
+    if !read_tail(file, x, at, &mut block) {
         return 6;
     }
     let w = weight_of(x, norms);
@@ -215,6 +201,6 @@ pub fn check_list(
     }
     lower_of(
         full,
-        check_tail(file, limit, reader, x, w, max_score, &mut docs, &mut freqs),
+        check_tail(file, limit, reader, x, w, max_score, &mut block),
     )
 }

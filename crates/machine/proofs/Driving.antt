@@ -20,21 +20,35 @@ use Rattle.reports.specs.declared.Event.{Event}
 use Rattle.reports.specs.declared.Event.the-variants.{Over, Paused, Report}
 use Rattle.reports.proofs.RowLaws.{count-is, documents-long, scores-long}
 use Rattle.reports.proofs.RunLaws.{run-begun, went-full, went-near, went-over, went-paused, went-reports}
+use Rattle.term_scorer.specs.declared.score.Leg.{Leg}
 use Rattle.term_scorer.specs.declared.score.Similarity.{Similarity}
 use Rattle.machine.specs.Inner.Places.{Place, machineFrom, overIn, turnIn}
 use Rattle.machine.specs.Inner.Kept.{KeptIn}
 use Rattle.machine.specs.Inner.Stands.{Tables, placeIn, StandsIn}
-use Rattle.machine.specs.Inner.Drives.{stoppedAs, Drives, GoesOn}
+use Rattle.notefile.specs.Header.{normReader}
+use Rattle.machine.specs.Inner.Drives.{legTo, stoppedAs, Drives, GoesOn}
 use Rattle.machine.specs.declared.Driven.{Driven}
 use Rattle.machine.specs.declared.Gone.{Gone}
 use Rattle.machine.specs.declared.Machine.{Machine}
 use Rattle.machine.specs.declared.Task.{Task}
 use Rattle.machine.proofs.Nearing.{costIn, machine-nears}
 
-module _ (file : List ℕ) (script : List Float) (lists : List (List ℕ)) (caches : List (List Float)) (task : Task) (old : Tables)
+-- a machine that stands can go on by a leg to its next report
+pub for-leg : (file : List ℕ) (lists : List (List ℕ)) (norms : List (List Float)) (s : Similarity) (t : Float) {leg : Leg} → leg ≡ legTo s t → (old : Tables) (m : Machine)
+    → (s .norms ≡ normReader file) × StandsIn file s lists norms old m → (leg .similarity .norms ≡ normReader file) × StandsIn file (leg .similarity) lists norms old m
+for-leg file lists norms s t e old m S =
+    subst (λ (z : Leg). (z .similarity .norms ≡ normReader file) × StandsIn file (z .similarity) lists norms old m) (sym e) S
+
+-- and went on by it
+pub by-leg : (file : List ℕ) (lists : List (List ℕ)) (norms : List (List Float)) (s : Similarity) (t : Float) {leg : Leg} → leg ≡ legTo s t → {old : Tables} {m : Machine} {new : Tables} {r : Gone}
+    → GoesOn file (leg .similarity) lists norms (leg .threshold) (leg .turns) old m new r → GoesOn file s lists norms t 18446744073709551615 old m new r
+by-leg file lists norms s t e {old} {m} {new} {r} G =
+    subst (λ (z : Leg). GoesOn file (z .similarity) lists norms (z .threshold) (z .turns) old m new r) e G
+
+module _ (file : List ℕ) (script : List Float) (lists : List (List ℕ)) (norms : List (List Float)) (task : Task) (old : Tables)
     (documents₀ : List ℕ) (scores₀ : List Float) where
   abbrev at : Tables → Machine → Place
-  at h m = placeIn file (task .similarity) lists caches h m
+  at h m = placeIn file (task .similarity) lists norms h m
 
   abbrev W : Route Float
   W = machineFrom (at old (task .machine))
@@ -44,11 +58,11 @@ module _ (file : List ℕ) (script : List Float) (lists : List (List ℕ)) (cach
 
   -- a run on its way
   pub record Driving (t : Threshold) (best : List Float) (h : Tables) (m : Machine) (documents : List ℕ) (values : List Float) : Type 0 where
-    pub stands : StandsIn file (task .similarity) lists caches h m
+    pub stands : StandsIn file (task .similarity) lists norms h m
     pub going : Going W (task .rule) script documents₀ scores₀ t best documents values (at h m)
     pub kept : KeptIn N (at h m)
 
-  pub driving-begun : StandsIn file (task .similarity) lists caches old (task .machine) → KeptIn N (at old (task .machine))
+  pub driving-begun : StandsIn file (task .similarity) lists norms old (task .machine) → KeptIn N (at old (task .machine))
       → {t : Threshold} {best : List Float} → Follows (task .rule) script [] t best → Driving t best old (task .machine) documents₀ scores₀
   driving-begun S k f = record { stands = S; going = run-begun W (task .rule) script documents₀ scores₀ f; kept = k }
 
@@ -62,7 +76,7 @@ module _ (file : List ℕ) (script : List Float) (lists : List (List ℕ)) (cach
         let l : t .reports < rowsOf documents₀ scores₀ = lt-of-ne (omega (arith, w .fit, count-is K)) (λ e. ne (e ∙ sym g)) in
         (l, omega (arith, l, documents-long w), omega (arith, l, scores-long w))
 
-    module _ {turns : ℕ} {h′ : Tables} {r : Gone} (G : GoesOn file (task .similarity) lists caches (t .now) turns h m h′ r) where
+    module _ {turns : ℕ} {h′ : Tables} {r : Gone} (G : GoesOn file (task .similarity) lists norms (t .now) turns h m h′ r) where
       abbrev Turns : Event → Type 0
       Turns event = Went turnIn overIn (t .now) (at h m) turns (r .taken) (at h′ (r .machine)) event
 
@@ -87,9 +101,9 @@ module _ (file : List ℕ) (script : List Float) (lists : List (List ℕ)) (cach
 
       -- one for which no row is left
       pub stops-full : {doc : ℕ} {score : Float} → r .event ≡ Report doc score → {room : ℕ} → t .reports ≡ room → room ≡ rowsOf documents₀ scores₀
-          → {x : Driven} → x ≡ stoppedAs (r .machine) true room → Drives file script lists caches task old documents₀ scores₀ h′ documents values x
+          → {x : Driven} → x ≡ stoppedAs (r .machine) true room → Drives file script lists norms task old documents₀ scores₀ h′ documents values x
       stops-full e {room} f g x-is =
-          subst (Drives file script lists caches task old documents₀ scores₀ h′ documents values) (sym x-is)
+          subst (Drives file script lists norms task old documents₀ scores₀ h′ documents values) (sym x-is)
           (record {
             stands = G .stands;
             ran = subst (λ (n : ℕ). Ran W (task .rule) script documents₀ scores₀ true n documents values (at h′ (r .machine))) f
@@ -98,9 +112,9 @@ module _ (file : List ℕ) (script : List Float) (lists : List (List ℕ)) (cach
 
       -- the route's end
       pub stops-over : r .event ≡ Over → {x : Driven} → x ≡ stoppedAs (r .machine) false (t .reports)
-          → Drives file script lists caches task old documents₀ scores₀ h′ documents values x
+          → Drives file script lists norms task old documents₀ scores₀ h′ documents values x
       stops-over e x-is =
-          subst (Drives file script lists caches task old documents₀ scores₀ h′ documents values) (sym x-is)
+          subst (Drives file script lists norms task old documents₀ scores₀ h′ documents values) (sym x-is)
           (record { stands = G .stands; ran = went-over W (task .rule) script documents₀ scores₀ (D .going) (went-as e) })
 
       -- turns that were taken without a report

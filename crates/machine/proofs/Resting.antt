@@ -16,13 +16,13 @@ use Rattle.machine.specs.Inner.Stands.{Tables, placeIn}
 use Rattle.machine.specs.declared.Machine.{Machine}
 use Rattle.machine.specs.declared.Machine.the-variants.{Intersection, Plain, Single, Union}
 
-module _ (file : List ℕ) (similarity : Similarity) (lists : List (List ℕ)) (caches : List (List Float)) where
+module _ (file : List ℕ) (similarity : Similarity) (lists : List (List ℕ)) (norms : List (List Float)) where
   in-slots : (places : List (List ℕ)) (qs : List ℕ) → All (AtRest (cursorAt places)) (map (slotScorer file lists (similarity .scoring) places) qs)
   in-slots places [] = tt
   in-slots places (q ∷ qs) = (refl, in-slots places qs)
 
-  pub at-rest : (h : Tables) (m : Machine) → All (AtRest (cursorAt (h .held .places))) (scorersIn (placeIn file similarity lists caches h m))
+  pub at-rest : (h : Tables) (m : Machine) → All (AtRest (cursorAt (h .held .places))) (scorersIn (placeIn file similarity lists norms h m))
   at-rest h (Union u) = in-slots (h .held .places) (take (u .len) (h .order))
   at-rest h (Single x) = (refl, tt)
-  at-rest h (Intersection v) = all.at-rest (query similarity file lists caches (v .len) (h .order)) (h .held .places)
+  at-rest h (Intersection v) = all.at-rest (query similarity file lists norms (v .len) (h .order)) (h .held .places)
   at-rest h (Plain x) = tt

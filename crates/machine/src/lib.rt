@@ -1,15 +1,20 @@
 // One machine for the runs of every mode, and the one loop that drives it: rows are written and the threshold is moved here alone.
+use block_wand_intersection as intersection;
 use block_wand_intersection::Intersection;
 use block_wand_single::Single;
+use block_wand_single::scan;
 use block_wand_union::Union;
+use block_wand_union::walk;
 use plain_scan::Plain;
 use reports::Event;
 use reports::report;
 use reports::rows;
 use rule::Rule;
 use rule::Threshold;
+use slot_rows::place::Blocks;
 use slot_rows::place::Places;
 use term_scorer::Floats;
+use term_scorer::score::Leg;
 use term_scorer::score::Similarity;
 ghost use mathlib.Core.Path.{_≡_};
 ghost use Rattle.arrays.specs.Lent.{before, after};
@@ -17,9 +22,10 @@ ghost use Rattle.rule.specs.Inner.Follows.{Keeps};
 ghost use Rattle.notefile.specs.Header as header;
 ghost use Rattle.notefile.specs.Header.{normReader};
 ghost use Rattle.term_scorer.specs.Inner.Slots.{held};
+ghost use Rattle.machine.specs.declared.Machine.the-variants as variant;
 ghost use Rattle.machine.specs.Inner.Kept.{KeptIn};
 ghost use Rattle.machine.specs.Inner.Stands.{tables, placeIn, StandsIn};
-ghost use Rattle.machine.specs.Inner.Drives.{stoppedAs, Drives, GoesOn};
+ghost use Rattle.machine.specs.Inner.Drives.{legTo, stoppedAs, Drives, GoesOn};
 
 // A run of any mode on its way: what of it stands in no table.
 pub enum Machine {
@@ -53,117 +59,93 @@ pub struct Driven {
 // As many turns as may be: no run takes so many.
 const TURNS: usize = 18446744073709551615;
 
-// The machine goes on to its next report, to its end, or through so many turns.
+// Where a union came to, as a machine.
+fn of_union(gone: block_wand_union::Gone) -> Gone
+    ensures { λ r. ⌜ r ≡ record { machine = variant.Union (gone .union); taken = gone .taken; event = gone .event } ⌝ }
+{
+    let to = gone.union;
+    let event = gone.event;
+    Gone {
+        machine: Machine::Union(to),
+        taken: gone.taken,
+        event,
+    }
+}
+
+// Where a single scan came to, as a machine.
+fn of_single(gone: block_wand_single::Gone) -> Gone
+    ensures { λ r. ⌜ r ≡ record { machine = variant.Single (gone .single); taken = gone .taken; event = gone .event } ⌝ }
+{
+    let to = gone.single;
+    let event = gone.event;
+    Gone {
+        machine: Machine::Single(to),
+        taken: gone.taken,
+        event,
+    }
+}
+
+// Where an intersection came to, as a machine.
+fn of_intersection(gone: block_wand_intersection::Gone) -> Gone
+    ensures { λ r. ⌜ r ≡ record { machine = variant.Intersection (gone .intersection); taken = gone .taken; event = gone .event } ⌝ }
+{
+    let to = gone.intersection;
+    let event = gone.event;
+    Gone {
+        machine: Machine::Intersection(to),
+        taken: gone.taken,
+        event,
+    }
+}
+
+// Where a plain scan came to, as a machine.
+fn of_plain(gone: plain_scan::Gone) -> Gone
+    ensures { λ r. ⌜ r ≡ record { machine = variant.Plain (gone .plain); taken = gone .taken; event = gone .event } ⌝ }
+{
+    let to = gone.plain;
+    let event = gone.event;
+    Gone {
+        machine: Machine::Plain(to),
+        taken: gone.taken,
+        event,
+    }
+}
+
+// The machine goes on to its next report, to its end, or through the leg's turns.
 pub fn go_on(
     file: &[u8],
-    similarity: Similarity,
+    leg: Leg,
     machine: Machine,
     lists: &[[usize; 8]; 16],
-    caches: &[[f32; 256]; 16],
-    threshold: f32,
-    turns: usize,
+    norms: &[[f32; 256]; 16],
     order: &mut [usize; 16],
     places: &mut Places,
-    docs: &mut [[u32; 128]; 16],
-    freqs: &mut [[u32; 128]; 16],
+    blocks: &mut Blocks,
     floats: &mut Floats,
 ) -> Gone
-    requires { let old = tables (now order) (now places) (now docs) (now freqs) (now floats) in
-        ⌜ (similarity .norms ≡ normReader (now file)) × StandsIn (now file) similarity (now lists) (now caches) old machine ⌝ }
+    requires { let old = tables (now order) (now places) (now blocks) (now floats) in
+        ⌜ (leg .similarity .norms ≡ normReader (now file)) × StandsIn (now file) (leg .similarity) (now lists) (now norms) old machine ⌝ }
     ensures { λ r.
-        let old = tables (before order) (before places) (before docs) (before freqs) (before floats) in
-        let new = tables (after order) (after places) (after docs) (after freqs) (after floats) in
-        ⌜ GoesOn (before file) similarity (before lists) (before caches) threshold turns old machine new r ⌝ }
+        let old = tables (before order) (before places) (before blocks) (before floats) in
+        let new = tables (after order) (after places) (after blocks) (after floats) in
+        ⌜ GoesOn (before file) (leg .similarity) (before lists) (before norms) (leg .threshold) (leg .turns) old machine new r ⌝ }
 {
     match machine {
-        Machine::Union(union) => {
-            let gone = block_wand_union::go(
-                file,
-                similarity,
-                union,
-                lists,
-                caches,
-                threshold,
-                turns,
-                order,
-                places,
-                docs,
-                freqs,
-                floats,
-            );
-            let to = gone.union;
-            let event = gone.event;
-            Gone {
-                machine: Machine::Union(to),
-                taken: gone.taken,
-                event,
-            }
+        Machine::Union(v) => {
+            let g = walk::go(file, leg, v, lists, norms, order, places, blocks, floats);
+            of_union(g)
         }
-        Machine::Single(single) => {
-            let gone = block_wand_single::scan::go(
-                file,
-                similarity,
-                single,
-                lists,
-                caches,
-                threshold,
-                turns,
-                places,
-                docs,
-                freqs,
-                floats,
-            );
-            let to = gone.single;
-            let event = gone.event;
-            Gone {
-                machine: Machine::Single(to),
-                taken: gone.taken,
-                event,
-            }
+        Machine::Single(v) => {
+            let g = scan::go(file, leg, v, lists, norms, places, blocks, floats);
+            of_single(g)
         }
-        Machine::Intersection(intersection) => {
-            let gone = block_wand_intersection::go(
-                file,
-                similarity,
-                intersection,
-                lists,
-                caches,
-                threshold,
-                turns,
-                order,
-                places,
-                docs,
-                freqs,
-                floats,
-            );
-            let to = gone.intersection;
-            let event = gone.event;
-            Gone {
-                machine: Machine::Intersection(to),
-                taken: gone.taken,
-                event,
-            }
+        Machine::Intersection(v) => {
+            let g = intersection::go(file, leg, v, lists, norms, order, places, blocks, floats);
+            of_intersection(g)
         }
-        Machine::Plain(plain) => {
-            let gone = plain_scan::go(
-                file,
-                similarity,
-                plain,
-                lists,
-                caches,
-                threshold,
-                turns,
-                places,
-                docs,
-                freqs,
-            );
-            let to = gone.plain;
-            let event = gone.event;
-            Gone {
-                machine: Machine::Plain(to),
-                taken: gone.taken,
-                event,
-            }
+        Machine::Plain(v) => {
+            let g = plain_scan::go(file, leg, v, lists, norms, places, blocks);
+            of_plain(g)
         }
     }
 }
@@ -179,62 +161,59 @@ fn stopped(machine: Machine, full: bool, count: usize) -> Driven
     }
 }
 
+// As far as the next report.
+fn leg_to(similarity: Similarity, threshold: f32) -> Leg
+    ensures { λ r. ⌜ r ≡ legTo similarity threshold ⌝ }
+{
+    Leg {
+        similarity,
+        threshold,
+        turns: TURNS,
+    }
+}
+
 // From report to report: each goes to the next row and moves the threshold, to the route's end or to a report for which no row is left.
 pub fn drive(
     file: &[u8],
     script: &[f32],
     task: Task,
     lists: &[[usize; 8]; 16],
-    caches: &[[f32; 256]; 16],
+    norms: &[[f32; 256]; 16],
     order: &mut [usize; 16],
     places: &mut Places,
-    docs: &mut [[u32; 128]; 16],
-    freqs: &mut [[u32; 128]; 16],
+    blocks: &mut Blocks,
     floats: &mut Floats,
     documents: &mut [u32],
     scores: &mut [f32],
 ) -> Driven
-    requires { let old = tables (now order) (now places) (now docs) (now freqs) (now floats) in
+    requires { let old = tables (now order) (now places) (now blocks) (now floats) in
         ⌜ (task .similarity .norms ≡ normReader (now file)) × Keeps (task .rule)
-        × StandsIn (now file) (task .similarity) (now lists) (now caches) old (task .machine)
-        × KeptIn (header.documents (now file)) (placeIn (now file) (task .similarity) (now lists) (now caches) old (task .machine)) ⌝ }
+        × StandsIn (now file) (task .similarity) (now lists) (now norms) old (task .machine)
+        × KeptIn (header.documents (now file)) (placeIn (now file) (task .similarity) (now lists) (now norms) old (task .machine)) ⌝ }
     ensures { λ r.
-        let old = tables (before order) (before places) (before docs) (before freqs) (before floats) in
-        let new = tables (after order) (after places) (after docs) (after freqs) (after floats) in
-        ⌜ Drives (before file) (before script) (before lists) (before caches) task old (before documents) (before scores)
+        let old = tables (before order) (before places) (before blocks) (before floats) in
+        let new = tables (after order) (after places) (after blocks) (after floats) in
+        ⌜ Drives (before file) (before script) (before lists) (before norms) task old (before documents) (before scores)
         new (after documents) (after scores) r ⌝ }
 {
-    let similarity = task.similarity;
     let rule = task.rule;
     let room = rows(documents, scores);
-    let mut machine = task.machine;
+    let mut now = task.machine;
     let mut t = Threshold::new(rule);
     let mut best = [0.0f32; 64];
     loop {
-        let gone = go_on(
-            file,
-            similarity,
-            machine,
-            lists,
-            caches,
-            t.now,
-            TURNS,
-            order,
-            places,
-            docs,
-            freqs,
-            floats,
-        );
-        machine = gone.machine;
-        let event = gone.event;
+        let leg = leg_to(task.similarity, t.now);
+        let g = go_on(file, leg, now, lists, norms, order, places, blocks, floats);
+        now = g.machine;
+        let event = g.event;
         match event {
             Event::Report(doc, score) => {
                 if t.reports == room {
-                    return stopped(machine, true, room);
+                    return stopped(now, true, room);
                 }
                 t = report(rule, script, t, doc, score, &mut best, documents, scores);
             }
-            Event::Over => return stopped(machine, false, t.reports),
+            Event::Over => return stopped(now, false, t.reports),
             Event::Paused => {}
         }
     }

@@ -7,27 +7,27 @@ use Prim.Native.Nat.{ℕ, zero, suc, _+_, _*_, _/_, _%_, _^_, _≤_, _<_}
 use native.Mathlib.Nat.{le-of-lt}
 use native.Mathlib.Omega.{arith}
 use lib.Dec.{eqb, leb, lit<}
-use lib.ListN.{length, getD}
+use lib.ListN.{length, getD, set}
 use borrow.Author.Tests.{lt-ltb, leb-true, eqb-true}
 use Rattle.arrays.specs.Every.{every}
 use Rattle.arrays.proofs.Every.{second-true, each}
 use Rattle.arrays.proofs.Order.{climbs}
-use Rattle.bitpacker.specs.Packed.{packedAt}
 use Rattle.bitpacker.specs.Inner.Rows.{Unpacked}
 use Rattle.bitpacker.proofs.Lanes.{packed-fits}
 use Rattle.compression.specs.Inner.Sums.{Summed, Narrow, Checked}
 use Rattle.compression.specs.Inner.Counts.{Counted}
-use Rattle.compression.proofs.Differences.{gap-small}
 use Rattle.notefile.specs.Header.{documents}
 use Rattle.notefile.specs.Skips.{lastDoc, docWidth, strictBlock, freqWidth, widthByte}
-use Rattle.notefile.specs.Lists.{fullBlocks, tailSize, isFull, blockSize, docValue, freqValue, strictIn, previousDoc, blockDoc, blockFreq, blockAt, freqsAt}
+use Rattle.notefile.specs.Lists.{fullBlocks, tailSize, isFull, blockSize, docValue, freqValue, strictIn, previousDoc, blockDoc, blockAt}
 use Rattle.notefile.specs.Conditions.{docsRise, lastRight, blockDocsRight, skipRight}
 use Rattle.notefile.specs.Inner.Structs.{skipEntryOf, lastBefore}
 use Rattle.notefile.specs.Inner.Given.{PackedIn, BlockRight, BlocksIn}
-use Rattle.notefile.specs.Inner.Reads.{DocsRead, FreqsRead, Loaded}
+use Rattle.notefile.proofs.Pairs.{new-docs, new-freqs, old-docs, old-freqs, two-still}
+use Rattle.notefile.specs.Inner.Reads.{docsOf, freqsOf, DocsRead, FreqsRead, Loaded, Sized}
 use Rattle.notefile.specs.declared.part.Part.{Part}
 use Rattle.notefile.specs.declared.skip.SkipEntry.{SkipEntry}
 use Rattle.notefile.proofs.Decoded.{doc-low, rise-is, docs-are, docs-loaded, freqs-are}
+use Rattle.notefile.proofs.NarrowBlocks.{freq-narrow}
 
 pub full-size : (x : Part) (b : ℕ) → b < fullBlocks x → 128 ≡ blockSize x b
 full-size x b h = sym (ap (λ (z : Bool). cond z 128 (tailSize x)) (lt-ltb b (fullBlocks x) h))
@@ -132,12 +132,7 @@ module _ {file : List ℕ} {x : Part} {b at : ℕ} (P : PackedIn file x b at) (e
 
   -- frequencies of at most 24 bits are at most 2 ^ 24, with the 1 of a strict block
   pub freqs-narrow : {r : Bool} {freqs : List ℕ} → FreqsRead file x b r freqs → r ≡ true → e .«freq_bits» ≤ 24 → (i : ℕ) → i < 128 → getD freqs i 0 ≤ 16777216
-  unfolding blockFreq freqValue
-  freqs-narrow F t n i h =
-      let v = freqValue file x b i in
-      let p : v ≡ packedAt file (freqsAt file x b) (freqWidth file x b) i = rw is-full in
-      let f = packed-fits file (freqsAt file x b) (freqWidth file x b) i 24 (omega (arith, freqs-is)) in
-      omega (arith, F .at t i (omega (arith, size-full)), p, f, gap-small (strictIn file x b))
+  freqs-narrow F t n i h = omega (arith, F .at t i (omega (arith, size-full)), freq-narrow file x b (P .full) (omega (arith, freqs-is)) i)
 
   -- a full block has nothing past its end
   pub packed-loaded : {vs docs freqs : List ℕ} {r : Bool} {previous : ℕ} → Unpacked file at (e .«doc_bits») vs → Summed vs (e .strict) (eqb b 0) previous docs → FreqsRead file x b r freqs → BlockRight file x b previous → Loaded file x b docs freqs
@@ -149,3 +144,16 @@ module _ {file : List ℕ} {x : Part} {b at : ℕ} (P : PackedIn file x b at) (e
     docs-past = λ i h l. absurd (omega (arith, size-full));
     freqs-past = λ i h l. absurd (omega (arith, size-full));
   }
+
+  -- the same of the block whose arrays they are written to, one after the other
+  pub docs-fit : {block : List (List ℕ)} {vs : List ℕ} → Sized block → Unpacked file at (e .«doc_bits») vs → length (docsOf (set block 0 vs)) ≡ 128
+  docs-fit {block} {vs} Z U = ap length (new-docs block (Z .two) vs) ∙ U .long
+
+  pub freqs-fit : {block : List (List ℕ)} {vs docs : List ℕ} {previous : ℕ} → Sized block → Unpacked file at (e .«doc_bits») vs → Summed (docsOf (set block 0 vs)) (e .strict) (eqb b 0) previous docs → length (freqsOf (set (set block 0 vs) 0 docs)) ≡ 128
+  freqs-fit {block} {vs} {docs} Z U S = ap length (old-freqs (set block 0 vs) docs ∙ old-freqs block vs) ∙ Z .long-freqs
+
+  pub packed-block : {block : List (List ℕ)} {vs docs freqs : List ℕ} {r : Bool} {previous : ℕ} → Sized block → Unpacked file at (e .«doc_bits») vs → Summed (docsOf (set block 0 vs)) (e .strict) (eqb b 0) previous docs → FreqsRead file x b r freqs → BlockRight file x b previous → Loaded file x b (docsOf (set (set (set block 0 vs) 0 docs) 1 freqs)) (freqsOf (set (set (set block 0 vs) 0 docs) 1 freqs))
+  packed-block {block} {vs} {docs} {freqs} Z U S F B =
+      let one = two-still block (Z .two) 0 vs in
+      let both = two-still (set block 0 vs) one 0 docs in
+      rw (old-docs (set (set block 0 vs) 0 docs) freqs, new-docs (set block 0 vs) one docs, new-freqs (set (set block 0 vs) 0 docs) both freqs) (packed-loaded U (rw (new-docs block (Z .two) vs) at S) F B)

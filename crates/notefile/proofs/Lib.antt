@@ -6,7 +6,9 @@ pub mod Entries
 pub mod SkipEntries
 pub mod Padding
 pub mod Decoded
+pub mod NarrowBlocks
 pub mod FullBlocks
+pub mod Pairs
 pub mod TailBlocks
 pub mod Tails
 pub mod Order

@@ -6,7 +6,7 @@ use Prim.Native.Nat.{ℕ, _+_, _≤_, _<_}
 use native.Mathlib.Nat.{add-zero, le-refl}
 use native.Mathlib.Omega.{arith}
 use lib.Dec.{eqb}
-use lib.ListN.{getD}
+use lib.ListN.{length, getD, set}
 use borrow.Author.Tests.{le-ltb}
 use Rattle.codec.proofs.VIntRow.{value-fits}
 use Rattle.compression.specs.Documents.{gapOf}
@@ -17,7 +17,8 @@ use Rattle.notefile.specs.Skips.{strictBlock}
 use Rattle.notefile.specs.Lists.{fullBlocks, tailSize, isFull, blockSize, tailAt, tailFreqsAt, docValue, freqValue, strictIn, previousDoc, blockFreq}
 use Rattle.notefile.specs.Conditions.{docsRise, lastRight, blockDocsRight}
 use Rattle.notefile.specs.Inner.Given.{BlockRight}
-use Rattle.notefile.specs.Inner.Reads.{TailValues, DocsRead, FreqsRead, Padded, Loaded}
+use Rattle.notefile.specs.Inner.Reads.{docsOf, freqsOf, TailValues, DocsRead, FreqsRead, Padded, Loaded, Sized}
+use Rattle.notefile.proofs.Pairs.{new-docs, new-freqs, old-docs, old-freqs, two-still}
 use Rattle.notefile.specs.declared.part.Part.{Part}
 use Rattle.notefile.proofs.Decoded.{rise-is, docs-are, docs-loaded, freqs-are}
 
@@ -71,3 +72,18 @@ module _ {file : List ℕ} {x : Part} {docs freqs : List ℕ} (R : TailValues fi
     docs-past = λ i h l. P .past i (omega (arith, size-tail)) l;
     freqs-past = λ i h l. Q .past i (omega (arith, size-tail)) l;
   }
+
+-- the same of the block whose arrays they are written to, one after the other
+module _ {file : List ℕ} {x : Part} {block : List (List ℕ)} (R : TailValues file x (docsOf block) (freqsOf block)) (Z : Sized block)
+    {sums : List ℕ} {previous : ℕ} (S : Summed (docsOf block) false (eqb (fullBlocks x) 0) previous sums) where
+  abbrev summed : List (List ℕ)
+  summed = set block 0 sums
+
+  two : length summed ≡ 2
+  two = two-still block (Z .two) 0 sums
+
+  pub tail-block : {docs freqs : List ℕ} → BlockRight file x (fullBlocks x) previous → Padded (docsOf summed) (tailSize x) docs → Padded (freqsOf (set summed 0 docs)) (tailSize x) freqs
+      → Loaded file x (fullBlocks x) (docsOf (set (set summed 0 docs) 1 freqs)) (freqsOf (set (set summed 0 docs) 1 freqs))
+  tail-block {docs} {freqs} B P Q =
+      rw (old-docs (set summed 0 docs) freqs, new-docs summed two docs, new-freqs (set summed 0 docs) (two-still summed two 0 docs) freqs)
+      (tail-loaded R S B (rw (new-docs block (Z .two) sums) at P) (rw (old-freqs summed docs, old-freqs block sums) at Q))

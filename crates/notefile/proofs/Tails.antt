@@ -7,7 +7,7 @@ use Prim.Native.Nat.{ℕ, suc, _≤_, _<_}
 use native.Mathlib.Nat.{le-refl}
 use native.Mathlib.Omega.{arith}
 use lib.Dec.{eqb}
-use lib.ListN.{getD}
+use lib.ListN.{length, getD, set}
 use borrow.Author.Tests.{le-leb, lt-leb, le-ltb}
 use Rattle.arrays.specs.Every.{every}
 use Rattle.arrays.proofs.Every.{each, all}
@@ -17,7 +17,8 @@ use Rattle.codec.specs.declared.vint.VInts.{VInts}
 use Rattle.codec.specs.declared.vint.VInts.the-variants.{End, Broken}
 use Rattle.notefile.specs.Lists.{fullBlocks, tailSize, isFull, tailAt, tailFreqsAt, docValue, freqValue}
 use Rattle.notefile.specs.Conditions.{postingsRight}
-use Rattle.notefile.specs.Inner.Reads.{TailRead}
+use Rattle.notefile.specs.Inner.Reads.{docsOf, freqsOf, Sized, TailRead}
+use Rattle.notefile.proofs.Pairs.{new-docs, new-freqs, old-docs, old-freqs, two-still}
 use Rattle.notefile.specs.declared.part.Part.{Part}
 
 -- what an answer of the VInts says
@@ -110,3 +111,37 @@ module _ (file : List ℕ) (x : Part) {at : ℕ} (ea : at ≡ tailAt file x) whe
           docs-kept = docs-here;
           freqs-kept = λ i h. R2 .kept i (inl h);
         }
+
+-- the same of the block whose arrays they are written to, one after the other
+module _ (file : List ℕ) (x : Part) {at : ℕ} (ea : at ≡ tailAt file x) (inside : at ≤ x .end) {block : List (List ℕ)} (Z : Sized block)
+    {docs : List ℕ} {r : VInts} (R : VIntsRead file (x .end) at (tailSize x) (docsOf block) r docs) where
+  abbrev one : List (List ℕ)
+  one = set block 0 docs
+
+  freqs-same : freqsOf one ≡ freqsOf block
+  freqs-same = old-freqs block docs
+
+  pub freqs-fit : length (freqsOf one) ≡ 128
+  freqs-fit = ap length freqs-same ∙ Z .long-freqs
+
+  pub docs-broken-in : r ≡ Broken → TailRead file x (docsOf block) (freqsOf block) false (docsOf one) (freqsOf one)
+  docs-broken-in b = rw (new-docs block (Z .two) docs, freqs-same) (docs-broken file x ea inside R b)
+
+  module _ {middle : ℕ} (m : r ≡ End middle) {freqs : List ℕ} {r2 : VInts} (R2 : VIntsRead file (x .end) middle (tailSize x) (freqsOf one) r2 freqs) where
+    abbrev both : List (List ℕ)
+    both = set one 1 freqs
+
+    docs-are : docsOf both ≡ docs
+    docs-are = old-docs one freqs ∙ new-docs block (Z .two) docs
+
+    freqs-are : freqsOf both ≡ freqs
+    freqs-are = new-freqs one (two-still block (Z .two) 0 docs) freqs
+
+    second : VIntsRead file (x .end) middle (tailSize x) (freqsOf block) r2 freqs
+    second = rw freqs-same at R2
+
+    pub freqs-broken-in : r2 ≡ Broken → TailRead file x (docsOf block) (freqsOf block) false (docsOf both) (freqsOf both)
+    freqs-broken-in b = rw (docs-are, freqs-are) (freqs-broken file x ea inside R m second b)
+
+    pub filled-in : {last : ℕ} → r2 ≡ End last → TailRead file x (docsOf block) (freqsOf block) (eqb last (x .end)) (docsOf both) (freqsOf both)
+    filled-in l = rw (docs-are, freqs-are) (filled file x ea inside R m second l)

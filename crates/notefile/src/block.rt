@@ -18,10 +18,17 @@ ghost use Rattle.notefile.specs.Lists.{fullBlocks, previousDoc, tailAt};
 ghost use Rattle.notefile.specs.Conditions.{postingsRight};
 ghost use Rattle.notefile.specs.Inner.Structs.{skipEntryOf};
 ghost use Rattle.notefile.specs.Inner.Given.{BlockRight, PackedIn, Skipped};
-ghost use Rattle.notefile.specs.Inner.Reads.{DocsRead, FreqsRead, Loaded, Padded, TailRead};
+ghost use Rattle.notefile.specs.Inner.Reads.{docsOf, freqsOf, DocsRead, FreqsRead, Loaded, Padded, Sized, TailRead};
 
 // What stands for the document behind a list's last one.
 pub const TERMINATED: u32 = 2147483647;
+
+// A decoded block: its documents and its frequencies.
+pub type Block = [[u32; 128]; 2];
+
+pub const DOCS: usize = 0;
+
+pub const FREQS: usize = 1;
 
 // The documents of full block b, and whether row 7 lets them through.
 pub fn packed_docs(
@@ -65,25 +72,20 @@ pub fn packed_freqs(
 }
 
 // The values of the tail's VInts, and whether row 6 lets them through.
-pub fn read_tail(
-    file: &[u8],
-    x: Part,
-    at: usize,
-    docs: &mut [u32; 128],
-    freqs: &mut [u32; 128],
-) -> bool
-    requires { ⌜ Skipped (now file) x × (at ≡ tailAt (now file) x) × (length (now docs) ≡ 128) × (length (now freqs) ≡ 128) ⌝ }
-    ensures { λ r. ⌜ TailRead (before file) x (before docs) (before freqs) r (after docs) (after freqs) ⌝ }
+pub fn read_tail(file: &[u8], x: Part, at: usize, block: &mut Block) -> bool
+    requires { ⌜ Skipped (now file) x × (at ≡ tailAt (now file) x) × Sized (now block) ⌝ }
+    ensures { λ r.
+        ⌜ TailRead (before file) x (docsOf (before block)) (freqsOf (before block)) r (docsOf (after block)) (freqsOf (after block)) ⌝ }
 {
     if x.end < at {
         return false;
     }
     let n = x.count % 128;
-    let first = read_vints(file, x.end, at, n, docs);
+    let first = read_vints(file, x.end, at, n, &mut block[DOCS]);
     let VInts::End(middle) = first else {
         return false;
     };
-    let second = read_vints(file, x.end, middle, n, freqs);
+    let second = read_vints(file, x.end, middle, n, &mut block[FREQS]);
     let VInts::End(last) = second else {
         return false;
     };
@@ -103,51 +105,44 @@ pub fn pad(values: &mut [u32; 128], n: usize)
 }
 
 // An array of 128 has 128 places.
-pub fn places(values: &[u32; 128]) -> usize
+fn places(values: &[u32; 128]) -> usize
     ensures { λ r. ⌜ (r ≡ 128) × (length (before values) ≡ 128) ⌝ }
 {
     (&values[..]).len()
 }
 
-// Full block b of an accepted list, loaded. `previous` is the last document before it.
-pub fn load_packed(
-    file: &[u8],
-    x: Part,
-    b: usize,
-    at: usize,
-    previous: u32,
-    docs: &mut [u32; 128],
-    freqs: &mut [u32; 128],
-)
-    requires { ⌜ PackedIn (now file) x b at × BlockRight (now file) x b previous ⌝ }
-    ensures { λ _. ⌜ Loaded (before file) x b (after docs) (after freqs) ⌝ }
+// A block has two arrays of 128 places.
+pub fn sized(block: &Block) -> usize
+    ensures { λ r. ⌜ (r ≡ 2) × Sized (before block) ⌝ }
 {
-    places(docs);
-    places(freqs);
+    places(&block[DOCS]);
+    places(&block[FREQS]);
+    (&block[..]).len()
+}
+
+// Full block b of an accepted list, loaded. `previous` is the last document before it.
+pub fn load_packed(file: &[u8], x: Part, b: usize, at: usize, previous: u32, block: &mut Block)
+    requires { ⌜ PackedIn (now file) x b at × BlockRight (now file) x b previous ⌝ }
+    ensures { λ _. ⌜ Loaded (before file) x b (docsOf (after block)) (freqsOf (after block)) ⌝ }
+{
+    sized(block);
     let e = read_skip_entry(file, x, b);
-    unpack(file, at, e.doc_bits, docs);
-    sums(docs, e.strict, b == 0, previous);
-    packed_freqs(file, x, b, at, e, freqs);
+    unpack(file, at, e.doc_bits, &mut block[DOCS]);
+    sums(&mut block[DOCS], e.strict, b == 0, previous);
+    packed_freqs(file, x, b, at, e, &mut block[FREQS]);
 }
 
 // The tail of an accepted list, loaded.
-pub fn load_tail(
-    file: &[u8],
-    x: Part,
-    at: usize,
-    previous: u32,
-    docs: &mut [u32; 128],
-    freqs: &mut [u32; 128],
-)
+pub fn load_tail(file: &[u8], x: Part, at: usize, previous: u32, block: &mut Block)
     requires { ⌜ Skipped (now file) x × (at ≡ tailAt (now file) x) × (postingsRight (now file) x ≡ true)
         × BlockRight (now file) x (fullBlocks x) previous ⌝ }
-    ensures { λ _. ⌜ Loaded (before file) x (fullBlocks x) (after docs) (after freqs) ⌝ }
+    ensures { λ _. ⌜ Loaded (before file) x (fullBlocks x) (docsOf (after block)) (freqsOf (after block)) ⌝ }
 {
-    places(docs);
-    places(freqs);
+    sized(block);
     let n = x.count % 128;
-    read_tail(file, x, at, docs, freqs);
-    sums(docs, false, x.count / 128 == 0, previous);
-    pad(docs, n);
-    pad(freqs, n);
+    read_tail(file, x, at, block);
+    sized(block);
+    sums(&mut block[DOCS], false, x.count / 128 == 0, previous);
+    pad(&mut block[DOCS], n);
+    pad(&mut block[FREQS], n);
 }

@@ -28,12 +28,12 @@ use Rattle.plain_scan.proofs.Slots.{ok}
 use Rattle.plain_scan.proofs.Sums.{hit-is}
 
 module _ (scoring : Scoring) (file : List ℕ) (lists : List (List ℕ)) where
-  module _ (caches : List (List Float)) (h : Held) (p : Plain) (S : PlainStands scoring file lists caches h p) where
+  module _ (norms : List (List Float)) (h : Held) (p : Plain) (S : PlainStands scoring file lists norms h p) where
     pub places-read : PlaceRead (h .places) (p .len)
     places-read q l = let A = S .each q l .slot in cur-inside file (getD lists q []) (getD (h .places) q []) (A .list) (A .place)
 
     -- the heads that are read name where the scorers stand
-    pub with-heads : {heads : List ℕ} → HeadsOf (h .places) (h .docs) (p .len) heads → Standing scoring file lists (p .len) (p .doc) h heads
+    pub with-heads : {heads : List ℕ} → HeadsOf (h .places) (h .blocks) (p .len) heads → Standing scoring file lists (p .len) (p .doc) h heads
     with-heads {heads} E = record {
       long = E .long;
       each = λ q l.
@@ -59,7 +59,7 @@ module _ (scoring : Scoring) (file query : List ℕ) (a : Tables) (scorers : Lis
       }
 
   -- lists as `open_lists` leaves them stand at document 0
-  pub scan-begins : length query ≤ 16 → (all : Bool) → PlainStands scoring file (a .lists) (a .caches) (a .held) (record { len = length query; all = all; doc = 0 })
+  pub scan-begins : length query ≤ 16 → (all : Bool) → PlainStands scoring file (a .lists) (a .norms) (a .held) (record { len = length query; all = all; doc = 0 })
   scan-begins few all = record { few = few; cap = omega arith; weighed = λ q l. Q .open-slots q l .fresh .weighed; each = rests }
 
   as-many : (numbers : List ℕ) → length (queried scoring file numbers) ≡ length numbers

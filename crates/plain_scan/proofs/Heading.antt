@@ -8,15 +8,16 @@ use native.Mathlib.Omega.{arith}
 use lib.ListN.{getD, set, length-set}
 use lib.Seq.{getD-set-same, getD-set-other}
 use Rattle.arrays.proofs.Order.{lt-or-ge}
+use Rattle.notefile.specs.Inner.Reads.{docsOf}
 use Rattle.term_scorer.specs.Inner.Slots.{Sixteen, Blank}
 use Rattle.plain_scan.specs.Inner.Heads.{leastIn, HeadsOf}
 
-pub no-heads : (places docs : List (List ℕ)) (heads : List ℕ) → Sixteen heads → Blank 2147483647 0 heads → HeadsOf places docs 0 heads
-no-heads places docs heads l b = record { long = l; are = λ q h. absurd (omega (arith, h)); behind = b }
+pub no-heads : (places : List (List ℕ)) (blocks : List (List (List ℕ))) (heads : List ℕ) → Sixteen heads → Blank 2147483647 0 heads → HeadsOf places blocks 0 heads
+no-heads places blocks heads l b = record { long = l; are = λ q h. absurd (omega (arith, h)); behind = b }
 
-pub one-more-head : (places docs : List (List ℕ)) (heads : List ℕ) (n : ℕ) → n < 16 → HeadsOf places docs n heads
-    → {doc : ℕ} → doc ≡ getD (getD docs n []) (getD (getD places n []) 6 0) 0 → HeadsOf places docs (n + 1) (set heads n doc)
-one-more-head places docs heads n h H {doc} is = record {
+pub one-more-head : (places : List (List ℕ)) (blocks : List (List (List ℕ))) (heads : List ℕ) (n : ℕ) → n < 16 → HeadsOf places blocks n heads
+    → {doc : ℕ} → doc ≡ getD (docsOf (getD blocks n [])) (getD (getD places n []) 6 0) 0 → HeadsOf places blocks (n + 1) (set heads n doc)
+one-more-head places blocks heads n h H {doc} is = record {
   long = length-set heads n doc ∙ H .long;
   are = λ q k. elim (lt-or-ge q n) [
     | inl l ↦ getD-set-other heads n q _ 0 (λ e. omega (arith, e, l)) ∙ H .are q l

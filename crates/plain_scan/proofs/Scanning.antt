@@ -152,10 +152,10 @@ module _ (scoring : Scoring) (file : List ℕ) (lists : List (List ℕ)) (n : �
       (N, stops-paused N (omega arith) refl)
 
 -- a scan that stands still
-pub gone-on : (scoring : Scoring) (file : List ℕ) (lists : List (List ℕ)) (caches : List (List Float)) {h : Held} (p : Plain) → PlainStands scoring file lists caches h p
+pub gone-on : (scoring : Scoring) (file : List ℕ) (lists : List (List ℕ)) (norms : List (List Float)) {h : Held} (p : Plain) → PlainStands scoring file lists norms h p
     → {t : Float} {turns d taken : ℕ} {h′ : Held} {heads′ : List ℕ} {event : Event} → Standing scoring file lists (p .len) d h′ heads′ → d ≤ TERMINATED
     → Went (scanTurn (hitsOf scoring file lists (p .len) (p .all))) (leb TERMINATED) t (p .doc) turns taken d event
-    → {r : Gone} → r ≡ goneTo (p .len) (p .all) d taken event → GoneOn scoring file lists caches t turns p h′ r
-gone-on scoring file lists caches p P {t} {turns} {h′ = h′} S c w e =
-    subst (GoneOn scoring file lists caches t turns p h′) (sym e)
+    → {r : Gone} → r ≡ goneTo (p .len) (p .all) d taken event → GoneOn scoring file lists norms t turns p h′ r
+gone-on scoring file lists norms p P {t} {turns} {h′ = h′} S c w e =
+    subst (GoneOn scoring file lists norms t turns p h′) (sym e)
     (record { stands = record { few = P .few; cap = c; weighed = P .weighed; each = at-rest scoring file lists S }; len-is = refl; all-is = refl; went = w })

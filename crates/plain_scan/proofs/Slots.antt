@@ -101,7 +101,7 @@ module _ (scoring : Scoring) (file : List ℕ) (lists : List (List ℕ)) where
           let s = A .slot .sixteen in
           record {
             slot = record {
-              sixteen = (ap length (M .places-only) ∙ length-set (h .places) q _ ∙ s .0, ap length (M .docs-only) ∙ length-set (h .docs) q _ ∙ s .1, ap length (M .freqs-only) ∙ length-set (h .freqs) q _ ∙ s .2);
+              sixteen = (ap length (M .places-only) ∙ length-set (h .places) q _ ∙ s .0, ap length (M .blocks-only) ∙ length-set (h .blocks) q _ ∙ s .1);
               part-row = A .slot .part-row;
               list = A .slot .list;
               place = M .moved .place;
@@ -120,16 +120,15 @@ module _ (scoring : Scoring) (file : List ℕ) (lists : List (List ℕ)) where
     pub unmoved : {p : ℕ} → (q ≡ p → ⊥) → {to : Scoring → Cursor} {h′ : Held} {doc : ℕ} → MovedSlot file lists p to h h′ doc → StandsFrom scoring file lists d h′ (set heads p doc) q
     unmoved {p} ne {h′ = h′} {doc = doc} M =
         let ep = ap (λ (z : List (List ℕ)). getD z q []) (M .places-only) ∙ getD-set-other (h .places) p q _ [] ne in
-        let ed = ap (λ (z : List (List ℕ)). getD z q []) (M .docs-only) ∙ getD-set-other (h .docs) p q _ [] ne in
-        let ef = ap (λ (z : List (List ℕ)). getD z q []) (M .freqs-only) ∙ getD-set-other (h .freqs) p q _ [] ne in
+        let eb = ap (λ (z : List (List (List ℕ))). getD z q []) (M .blocks-only) ∙ getD-set-other (h .blocks) p q _ [] ne in
         let eh = getD-set-other heads p q doc 0 ne in
         let s = A .slot .sixteen in
         record {
           slot = record {
-            sixteen = (ap length (M .places-only) ∙ length-set (h .places) p _ ∙ s .0, ap length (M .docs-only) ∙ length-set (h .docs) p _ ∙ s .1, ap length (M .freqs-only) ∙ length-set (h .freqs) p _ ∙ s .2);
+            sixteen = (ap length (M .places-only) ∙ length-set (h .places) p _ ∙ s .0, ap length (M .blocks-only) ∙ length-set (h .blocks) p _ ∙ s .1);
             part-row = A .slot .part-row;
             list = A .slot .list;
-            place = rw (ep, ed, ef) (A .slot .place);
+            place = rw (ep, eb) (A .slot .place);
           };
           wf = rw ep (A .wf);
           past = rw ep (A .past);

@@ -1,8 +1,9 @@
 // The plain scan: every document that some list has, upward, with the scores of all lists that have it.
 use notefile::block::TERMINATED;
 use reports::Event;
+use slot_rows::place::Blocks;
 use slot_rows::place::Places;
-use term_scorer::score::Similarity;
+use term_scorer::score::Leg;
 use term_scorer::score::score;
 use term_scorer::slot;
 ghost use mathlib.Core.Path.{_≡_};
@@ -71,14 +72,14 @@ impl Found {
 }
 
 // The documents on which the first n scorers stand.
-fn heads_of(n: usize, places: &Places, docs: &[[u32; 128]; 16]) -> [u32; 16]
+fn heads_of(n: usize, places: &Places, blocks: &Blocks) -> [u32; 16]
     requires { ⌜ (n ≤ 16) × PlaceRead (now places) n ⌝ }
-    ensures { λ r. ⌜ HeadsOf (before places) (before docs) n r ⌝ }
+    ensures { λ r. ⌜ HeadsOf (before places) (before blocks) n r ⌝ }
 {
     let mut heads = [TERMINATED; 16];
     let mut q = 0usize;
     while q < n {
-        heads[q] = slot::doc(q, places, docs);
+        heads[q] = slot::doc(q, places, blocks);
         q += 1;
     }
     heads
@@ -104,23 +105,23 @@ fn least(heads: &[u32; 16], n: usize) -> u32
 // What the lists have of document doc, in slot order. Each scorer that stands on it goes on.
 fn take_document(
     file: &[u8],
-    similarity: Similarity,
+    leg: Leg,
     lists: &[[usize; 8]; 16],
-    caches: &[[f32; 256]; 16],
+    norms: &[[f32; 256]; 16],
     n: usize,
     doc: u32,
     heads: &mut [u32; 16],
     places: &mut Places,
-    docs: &mut [[u32; 128]; 16],
-    freqs: &mut [[u32; 128]; 16],
+    blocks: &mut Blocks,
 ) -> Found
-    requires { let slots = held (now places) (now docs) (now freqs) in
-        ⌜ (n ≤ 16) × (similarity .norms ≡ normReader (now file)) × AllWeighed (now lists) (now caches) n
-        × Standing (similarity .scoring) (now file) (now lists) n doc slots (now heads) × (doc < 2147483647) ⌝ }
+    requires { let slots = held (now places) (now blocks) in
+        ⌜ (n ≤ 16) × (leg .similarity .norms ≡ normReader (now file)) × AllWeighed (now lists) (now norms) n
+        × Standing (leg .similarity .scoring) (now file) (now lists) n doc slots (now heads) × (doc < 2147483647) ⌝ }
     ensures { λ r.
-        let new = held (after places) (after docs) (after freqs) in
-        ⌜ Taken (similarity .scoring) (before file) (before lists) n doc r new (after heads) ⌝ }
+        let new = held (after places) (after blocks) in
+        ⌜ Taken (leg .similarity .scoring) (before file) (before lists) n doc r new (after heads) ⌝ }
 {
+    let similarity = leg.similarity;
     let mut found = Found {
         matched: 0,
         total: 0.0,
@@ -130,19 +131,9 @@ fn take_document(
         let at = q;
         q += 1;
         if heads[at] == doc {
-            let value = score(
-                file,
-                similarity,
-                lists,
-                caches,
-                at,
-                doc,
-                places,
-                docs,
-                freqs,
-            );
+            let value = score(file, similarity, lists, norms, at, doc, places, blocks);
             found = found.with(value);
-            heads[at] = slot::advance(file, lists, at, places, docs, freqs);
+            heads[at] = slot::advance(file, lists, at, places, blocks);
         }
     }
     found
@@ -163,26 +154,24 @@ fn stand(len: usize, all: bool, doc: u32, taken: usize, event: Event) -> Gone
 // A turn looks at one document; those before the least on which a scorer stands are in no list.
 pub fn go(
     file: &[u8],
-    similarity: Similarity,
+    leg: Leg,
     plain: Plain,
     lists: &[[usize; 8]; 16],
-    caches: &[[f32; 256]; 16],
-    threshold: f32,
-    turns: usize,
+    norms: &[[f32; 256]; 16],
     places: &mut Places,
-    docs: &mut [[u32; 128]; 16],
-    freqs: &mut [[u32; 128]; 16],
+    blocks: &mut Blocks,
 ) -> Gone
-    requires { let slots = held (now places) (now docs) (now freqs) in
-        ⌜ (similarity .norms ≡ normReader (now file))
-        × PlainStands (similarity .scoring) (now file) (now lists) (now caches) slots plain ⌝ }
+    requires { let slots = held (now places) (now blocks) in
+        ⌜ (leg .similarity .norms ≡ normReader (now file))
+        × PlainStands (leg .similarity .scoring) (now file) (now lists) (now norms) slots plain ⌝ }
     ensures { λ r.
-        let new = held (after places) (after docs) (after freqs) in
-        ⌜ GoneOn (similarity .scoring) (before file) (before lists) (before caches) threshold turns plain new r ⌝ }
+        let new = held (after places) (after blocks) in
+        ⌜ GoneOn (leg .similarity .scoring) (before file) (before lists) (before norms) (leg .threshold) (leg .turns) plain new r ⌝ }
 {
+    let turns = leg.turns;
     let n = plain.len;
     let all = plain.all;
-    let mut heads = heads_of(n, places, docs);
+    let mut heads = heads_of(n, places, blocks);
     let mut at = plain.doc;
     let mut taken = 0usize;
     loop {
@@ -200,21 +189,10 @@ pub fn go(
         if taken == turns {
             return stand(n, all, doc, taken, Event::Paused);
         }
-        let found = take_document(
-            file,
-            similarity,
-            lists,
-            caches,
-            n,
-            doc,
-            &mut heads,
-            places,
-            docs,
-            freqs,
-        );
+        let found = take_document(file, leg, lists, norms, n, doc, &mut heads, places, blocks);
         taken += 1;
         at = doc + 1;
-        if found.due(all, n, threshold) {
+        if found.due(all, n, leg.threshold) {
             return stand(n, all, at, taken, Event::Report(doc, found.total));
         }
     }

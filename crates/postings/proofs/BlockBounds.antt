@@ -25,7 +25,7 @@ use Rattle.bm25_block.specs.Inner.Block.{Scored}
 use Rattle.notefile.specs.Header.{normReader}
 use Rattle.notefile.specs.Lists.{fullBlocks, blockScore, listScore}
 use Rattle.notefile.specs.Inner.Given.{WeightIn}
-use Rattle.notefile.specs.Inner.Reads.{scoreAmong}
+use Rattle.notefile.specs.Inner.Reads.{docsOf, freqsOf, scoreAmong}
 use Rattle.notefile.specs.declared.part.Part.{Part}
 use Rattle.notefile.proofs.Scores.{score-of-doc, list-bound-by, block-bound-by}
 use Rattle.decoded.specs.Lists.{listOf}
@@ -76,9 +76,9 @@ route-most l zero p most = refl
 route-most l (suc n) p most = route-most l n (suc p) (larger most (l .score p))
 
 -- the scores of a decoded block are the list's
-module _ (scoring : Scoring) {file : List ℕ} {x : Part} {b : ℕ} {docs freqs : List ℕ} (D : Decoded file x b docs freqs) where
+module _ (scoring : Scoring) {file : List ℕ} {x : Part} {b : ℕ} {block : List (List ℕ)} (D : Decoded file x b block) where
   abbrev score : ℕ → Float
-  score i = scored scoring (scoreAmong file x docs freqs i)
+  score i = scored scoring (scoreAmong file x (docsOf block) (freqsOf block) i)
 
   pub score-at : (i : ℕ) → i < 128 → start 128 b + i < x .count → score i ≡ scored scoring (listScore file x (start 128 b + i))
   unfolding blockScore
@@ -128,6 +128,6 @@ module _ (file : List ℕ) (x : Part) (w : Bm25Weight) (W : WeightIn x w) (bytes
       unfolding listOf cursorOf
       unloaded-bound l e = e ∙ rw (list-bound-by x w W, le-ltb b (fullBlocks x) h, l)
 
-      pub loaded-bound : p .«block_loaded» ≡ true → {docs freqs : List ℕ} → Decoded file x b docs freqs → {n : ℕ} → n ≡ remaining x b → {r : Float} → r ≡ mostOf (λ i. scored scoring (scoreAmong file x docs freqs i)) n → r ≡ blockMax 128 f32 (listOf scoring file x) (cursorOf p)
+      pub loaded-bound : p .«block_loaded» ≡ true → {block : List (List ℕ)} → Decoded file x b block → {n : ℕ} → n ≡ remaining x b → {r : Float} → r ≡ mostOf (λ i. scored scoring (scoreAmong file x (docsOf block) (freqsOf block) i)) n → r ≡ blockMax 128 f32 (listOf scoring file x) (cursorOf p)
       unfolding listOf cursorOf
       loaded-bound l D {n} k e = e ∙ rw (le-ltb b (fullBlocks x) h, l) (tail-most scoring D h n k)

@@ -17,6 +17,7 @@ use Rattle.route.specs.Postings.{Postings, start, docAt, lastDoc as endOf}
 use Rattle.route.specs.Cursor.{Cursor, fresh, findIn, skipTo, seekBlockIn, loadAt, seekIn, advanceIn}
 use Rattle.bm25.specs.declared.Scoring.{Scoring}
 use Rattle.bm25.specs.declared.Scoring.the-variants.{Unstepped}
+use Rattle.notefile.specs.Inner.Reads.{docsOf}
 use Rattle.notefile.specs.Lists.{fullBlocks}
 use Rattle.notefile.specs.declared.part.Part.{Part}
 use Rattle.notefile.proofs.ListLaws.{last-is}
@@ -47,24 +48,24 @@ module _ (l : Postings Float) (t : ℕ) where
   ]
 
 -- a decoded block's documents are the route's
-module _ {file : List ℕ} {x : Part} {b : ℕ} {docs freqs : List ℕ} (D : Decoded file x b docs freqs) (scoring : Scoring) where
-  doc-at : (i : ℕ) → i < 128 → docAt (listOf scoring file x) (start 128 b + i) ≡ getD docs i 0
+module _ {file : List ℕ} {x : Part} {b : ℕ} {block : List (List ℕ)} (D : Decoded file x b block) (scoring : Scoring) where
+  doc-at : (i : ℕ) → i < 128 → docAt (listOf scoring file x) (start 128 b + i) ≡ getD (docsOf block) i 0
   doc-at i h = doc-is file x scoring (start 128 b + i) ∙ sym (D .docs-are .at i h)
 
-pub doc-here : (p : SegmentPostings) (docs : List ℕ) → Here p docs (getD docs (p .cur) 0)
+pub doc-here : (p : SegmentPostings) (block : List (List ℕ)) → Here p block (getD (docsOf block) (p .cur) 0)
 unfolding cursorOf
-doc-here p docs file x freqs P s = sym (doc-at (P .holds) s (p .cur) (P .inside))
+doc-here p block file x P s = sym (doc-at (P .holds) s (p .cur) (P .inside))
 
 -- the search in a block finds the route's place
-module _ {file : List ℕ} {x : Part} (L : ListIn file x) {b : ℕ} {docs freqs : List ℕ} (D : Decoded file x b docs freqs) (t : ℕ) (scoring : Scoring) where
+module _ {file : List ℕ} {x : Part} (L : ListIn file x) {b : ℕ} {block : List (List ℕ)} (D : Decoded file x b block) (t : ℕ) (scoring : Scoring) where
   abbrev below : ℕ
-  below = countBelow 128 docs t
+  below = countBelow 128 (docsOf block) t
 
   test-is : (i : ℕ) → i < 128 → ltb (docAt (listOf scoring file x) (start 128 b + i)) t ≡ ltb i below
-  test-is i h = ap (λ (z : ℕ). ltb z t) (doc-at D scoring i h) ∙ place-test docs (decoded-sorted L D) t i h
+  test-is i h = ap (λ (z : ℕ). ltb z t) (doc-at D scoring i h) ∙ place-test (docsOf block) (decoded-sorted L D) t i h
 
   finds : (n i : ℕ) → i + n ≡ 128 → i ≤ below → findIn (listOf scoring file x) t n (start 128 b + i) ≡ start 128 b + below
-  finds zero i e h = ap (λ (z : ℕ). start 128 b + z) (omega (arith, at-most docs (decoded-sorted L D) t))
+  finds zero i e h = ap (λ (z : ℕ). start 128 b + z) (omega (arith, at-most (docsOf block) (decoded-sorted L D) t))
   finds (suc n) i e h = elim (lt-or-ge i below) [
     | inl g ↦ rw (test-is i (omega arith), lt-ltb i below g) (rw (shift (start 128 b) i) (finds n (suc i) (omega arith) g))
     | inr g ↦ rw (test-is i (omega arith), le-ltb i below g) (ap (λ (z : ℕ). start 128 b + z) (omega arith))
@@ -77,7 +78,7 @@ module _ {file : List ℕ} {x : Part} (L : ListIn file x) {b : ℕ} {docs freqs 
   find-is = subst (λ (z : ℕ). findIn (listOf scoring file x) t 128 z ≡ start 128 b + below) (add-zero (start 128 b)) (finds 128 0 refl (omega arith))
 
 -- the first posting
-pub opened : (file : List ℕ) (x : Part) {r : SkipReader} → r ≡ readerAt file x 0 → {docs freqs : List ℕ} → Decoded file x (r .block) docs freqs → Moved file x (λ _. fresh) (record { «skip_reader» = r; «block_loaded» = true; decoded = 0; cur = 0 }) docs freqs
+pub opened : (file : List ℕ) (x : Part) {r : SkipReader} → r ≡ readerAt file x 0 → {block : List (List ℕ)} → Decoded file x (r .block) block → Moved file x (λ _. fresh) (record { «skip_reader» = r; «block_loaded» = true; decoded = 0; cur = 0 }) block
 unfolding cursorOf start
 opened file x {r} e D =
     let n = block-is file x 0 e in
@@ -97,11 +98,11 @@ module _ (file : List ℕ) (x : Part) (L : ListIn file x) (p : SegmentPostings) 
   module _ (t : ℕ) where
     pub stays : t ≤ reader .«last_doc_in_block» → Shallow file x (λ s. seekBlockIn (listOf s file x) 128 t (cursorOf p)) p p
     unfolding cursorOf
-    stays h docs freqs P = record { cursor-is = λ s. sym (rw (end-here s, le-ltb (reader .«last_doc_in_block») t h)); placed = P }
+    stays h block P = record { cursor-is = λ s. sym (rw (end-here s, le-ltb (reader .«last_doc_in_block») t h)); placed = P }
 
     pub skips : reader .«last_doc_in_block» < t → {r : SkipReader} → Sought file x t (reader .block) r → Shallow file x (λ s. seekBlockIn (listOf s file x) 128 t (cursorOf p)) p (record { «skip_reader» = r; «block_loaded» = false; decoded = p .decoded; cur = p .cur })
     unfolding cursorOf listOf
-    skips h {r} K docs freqs P =
+    skips h {r} K block P =
         let n = block-is file x _ (K Unstepped) in
         record {
           cursor-is = λ s. rw (end-here s, lt-ltb (reader .«last_doc_in_block») t h, block-is file x _ (K s));
@@ -127,14 +128,14 @@ module _ {file : List ℕ} {x : Part} (L : ListIn file x) where
   ]
 
   -- so the search stops in the block
-  stops : {b t : ℕ} {docs freqs : List ℕ} → Decoded file x b docs freqs → t ≤ lastIn file x b → countBelow 128 docs t < 128
-  stops {b} {t} {docs} D h = elim (lt-or-ge 127 (countBelow 128 docs t)) [
-    | inl g ↦ absurd (true≢false (sym (place-test docs (decoded-sorted L D) t 127 (omega arith) ∙ lt-ltb 127 _ g) ∙ le-ltb (getD docs 127 0) t (rw (D .docs-are .at 127 (omega arith), last-doc b) h)))
+  stops : {b t : ℕ} {block : List (List ℕ)} → Decoded file x b block → t ≤ lastIn file x b → countBelow 128 (docsOf block) t < 128
+  stops {b} {t} {block} D h = elim (lt-or-ge 127 (countBelow 128 (docsOf block) t)) [
+    | inl g ↦ absurd (true≢false (sym (place-test (docsOf block) (decoded-sorted L D) t 127 (omega arith) ∙ lt-ltb 127 _ g) ∙ le-ltb (getD (docsOf block) 127 0) t (rw (D .docs-are .at 127 (omega arith), last-doc b) h)))
     | inr g ↦ omega arith
   ]
 
-  pub lands : (p : SegmentPostings) {d f : List ℕ} → Placed file x p d f → {docs freqs : List ℕ} → Decoded file x (p .«skip_reader» .block) docs freqs → (t : ℕ) → t ≤ p .«skip_reader» .«last_doc_in_block» → {cur : ℕ} → cur ≡ countBelow 128 docs t
-      → Moved file x (λ s. loadAt (listOf s file x) 128 t (p .«skip_reader» .block)) (record { «skip_reader» = p .«skip_reader»; «block_loaded» = true; decoded = p .«skip_reader» .block; cur = cur }) docs freqs
+  pub lands : (p : SegmentPostings) {before : List (List ℕ)} → Placed file x p before → {block : List (List ℕ)} → Decoded file x (p .«skip_reader» .block) block → (t : ℕ) → t ≤ p .«skip_reader» .«last_doc_in_block» → {cur : ℕ} → cur ≡ countBelow 128 (docsOf block) t
+      → Moved file x (λ s. loadAt (listOf s file x) 128 t (p .«skip_reader» .block)) (record { «skip_reader» = p .«skip_reader»; «block_loaded» = true; decoded = p .«skip_reader» .block; cur = cur }) block
   unfolding cursorOf
   lands p P D t h e =
       let k : t ≤ lastIn file x (p .«skip_reader» .block) = rw (last-here file x (p .«skip_reader») (P .stands)) at h in
@@ -150,7 +151,7 @@ seek-covers l t k c = elim (lt-or-ge (endOf l 128 (c .blk)) t) [
   | inr g ↦ rw (le-ltb (endOf l 128 (c .blk)) t g) g
 ]
 
-module _ {file : List ℕ} {x : Part} (L : ListIn file x) (p : SegmentPostings) {docs freqs : List ℕ} (P : Placed file x p docs freqs) where
+module _ {file : List ℕ} {x : Part} (L : ListIn file x) (p : SegmentPostings) {block : List (List ℕ)} (P : Placed file x p block) where
   module _ (t : ℕ) where
     abbrev sought : Scoring → Cursor
     sought s = seekIn (listOf s file x) 128 t (cursorOf p)
@@ -158,26 +159,26 @@ module _ {file : List ℕ} {x : Part} (L : ListIn file x) (p : SegmentPostings) 
     abbrev shallow : Scoring → Cursor
     shallow s = seekBlockIn (listOf s file x) 128 t (cursorOf p)
 
-    pub sought-here : t ≤ getD docs (p .cur) 0 → Moved file x sought p docs freqs
+    pub sought-here : t ≤ getD (docsOf block) (p .cur) 0 → Moved file x sought p block
     unfolding cursorOf
-    sought-here h = record { cursor-is = λ s. sym (rw (doc-at (P .holds) s (p .cur) (P .inside), le-leb t (getD docs (p .cur) 0) h)); placed = P }
+    sought-here h = record { cursor-is = λ s. sym (rw (doc-at (P .holds) s (p .cur) (P .inside), le-leb t (getD (docsOf block) (p .cur) 0) h)); placed = P }
 
-    module _ (h : getD docs (p .cur) 0 < t) {next : ℕ} (e : next ≡ min (suc (p .cur)) 127) (i : next < 128) where
+    module _ (h : getD (docsOf block) (p .cur) 0 < t) {next : ℕ} (e : next ≡ min (suc (p .cur)) 127) (i : next < 128) where
       next-is : min (suc (start 128 (p .decoded) + p .cur)) (start 128 (p .decoded) + 127) ≡ start 128 (p .decoded) + next
       next-is = omega arith
 
-      pub sought-next : t ≤ getD docs next 0 → Moved file x sought (record { «skip_reader» = p .«skip_reader»; «block_loaded» = p .«block_loaded»; decoded = p .decoded; cur = next }) docs freqs
+      pub sought-next : t ≤ getD (docsOf block) next 0 → Moved file x sought (record { «skip_reader» = p .«skip_reader»; «block_loaded» = p .«block_loaded»; decoded = p .decoded; cur = next }) block
       unfolding cursorOf
       sought-next k = record {
-        cursor-is = λ s. sym (rw (doc-at (P .holds) s (p .cur) (P .inside), lt-leb t (getD docs (p .cur) 0) h, next-is, doc-at (P .holds) s next i, le-leb t (getD docs next 0) k));
+        cursor-is = λ s. sym (rw (doc-at (P .holds) s (p .cur) (P .inside), lt-leb t (getD (docsOf block) (p .cur) 0) h, next-is, doc-at (P .holds) s next i, le-leb t (getD (docsOf block) next 0) k));
         placed = record { stands = P .stands; low = P .low; holds = P .holds; inside = i; loaded-is = P .loaded-is };
       }
 
-      far : getD docs next 0 < t → (s : Scoring) → sought s ≡ loadAt (listOf s file x) 128 t (shallow s .blk)
+      far : getD (docsOf block) next 0 < t → (s : Scoring) → sought s ≡ loadAt (listOf s file x) 128 t (shallow s .blk)
       unfolding cursorOf
-      far k s = rw (doc-at (P .holds) s (p .cur) (P .inside), lt-leb t (getD docs (p .cur) 0) h, next-is, doc-at (P .holds) s next i, lt-leb t (getD docs next 0) k)
+      far k s = rw (doc-at (P .holds) s (p .cur) (P .inside), lt-leb t (getD (docsOf block) (p .cur) 0) h, next-is, doc-at (P .holds) s next i, lt-leb t (getD (docsOf block) next 0) k)
 
-      module _ {q : SegmentPostings} (Q : Moved file x shallow q docs freqs) where
+      module _ {q : SegmentPostings} (Q : Moved file x shallow q block) where
         block-found : (s : Scoring) → q .«skip_reader» .block ≡ shallow s .blk
         unfolding cursorOf
         block-found s = ap (λ (c : Cursor). c .blk) (Q .cursor-is s)
@@ -185,28 +186,28 @@ module _ {file : List ℕ} {x : Part} (L : ListIn file x) (p : SegmentPostings) 
         pub reaches : t ≤ 2147483647 → t ≤ q .«skip_reader» .«last_doc_in_block»
         reaches k = subst (λ (z : ℕ). t ≤ z) (ap (endOf (listOf Unstepped file x) 128) (sym (block-found Unstepped)) ∙ end-here file x L q (Q .placed .stands) Unstepped) (seek-covers (listOf Unstepped file x) t k (cursorOf p))
 
-        pub sought-far : getD docs next 0 < t → {r : SegmentPostings} {docs′ freqs′ : List ℕ} → Moved file x (λ s. loadAt (listOf s file x) 128 t (q .«skip_reader» .block)) r docs′ freqs′ → Moved file x sought r docs′ freqs′
+        pub sought-far : getD (docsOf block) next 0 < t → {r : SegmentPostings} {block′ : List (List ℕ)} → Moved file x (λ s. loadAt (listOf s file x) 128 t (q .«skip_reader» .block)) r block′ → Moved file x sought r block′
         sought-far k M = record {
           cursor-is = λ s. M .cursor-is s ∙ ap (loadAt (listOf s file x) 128 t) (block-found s) ∙ sym (far k s);
           placed = M .placed;
         }
 
       -- the target is in the block, which is loaded
-      pub sought-within : p .«block_loaded» ≡ true → getD docs next 0 < t → t ≤ p .«skip_reader» .«last_doc_in_block» → {cur : ℕ} → cur ≡ countBelow 128 docs t
-          → Moved file x sought (record { «skip_reader» = p .«skip_reader»; «block_loaded» = p .«block_loaded»; decoded = p .decoded; cur = cur }) docs freqs
+      pub sought-within : p .«block_loaded» ≡ true → getD (docsOf block) next 0 < t → t ≤ p .«skip_reader» .«last_doc_in_block» → {cur : ℕ} → cur ≡ countBelow 128 (docsOf block) t
+          → Moved file x sought (record { «skip_reader» = p .«skip_reader»; «block_loaded» = p .«block_loaded»; decoded = p .decoded; cur = cur }) block
       sought-within on k r {cur} c =
           let d = P .loaded-is on in
-          let D : Decoded file x (p .«skip_reader» .block) docs freqs = subst (λ (b : ℕ). Decoded file x b docs freqs) d (P .holds) in
-          subst (λ (q : SegmentPostings). Moved file x sought q docs freqs)
+          let D : Decoded file x (p .«skip_reader» .block) block = subst (λ (b : ℕ). Decoded file x b block) d (P .holds) in
+          subst (λ (q : SegmentPostings). Moved file x sought q block)
           (ap (λ (z : Bool). record { «skip_reader» = p .«skip_reader»; «block_loaded» = z; decoded = p .«skip_reader» .block; cur = cur }) (sym on)
           ∙ ap (λ (z : ℕ). record { «skip_reader» = p .«skip_reader»; «block_loaded» = p .«block_loaded»; decoded = z; cur = cur }) (sym d))
-          (sought-far (stays file x L p (P .stands) t r docs freqs P) k (lands L p P D t r c))
+          (sought-far (stays file x L p (P .stands) t r block P) k (lands L p P D t r c))
 
   -- the next posting
   abbrev advanced : Scoring → Cursor
   advanced s = advanceIn (listOf s file x) 128 (cursorOf p)
 
-  pub advanced-in : (p .cur ≡ 127 → ⊥) → Moved file x advanced (record { «skip_reader» = p .«skip_reader»; «block_loaded» = p .«block_loaded»; decoded = p .decoded; cur = p .cur + 1 }) docs freqs
+  pub advanced-in : (p .cur ≡ 127 → ⊥) → Moved file x advanced (record { «skip_reader» = p .«skip_reader»; «block_loaded» = p .«block_loaded»; decoded = p .decoded; cur = p .cur + 1 }) block
   unfolding cursorOf
   advanced-in h = record {
     cursor-is = λ s. sym (rw (ne-eqb (start 128 (p .decoded) + p .cur) (start 128 (p .decoded) + 127) (λ q. h (omega arith)), step));
@@ -222,7 +223,7 @@ module _ {file : List ℕ} {x : Part} (L : ListIn file x) (p : SegmentPostings) 
         | inr g ↦ absurd (h (omega arith))
       ]
 
-  pub advanced-on : p .cur ≡ 127 → p .«skip_reader» .block ≤ fullBlocks x → {r : SkipReader} → r ≡ readerAt file x (suc (p .«skip_reader» .block)) → {docs′ freqs′ : List ℕ} → Decoded file x (r .block) docs′ freqs′ → Moved file x advanced (record { «skip_reader» = r; «block_loaded» = true; decoded = r .block; cur = 0 }) docs′ freqs′
+  pub advanced-on : p .cur ≡ 127 → p .«skip_reader» .block ≤ fullBlocks x → {r : SkipReader} → r ≡ readerAt file x (suc (p .«skip_reader» .block)) → {block′ : List (List ℕ)} → Decoded file x (r .block) block′ → Moved file x advanced (record { «skip_reader» = r; «block_loaded» = true; decoded = r .block; cur = 0 }) block′
   unfolding cursorOf
   advanced-on h low {r} e D =
       let n = block-is file x (suc (p .«skip_reader» .block)) e in

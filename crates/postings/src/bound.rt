@@ -3,6 +3,9 @@ use crate::cursor::SegmentPostings;
 use bm25::Bm25Weight;
 use bm25::Scoring;
 use fieldnorm::FieldNormReader;
+use notefile::block::Block;
+use notefile::block::DOCS;
+use notefile::block::FREQS;
 use notefile::block::TERMINATED;
 use notefile::part::Part;
 use notefile::skip::read_skip_entry;
@@ -19,7 +22,7 @@ ghost use Rattle.bm25_block.specs.Inner.Codes.{Below};
 ghost use Rattle.notefile.specs.Header.{normReader};
 ghost use Rattle.notefile.specs.Lists.{fullBlocks};
 ghost use Rattle.notefile.specs.Inner.Given.{WeightIn};
-ghost use Rattle.notefile.specs.Inner.Reads.{scoreAmong};
+ghost use Rattle.notefile.specs.Inner.Reads.{docsOf, freqsOf, scoreAmong};
 ghost use Rattle.decoded.specs.Lists.{listOf};
 ghost use Rattle.postings.specs.Inner.Bounds.{BoundsAhead, mostOf};
 ghost use Rattle.skip_reader.specs.Inner.Decoded.{ListIn};
@@ -50,11 +53,10 @@ fn tail_max_score(
     w: Bm25Weight,
     scoring: Scoring,
     n: usize,
-    docs: &[u32; 128],
-    freqs: &[u32; 128],
+    block: &Block,
 ) -> f32
-    requires { ⌜ (norms ≡ normReader (now file)) × WeightIn x w × (n ≤ 128) × Below 2147483648 (now docs) ⌝ }
-    ensures { λ r. ⌜ r ≡ mostOf (λ i. scored scoring (scoreAmong (before file) x (before docs) (before freqs) i)) n ⌝ }
+    requires { ⌜ (norms ≡ normReader (now file)) × WeightIn x w × (n ≤ 128) × Below 2147483648 (docsOf (now block)) ⌝ }
+    ensures { λ r. ⌜ r ≡ mostOf (λ i. scored scoring (scoreAmong (before file) x (docsOf (before block)) (freqsOf (before block)) i)) n ⌝ }
 {
     let mut scores = [0.0f32; 128];
     bm25_block::score_block(
@@ -63,8 +65,9 @@ fn tail_max_score(
         w,
         scoring,
         TERMINATED + 1,
-        docs,
-        freqs,
+        false,
+        &block[DOCS],
+        &block[FREQS],
         &mut scores,
     );
     max_score(&scores, n)
@@ -78,10 +81,9 @@ pub fn block_max_score(
     w: Bm25Weight,
     scoring: Scoring,
     p: SegmentPostings,
-    docs: &[u32; 128],
-    freqs: &[u32; 128],
+    block: &Block,
 ) -> f32
-    requires { ⌜ ListIn (now file) x × (norms ≡ normReader (now file)) × WeightIn x w × Placed (now file) x p (now docs) (now freqs) ⌝ }
+    requires { ⌜ ListIn (now file) x × (norms ≡ normReader (now file)) × WeightIn x w × Placed (now file) x p (now block) ⌝ }
     ensures { λ r. ⌜ r ≡ blockMax 128 f32 (listOf scoring (before file) x) (cursorOf p) ⌝ }
 {
     let reader = p.skip_reader;
@@ -96,7 +98,7 @@ pub fn block_max_score(
         } => w.block_max_score(scoring, norm_code, freq_code),
         BlockInfo::VInt { num_docs } => {
             if p.block_loaded {
-                return tail_max_score(file, norms, x, w, scoring, num_docs, docs, freqs);
+                return tail_max_score(file, norms, x, w, scoring, num_docs, block);
             }
             w.max_score(scoring)
         }

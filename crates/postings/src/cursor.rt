@@ -1,5 +1,7 @@
 // A scorer's place in its list: the block cursor and the place in the block that it decoded last.
 use block_search::search_block;
+use notefile::block::Block;
+use notefile::block::DOCS;
 use notefile::part::Part;
 use skip_reader::block::load_block;
 use skip_reader::skip::SkipReader;
@@ -32,17 +34,12 @@ pub fn next_place(cur: usize) -> usize
 
 impl SegmentPostings {
     // On a list's first posting, with the first block loaded.
-    pub fn open(
-        file: &[u8],
-        x: Part,
-        docs: &mut [u32; 128],
-        freqs: &mut [u32; 128],
-    ) -> SegmentPostings
+    pub fn open(file: &[u8], x: Part, block: &mut Block) -> SegmentPostings
         requires { ⌜ ListIn (now file) x ⌝ }
-        ensures { λ r. ⌜ Moved (before file) x (λ _. fresh) r (after docs) (after freqs) ⌝ }
+        ensures { λ r. ⌜ Moved (before file) x (λ _. fresh) r (after block) ⌝ }
     {
         let skip_reader = SkipReader::new(file, x);
-        load_block(file, x, skip_reader, docs, freqs);
+        load_block(file, x, skip_reader, block);
         SegmentPostings {
             skip_reader,
             block_loaded: true,
@@ -52,12 +49,12 @@ impl SegmentPostings {
     }
 
     // The document that the scorer stands on, of the block decoded last.
-    pub fn doc(self, docs: &[u32; 128]) -> u32
+    pub fn doc(self, block: &Block) -> u32
         requires { ⌜ self .cur < 128 ⌝ }
-        ensures { λ r. ⌜ Here self (before docs) r ⌝ }
+        ensures { λ r. ⌜ Here self (before block) r ⌝ }
     {
         let cur = self.cur;
-        docs[cur]
+        block[DOCS][cur]
     }
 
     // Moves the skip reader only: the document and its frequency stay those of the block decoded last.
@@ -82,35 +79,28 @@ impl SegmentPostings {
     }
 
     // The skip reader's block, loaded if it is not.
-    fn load(self, file: &[u8], x: Part, docs: &mut [u32; 128], freqs: &mut [u32; 128])
-        requires { ⌜ ListIn (now file) x × Placed (now file) x self (now docs) (now freqs) ⌝ }
-        ensures { λ _. ⌜ Decoded (before file) x (self .«skip_reader» .block) (after docs) (after freqs) ⌝ }
+    fn load(self, file: &[u8], x: Part, block: &mut Block)
+        requires { ⌜ ListIn (now file) x × Placed (now file) x self (now block) ⌝ }
+        ensures { λ _. ⌜ Decoded (before file) x (self .«skip_reader» .block) (after block) ⌝ }
     {
         if self.block_loaded {
             return;
         }
         let skip_reader = self.skip_reader;
-        load_block(file, x, skip_reader, docs, freqs);
+        load_block(file, x, skip_reader, block);
     }
 
     // The skip reader's block, loaded, and the first posting in it from the target on.
-    fn load_at(
-        self,
-        file: &[u8],
-        x: Part,
-        target: u32,
-        docs: &mut [u32; 128],
-        freqs: &mut [u32; 128],
-    ) -> SegmentPostings
-        requires { ⌜ ListIn (now file) x × Placed (now file) x self (now docs) (now freqs)
+    fn load_at(self, file: &[u8], x: Part, target: u32, block: &mut Block) -> SegmentPostings
+        requires { ⌜ ListIn (now file) x × Placed (now file) x self (now block)
             × (target ≤ self .«skip_reader» .«last_doc_in_block») ⌝ }
         ensures { λ r.
             let to : Scoring → Cursor = λ scoring. loadAt (listOf scoring (before file) x) 128 target (self .«skip_reader» .block) in
-            ⌜ Moved (before file) x to r (after docs) (after freqs) ⌝ }
+            ⌜ Moved (before file) x to r (after block) ⌝ }
     {
-        self.load(file, x, docs, freqs);
+        self.load(file, x, block);
         let skip_reader = self.skip_reader;
-        let cur = search_block(docs, target);
+        let cur = search_block(&block[DOCS], target);
         SegmentPostings {
             skip_reader,
             block_loaded: true,
@@ -120,48 +110,35 @@ impl SegmentPostings {
     }
 
     // On to the first posting from the target on. The next one is tried before any block is.
-    pub fn seek(
-        self,
-        file: &[u8],
-        x: Part,
-        target: u32,
-        docs: &mut [u32; 128],
-        freqs: &mut [u32; 128],
-    ) -> SegmentPostings
-        requires { ⌜ ListIn (now file) x × Placed (now file) x self (now docs) (now freqs) × (target ≤ 2147483647) ⌝ }
+    pub fn seek(self, file: &[u8], x: Part, target: u32, block: &mut Block) -> SegmentPostings
+        requires { ⌜ ListIn (now file) x × Placed (now file) x self (now block) × (target ≤ 2147483647) ⌝ }
         ensures { λ r.
             let to : Scoring → Cursor = λ scoring. seekIn (listOf scoring (before file) x) 128 target (cursorOf self) in
-            ⌜ Moved (before file) x to r (after docs) (after freqs) ⌝ }
+            ⌜ Moved (before file) x to r (after block) ⌝ }
     {
         let cur = self.cur;
-        let doc = docs[cur];
+        let doc = block[DOCS][cur];
         if target <= doc {
             return self;
         }
         let next = next_place(cur);
-        let next_doc = docs[next];
+        let next_doc = block[DOCS][next];
         if target <= next_doc {
             let mut p = self;
             p.cur = next;
             return p;
         }
         let p = self.seek_block(file, x, target);
-        p.load_at(file, x, target, docs, freqs)
+        p.load_at(file, x, target, block)
     }
 
     // On to the next posting. Behind a block's last place the next block is loaded.
-    pub fn advance(
-        self,
-        file: &[u8],
-        x: Part,
-        docs: &mut [u32; 128],
-        freqs: &mut [u32; 128],
-    ) -> SegmentPostings
-        requires { ⌜ ListIn (now file) x × Placed (now file) x self (now docs) (now freqs)
+    pub fn advance(self, file: &[u8], x: Part, block: &mut Block) -> SegmentPostings
+        requires { ⌜ ListIn (now file) x × Placed (now file) x self (now block)
             × (self .«skip_reader» .block ≤ fullBlocks x) ⌝ }
         ensures { λ r.
             let to : Scoring → Cursor = λ scoring. advanceIn (listOf scoring (before file) x) 128 (cursorOf self) in
-            ⌜ Moved (before file) x to r (after docs) (after freqs) ⌝ }
+            ⌜ Moved (before file) x to r (after block) ⌝ }
     {
         let mut p = self;
         if self.cur != 127 {
@@ -170,7 +147,7 @@ impl SegmentPostings {
         }
         let reader = self.skip_reader;
         let skip_reader = reader.advance(file, x);
-        load_block(file, x, skip_reader, docs, freqs);
+        load_block(file, x, skip_reader, block);
         SegmentPostings {
             skip_reader,
             block_loaded: true,

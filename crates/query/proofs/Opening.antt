@@ -76,7 +76,7 @@ module _ (scoring : Scoring) (file : List ℕ) (l q : ℕ) (h : q < 16) {x : Par
   row = partRow x (toBits binary32 max-score)
 
   abbrev b : Tables
-  b = record { lists = lists′; caches = set (a .caches) q (w .cache); held = held′ }
+  b = record { lists = lists′; norms = set (a .norms) q (w .cache); held = held′ }
 
   row-is : getD lists′ q [] ≡ row
   row-is = ap (λ (z : List (List ℕ)). getD z q []) (O .lists-only) ∙ there (a .lists) q row [] h (R .lists)
@@ -84,9 +84,9 @@ module _ (scoring : Scoring) (file : List ℕ) (l q : ℕ) (h : q < 16) {x : Par
   part-there : partAt lists′ q ≡ x
   part-there = ap partIn row-is ∙ part-back x (toBits binary32 max-score)
 
-  norms-there : Weighed lists′ (b .caches) q
+  norms-there : Weighed lists′ (b .norms) q
   norms-there =
-      rw (there (a .caches) q (w .cache) [] h (R .caches))
+      rw (there (a .norms) q (w .cache) [] h (R .norms))
       (subst (λ (z : Part). NormsIn z (w .cache)) (sym part-there) (W .norms))
 
   max-there : max-score ≡ listOf scoring file x .top
@@ -104,7 +104,7 @@ module _ (scoring : Scoring) (file : List ℕ) (l q : ℕ) (h : q < 16) {x : Par
       fresh = record {
         slot-in = h;
         slot = record {
-          sixteen = (same-long (a .held .places) q _ (O .opened .places-only) (R .places), same-long (a .held .docs) q _ (O .opened .docs-only) (R .docs), same-long (a .held .freqs) q _ (O .opened .freqs-only) (R .freqs));
+          sixteen = (same-long (a .held .places) q _ (O .opened .places-only) (R .places), same-long (a .held .blocks) q _ (O .opened .blocks-only) (R .blocks));
           part-row = subst PartRow (sym row-is) (O .part-row);
           list = subst (ListIn file) (sym part-there) L;
           place = O .opened .moved .place;
@@ -118,10 +118,9 @@ module _ (scoring : Scoring) (file : List ℕ) (l q : ℕ) (h : q < 16) {x : Par
     };
     only = record {
       lists = O .lists-only ∙ ap (set (a .lists) q) (sym row-is);
-      caches = put (a .caches) q (w .cache) [] h (R .caches);
+      norms = put (a .norms) q (w .cache) [] h (R .norms);
       places = O .opened .places-only;
-      docs = O .opened .docs-only;
-      freqs = O .opened .freqs-only;
+      blocks = O .opened .blocks-only;
     };
     scorer-is = rw (doc-there, max-there, part-is);
   }
@@ -136,25 +135,23 @@ module _ (scoring : Scoring) (file : List ℕ) (a b : Tables) (n : ℕ) (O : Onl
   room-stays : Room a → Room b
   room-stays R = record {
     lists = same-long (a .lists) n _ (O .lists) (R .lists);
-    caches = same-long (a .caches) n _ (O .caches) (R .caches);
+    norms = same-long (a .norms) n _ (O .norms) (R .norms);
     places = same-long (a .held .places) n _ (O .places) (R .places);
-    docs = same-long (a .held .docs) n _ (O .docs) (R .docs);
-    freqs = same-long (a .held .freqs) n _ (O .freqs) (R .freqs);
+    blocks = same-long (a .held .blocks) n _ (O .blocks) (R .blocks);
   }
 
   -- another slot is as it was
   slot-stays : (l q : ℕ) → (q ≡ n → ⊥) → Room b → OpenSlot scoring file a l q → OpenSlot scoring file b l q
   slot-stays l q ne R S =
       let el = other (a .lists) q n _ [] (O .lists) ne in
-      let ec = other (a .caches) q n _ [] (O .caches) ne in
+      let ec = other (a .norms) q n _ [] (O .norms) ne in
       let ep = other (a .held .places) q n _ [] (O .places) ne in
-      let ed = other (a .held .docs) q n _ [] (O .docs) ne in
-      let ef = other (a .held .freqs) q n _ [] (O .freqs) ne in
+      let eb = other (a .held .blocks) q n _ [] (O .blocks) ne in
       let F = S .fresh in
       record {
         fresh = record {
           slot-in = F .slot-in;
-          slot = record { sixteen = (R .places, R .docs, R .freqs); part-row = rw el (F .slot .part-row); list = rw el (F .slot .list); place = rw (el, ep, ed, ef) (F .slot .place) };
+          slot = record { sixteen = (R .places, R .blocks); part-row = rw el (F .slot .part-row); list = rw el (F .slot .list); place = rw (el, ep, eb) (F .slot .place) };
           first = rw ep (F .first);
           weighed = rw (el, ec) (F .weighed);
           top = record {
@@ -170,10 +167,9 @@ module _ (scoring : Scoring) (file : List ℕ) (a b : Tables) (n : ℕ) (O : Onl
 pub none-touched : (a : Tables) → Untouched 0 a a
 none-touched a = record {
   lists = λ q h. refl;
-  caches = λ q h. refl;
+  norms = λ q h. refl;
   places = λ q h. refl;
-  docs = λ q h. refl;
-  freqs = λ q h. refl;
+  blocks = λ q h. refl;
 }
 
 pub behind-as : {n m : ℕ} {a b : Tables} → n ≡ m → Untouched n a b → Untouched m a b
@@ -182,10 +178,9 @@ behind-as {a = a} {b = b} e U = subst (λ (z : ℕ). Untouched z a b) e U
 pub behind-one : (n : ℕ) (a₀ a b : Tables) → Untouched n a₀ a → OnlySlot n a b → Untouched (n + 1) a₀ b
 behind-one n a₀ a b U O = record {
   lists = λ q h. other (a .lists) q n _ [] (O .lists) (λ e. omega (arith, e)) ∙ U .lists q (omega arith);
-  caches = λ q h. other (a .caches) q n _ [] (O .caches) (λ e. omega (arith, e)) ∙ U .caches q (omega arith);
+  norms = λ q h. other (a .norms) q n _ [] (O .norms) (λ e. omega (arith, e)) ∙ U .norms q (omega arith);
   places = λ q h. other (a .held .places) q n _ [] (O .places) (λ e. omega (arith, e)) ∙ U .places q (omega arith);
-  docs = λ q h. other (a .held .docs) q n _ [] (O .docs) (λ e. omega (arith, e)) ∙ U .docs q (omega arith);
-  freqs = λ q h. other (a .held .freqs) q n _ [] (O .freqs) (λ e. omega (arith, e)) ∙ U .freqs q (omega arith);
+  blocks = λ q h. other (a .held .blocks) q n _ [] (O .blocks) (λ e. omega (arith, e)) ∙ U .blocks q (omega arith);
 }
 
 module _ (scoring : Scoring) (file query : List ℕ) where

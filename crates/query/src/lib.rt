@@ -3,6 +3,7 @@ use bm25::Bm25Weight;
 use bm25::Scoring;
 use notefile::header::Header;
 use notefile::part::read_part;
+use slot_rows::place::Blocks;
 use slot_rows::place::Places;
 use term_scorer::TermScorer;
 use term_scorer::slot;
@@ -23,25 +24,24 @@ fn open_list(
     l: usize,
     q: usize,
     lists: &mut [[usize; 8]; 16],
-    caches: &mut [[f32; 256]; 16],
+    norms: &mut [[f32; 256]; 16],
     places: &mut Places,
-    docs: &mut [[u32; 128]; 16],
-    freqs: &mut [[u32; 128]; 16],
+    blocks: &mut Blocks,
 ) -> TermScorer
-    requires { let slots = tables (now lists) (now caches) (now places) (now docs) (now freqs) in
+    requires { let slots = tables (now lists) (now norms) (now places) (now blocks) in
         ⌜ (fileRefusal (now file) ≡ 0) × (h ≡ headerOf (now file)) × (l < listCount (now file)) × (q < 16) × Room slots ⌝ }
     ensures { λ r.
-        let old = tables (before lists) (before caches) (before places) (before docs) (before freqs) in
-        let new = tables (after lists) (after caches) (after places) (after docs) (after freqs) in
+        let old = tables (before lists) (before norms) (before places) (before blocks) in
+        let new = tables (after lists) (after norms) (after places) (after blocks) in
         ⌜ OneOpened scoring (before file) l q old new r ⌝ }
 {
     let x = read_part(file, h, l);
     let w = Bm25Weight::new(f32::from_bits(x.weight), f32::from_bits(x.average));
     let max_score = w.max_score(scoring);
     let cache = w.cache;
-    caches[q] = cache;
+    norms[q] = cache;
     let top = f32::to_bits(max_score);
-    let doc = slot::open(file, x, top, q, lists, places, docs, freqs);
+    let doc = slot::open(file, x, top, q, lists, places, blocks);
     TermScorer {
         doc,
         max_score,
@@ -56,17 +56,16 @@ pub fn open_lists(
     scoring: Scoring,
     query: &[u32],
     lists: &mut [[usize; 8]; 16],
-    caches: &mut [[f32; 256]; 16],
+    norms: &mut [[f32; 256]; 16],
     places: &mut Places,
-    docs: &mut [[u32; 128]; 16],
-    freqs: &mut [[u32; 128]; 16],
+    blocks: &mut Blocks,
 ) -> [TermScorer; 16]
-    requires { let slots = tables (now lists) (now caches) (now places) (now docs) (now freqs) in
+    requires { let slots = tables (now lists) (now norms) (now places) (now blocks) in
         ⌜ (fileRefusal (now file) ≡ 0) × (h ≡ headerOf (now file)) × (length (now query) ≤ 16) × Named (now file) (now query)
         × Room slots ⌝ }
     ensures { λ r.
-        let old = tables (before lists) (before caches) (before places) (before docs) (before freqs) in
-        let new = tables (after lists) (after caches) (after places) (after docs) (after freqs) in
+        let old = tables (before lists) (before norms) (before places) (before blocks) in
+        let new = tables (after lists) (after norms) (after places) (after blocks) in
         ⌜ QueryOpened scoring (before file) (before query) (length (before query)) new r
         × Untouched (length (before query)) old new ⌝ }
 {
@@ -79,7 +78,7 @@ pub fn open_lists(
     let mut q = 0usize;
     while q < query.len() {
         let l = query[q] as usize;
-        let scorer = open_list(file, h, scoring, l, q, lists, caches, places, docs, freqs);
+        let scorer = open_list(file, h, scoring, l, q, lists, norms, places, blocks);
         scorers[q] = scorer;
         q += 1;
     }

@@ -105,13 +105,13 @@ lists-by R rule script list E = ends-in R (callbackOf rule script) [] list E
 module _ (similarity : Similarity) (file query : List ℕ) (norms-are : similarity .norms ≡ normReader file) (few : length query ≤ 16)
     (a : opening.Tables) (scorers : List TermScorer) (Q : QueryOpened (similarity .scoring) file query (length query) a scorers) where
   -- the slots of an intersection, before their order is made
-  pub fresh-slots : {order : List ℕ} → 2 ≤ length query → Sixteen order → all.FreshSlots (window.query similarity file (a .lists) (a .caches) (length query) order) (a .held)
+  pub fresh-slots : {order : List ℕ} → 2 ≤ length query → Sixteen order → all.FreshSlots (window.query similarity file (a .lists) (a .norms) (length query) order) (a .held)
   fresh-slots two room = record {
     two = two;
     few = few;
     long = room;
     norms-are = norms-are;
-    sixteen = (Q .room .places, Q .room .docs, Q .room .freqs);
+    sixteen = (Q .room .places, Q .room .blocks);
     each = λ q h. Q .open-slots q h .fresh;
   }
 
@@ -128,13 +128,13 @@ module _ (similarity : Similarity) (file query : List ℕ) (norms-are : similari
   Begins m r = BeganWith Skipping similarity file query m a (begunTables a order floats) r
 
   abbrev at : Machine → place.Place
-  at r = placeIn file similarity (a .lists) (a .caches) (begunTables a order floats) r
+  at r = placeIn file similarity (a .lists) (a .norms) (begunTables a order floats) r
 
   abbrev f : TermScorer → Scorer Float
   f = scorerAt file (a .lists) scoring (a .held .places)
 
   abbrev Fresh : TermScorer → Type 0
-  Fresh = begins.Fresh file (a .lists) (terms scoring (a .caches) floats) (a .held)
+  Fresh = begins.Fresh file (a .lists) (terms scoring (a .norms) floats) (a .held)
 
   list-there : (q : ℕ) → q < n → listAt scoring file (a .lists) q ≡ postingsOf scoring file (getD query q 0)
   list-there q h = ap (listOf scoring file) (Q .open-slots q h .part-is)
@@ -147,7 +147,7 @@ module _ (similarity : Similarity) (file query : List ℕ) (norms-are : similari
     as-opened : Fresh s
     doc : SameDoc f s
     slot-in : s .slot < n
-    scorer-is : f s ≡ onlyScorer file similarity (a .lists) (a .caches) (s .slot)
+    scorer-is : f s ≡ onlyScorer file similarity (a .lists) (a .norms) (s .slot)
     doc-is : s .doc ≡ docIn file (partAt (a .lists) (s .slot)) 0
 
   one-opened : (q : ℕ) → q < n → Opened (getD scorers q noScorer)
@@ -186,19 +186,19 @@ module _ (similarity : Similarity) (file query : List ℕ) (norms-are : similari
 
   module _ (s : TermScorer) (O : Opened s) where
     abbrev W₁ : Route Float
-    W₁ = blockWandSingleScorer 128 f32 (onlyScorer file similarity (a .lists) (a .caches) (s .slot))
+    W₁ = blockWandSingleScorer 128 f32 (onlyScorer file similarity (a .lists) (a .norms) (s .slot))
 
     single-begun : (m : Mode) → W₁ ≡ route 128 f32 (modeOf m) (queried scoring file query) → Begins m (singleFrom s)
     single-begun m e =
         let F = O .as-opened in
         let z = single-begins norms-are (F .opened) rows (O .doc-is) in
-        let first : at (singleFrom s) ≡ place.single (onlyScorer file similarity (a .lists) (a .caches) (s .slot)) (W₁ .first) =
-        ap (place.single (onlyScorer file similarity (a .lists) (a .caches) (s .slot))) (z .1 (s .slot)) in
-        let R = runs-by e (subst (Runs W₁) (sym first) (runs-single (onlyScorer file similarity (a .lists) (a .caches) (s .slot)))) in
+        let first : at (singleFrom s) ≡ place.single (onlyScorer file similarity (a .lists) (a .norms) (s .slot)) (W₁ .first) =
+        ap (place.single (onlyScorer file similarity (a .lists) (a .norms) (s .slot))) (z .1 (s .slot)) in
+        let R = runs-by e (subst (Runs W₁) (sym first) (runs-single (onlyScorer file similarity (a .lists) (a .norms) (s .slot)))) in
         record { stands = z .0; kept = (ok scoring file (a .lists) (s .slot) (F .opened .slot), z .0 .kept); runs-are = R; list-is = lists-by R }
 
   by-query : (qs : List ℕ) → length qs ≡ 1 → listAt scoring file (a .lists) 0 ≡ postingsOf scoring file (getD qs 0 0)
-      → blockWandSingleScorer 128 f32 (onlyScorer file similarity (a .lists) (a .caches) 0) ≡ ofOne 128 f32 (scorersFrom 0 (queried scoring file qs))
+      → blockWandSingleScorer 128 f32 (onlyScorer file similarity (a .lists) (a .norms) 0) ≡ ofOne 128 f32 (scorersFrom 0 (queried scoring file qs))
   unfolding queried
   by-query [] e l = absurd (omega (arith, e))
   by-query (x ∷ []) e l = ap (λ z. blockWandSingleScorer 128 f32 (record { ord = 0; list = z; cur = fresh })) l
@@ -211,7 +211,7 @@ module _ (similarity : Similarity) (file query : List ℕ) (norms-are : similari
       let O = one-opened 0 h in
       let s-is = ap (λ (s : TermScorer). s .slot) (Q .scorers-are 0 h) in
       single-begun (getD scorers 0 noScorer) O modes.Single
-      (ap (λ (q : ℕ). blockWandSingleScorer 128 f32 (onlyScorer file similarity (a .lists) (a .caches) q)) s-is ∙ by-query query e (list-there 0 h))
+      (ap (λ (q : ℕ). blockWandSingleScorer 128 f32 (onlyScorer file similarity (a .lists) (a .norms) q)) s-is ∙ by-query query e (list-there 0 h))
 
   -- ---- a union
 
@@ -240,7 +240,7 @@ module _ (similarity : Similarity) (file query : List ℕ) (norms-are : similari
 
     pub pivots-begun : (live .len ≡ 1 → ⊥) → {u : Union} → any.Begins (alive live) (live .len) u order → Begins modes.Union (mode.Union u)
     pivots-begun ne {u} B =
-        let T = terms scoring (a .caches) floats in
+        let T = terms scoring (a .norms) floats in
         let z = begins.begins file (a .lists) T (a .held) (alive live) (imp Fresh (λ s o. o .as-opened) (alive live) left-opened) left-apart rows (omega (arith, L .few, few)) B in
         let k : length (map f (alive live)) ≡ live .len = map-long (alive live) ∙ length-take-le (live .len) (live .scorers) (omega (arith, L .few, L .long, few)) in
         let W : Route Float = pivotRoute 128 f32 (map f (alive live)) in
@@ -272,7 +272,7 @@ module _ (similarity : Similarity) (file query : List ℕ) (norms-are : similari
   -- ---- an intersection
 
   abbrev asked-for : window.Query
-  asked-for = window.query similarity file (a .lists) (a .caches) n order
+  asked-for = window.query similarity file (a .lists) (a .norms) n order
 
   lists-named : listsFrom scoring file (a .lists) 0 n ≡ queried scoring file query
   lists-named = lists-are scoring file (a .lists) query (λ q h. Q .open-slots q h .part-is)
@@ -286,10 +286,10 @@ module _ (similarity : Similarity) (file query : List ℕ) (norms-are : similari
       let W : Route Float = leaderRoute 128 f32 ld ss in
       let S = B .stands floats rows in
       let first : at (mode.Intersection v) ≡ place.intersection (W .first) =
-      ap (λ (k : ℕ). place.intersection (stands.placeOf (window.query similarity file (a .lists) (a .caches) k order) v (a .held .places) floats)) (B .len-is) ∙ ap place.intersection (B .first-is floats) in
+      ap (λ (k : ℕ). place.intersection (stands.placeOf (window.query similarity file (a .lists) (a .norms) k order) v (a .held .places) floats)) (B .len-is) ∙ ap place.intersection (B .first-is floats) in
       let R = runs-by (sym (route-is B) ∙ ap (route 128 f32 plain.intersection) lists-named) (subst (Runs W) (sym first) (runs-intersection ld ss)) in
       record {
-        stands = subst (λ (k : ℕ). stands.Stands (window.query similarity file (a .lists) (a .caches) k order) v (a .held) floats) (sym (B .len-is)) S;
+        stands = subst (λ (k : ℕ). stands.Stands (window.query similarity file (a .lists) (a .norms) k order) v (a .held) floats) (sym (B .len-is)) S;
         kept = subst (KeptIn (documents file)) (sym first)
             (intersection-nears 128 (documents file) f32 (listsFrom scoring file (a .lists) 0 n) (subst (All (ListOk 128 (documents file))) (sym lists-named) right) ld ss (B .sorted-is) .begins);
         runs-are = R;

@@ -35,14 +35,16 @@ pub fn answer(
         ⌜ Listed way q (rows (before documents) (before scores)) r (rows (after documents) (after scores)) ⌝ }
 {
     let h = read_header(file);
-    let norms = norm_reader(file, h);
-    let similarity = Similarity { norms, scoring };
+    let reader = norm_reader(file, h);
+    let similarity = Similarity {
+        norms: reader,
+        scoring,
+    };
     let mut lists = [[0usize; 8]; 16];
-    let mut caches = [[0.0f32; 256]; 16];
+    let mut norms = [[0.0f32; 256]; 16];
     let mut order = [0usize; 16];
     let mut places = [[0usize; 10]; 16];
-    let mut docs = [[0u32; 128]; 16];
-    let mut freqs = [[0u32; 128]; 16];
+    let mut blocks = [[[0u32; 128]; 2]; 16];
     let mut floats = [[0.0f32; 128]; 18];
     let machine = begin(
         file,
@@ -52,11 +54,10 @@ pub fn answer(
         mode,
         way,
         &mut lists,
-        &mut caches,
+        &mut norms,
         &mut order,
         &mut places,
-        &mut docs,
-        &mut freqs,
+        &mut blocks,
     );
     let task = Task {
         similarity,
@@ -68,11 +69,10 @@ pub fn answer(
         script,
         task,
         &lists,
-        &caches,
+        &norms,
         &mut order,
         &mut places,
-        &mut docs,
-        &mut freqs,
+        &mut blocks,
         &mut floats,
         documents,
         scores,

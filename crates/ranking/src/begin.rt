@@ -7,6 +7,7 @@ use ordering::retain;
 use plain_scan::Plain;
 use query::open_lists;
 use request::Mode;
+use slot_rows::place::Blocks;
 use slot_rows::place::Places;
 use term_scorer::TermScorer;
 use term_scorer::score::Similarity;
@@ -73,17 +74,16 @@ fn begin_skipping(
     mode: Mode,
     scorers: [TermScorer; 16],
     lists: &[[usize; 8]; 16],
-    caches: &[[f32; 256]; 16],
+    norms: &[[f32; 256]; 16],
     order: &mut [usize; 16],
     places: &Places,
-    docs: &[[u32; 128]; 16],
-    freqs: &[[u32; 128]; 16],
+    blocks: &Blocks,
 ) -> Machine
-    requires { let opened = opening.tables (now lists) (now caches) (now places) (now docs) (now freqs) in
+    requires { let opened = opening.tables (now lists) (now norms) (now places) (now blocks) in
         ⌜ (similarity .norms ≡ normReader (now file)) × Right (now file) (now query) mode × Sixteen (now order)
         × Opens similarity (now file) (now query) opened scorers ⌝ }
     ensures { λ r.
-        let opened = opening.tables (before lists) (before caches) (before places) (before docs) (before freqs) in
+        let opened = opening.tables (before lists) (before norms) (before places) (before blocks) in
         ⌜ Began Skipping similarity (before file) (before query) mode opened (after order) r ⌝ }
 {
     let n = query.len();
@@ -94,12 +94,11 @@ fn begin_skipping(
                 file,
                 similarity,
                 lists,
-                caches,
+                norms,
                 n,
                 order,
                 places,
-                docs,
-                freqs,
+                blocks,
             );
             Machine::Intersection(intersection)
         }
@@ -119,21 +118,20 @@ pub fn begin(
     mode: Mode,
     way: Way,
     lists: &mut [[usize; 8]; 16],
-    caches: &mut [[f32; 256]; 16],
+    norms: &mut [[f32; 256]; 16],
     order: &mut [usize; 16],
     places: &mut Places,
-    docs: &mut [[u32; 128]; 16],
-    freqs: &mut [[u32; 128]; 16],
+    blocks: &mut Blocks,
 ) -> Machine
-    requires { let room = opening.tables (now lists) (now caches) (now places) (now docs) (now freqs) in
+    requires { let room = opening.tables (now lists) (now norms) (now places) (now blocks) in
         ⌜ (similarity .norms ≡ normReader (now file)) × (h ≡ headerOf (now file)) × Right (now file) (now query) mode
         × Sixteen (now order) × Room room ⌝ }
     ensures { λ r.
-        let opened = opening.tables (after lists) (after caches) (after places) (after docs) (after freqs) in
+        let opened = opening.tables (after lists) (after norms) (after places) (after blocks) in
         ⌜ Began way similarity (before file) (before query) mode opened (after order) r ⌝ }
 {
     let scoring = similarity.scoring;
-    let scorers = open_lists(file, h, scoring, query, lists, caches, places, docs, freqs);
+    let scorers = open_lists(file, h, scoring, query, lists, norms, places, blocks);
     match way {
         Way::Skipping => begin_skipping(
             file,
@@ -142,11 +140,10 @@ pub fn begin(
             mode,
             scorers,
             lists,
-            caches,
+            norms,
             order,
             places,
-            docs,
-            freqs,
+            blocks,
         ),
         Way::Plain => {
             let plain = Plain {

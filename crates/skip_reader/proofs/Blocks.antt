@@ -6,17 +6,20 @@ use Prim.Native.Nat.{ℕ, zero, suc, _+_, _-_, _*_, _/_, _%_, _≤_, _<_}
 use native.Mathlib.Nat.{le-refl, le-of-lt}
 use native.Mathlib.Numerals.{add-one}
 use native.Mathlib.Omega.{arith}
-use lib.ListN.{getD}
+use lib.ListN.{getD, set}
 use borrow.Author.Tests.{lt-ltb, le-ltb, le-leb}
 use Rattle.arrays.proofs.Order.{lt-or-ge}
 use Rattle.arrays.proofs.Every.{all}
 use Rattle.block_search.specs.Inner.Segments.{Sorted}
 use Rattle.route.specs.Postings.{start}
 use Rattle.notefile.specs.Lists.{fullBlocks, blockSize, blockAt}
+use Rattle.notefile.specs.Skips.{freqWidth}
 use Rattle.notefile.specs.Conditions.{blockDocsRight}
 use Rattle.notefile.specs.Inner.Structs.{lastBefore}
 use Rattle.notefile.specs.Inner.Given.{BlockRight, PackedIn}
-use Rattle.notefile.specs.Inner.Reads.{Loaded, Padded}
+use Rattle.notefile.specs.Inner.Reads.{docsOf, freqsOf, Loaded, Padded, Sized}
+use Rattle.notefile.proofs.NarrowBlocks.{freq-narrow}
+use Rattle.notefile.proofs.Pairs.{new-docs, new-freqs, old-docs, two-still}
 use Rattle.notefile.specs.declared.part.Part.{Part}
 use Rattle.notefile.proofs.FullBlocks.{packed-in, previous-same}
 use Rattle.notefile.proofs.ListLaws.{place-in, list-doc-below, list-docs-rise}
@@ -86,17 +89,20 @@ module _ {file : List ℕ} {x : Part} {b : ℕ} {docs freqs : List ℕ} (h : b �
     | inr l ↦ rw (le-ltb (start 128 b + i) (x .count) l) (D .freqs-past i (past x b i h k l) k)
   ]
 
-  pub loaded-is : Decoded file x b docs freqs
-  loaded-is = record { docs-are = record { long = D .long-docs; at = loaded-doc }; freqs-are = record { long = D .long-freqs; at = loaded-freq } }
+pub loaded-is : {file : List ℕ} {x : Part} {b : ℕ} (block : List (List ℕ)) → b ≤ fullBlocks x → Loaded file x b (docsOf block) (freqsOf block) → Decoded file x b block
+loaded-is block h D = record { docs-are = record { long = D .long-docs; at = loaded-doc h D }; freqs-are = record { long = D .long-freqs; at = loaded-freq h D } }
 
 -- a tail of no documents, and the block behind a tail
-pub empty-is : (file : List ℕ) (x : Part) (b : ℕ) {ds fs docs freqs : List ℕ} → remaining x b ≡ 0 → Padded ds 0 docs → Padded fs 0 freqs → Decoded file x b docs freqs
+pub empty-is : (file : List ℕ) (x : Part) (b : ℕ) {block : List (List ℕ)} {docs freqs : List ℕ} → Sized block → remaining x b ≡ 0 → Padded (docsOf block) 0 docs → Padded (freqsOf (set block 0 docs)) 0 freqs → Decoded file x b (set (set block 0 docs) 1 freqs)
 unfolding start
-empty-is file x b e D F =
+empty-is file x b {block} {docs} {freqs} Z e D F =
     let n : x .count ≤ b * 128 = omega arith in
+    let one = set block 0 docs in
+    let docs-here : docsOf (set one 1 freqs) ≡ docs = old-docs one freqs ∙ new-docs block (Z .two) docs in
+    let freqs-here : freqsOf (set one 1 freqs) ≡ freqs = new-freqs one (two-still block (Z .two) 0 docs) freqs in
     record {
-      docs-are = record { long = D .long; at = λ i k. rw (le-ltb (b * 128 + i) (x .count) (omega arith)) (D .past i (omega arith) k) };
-      freqs-are = record { long = F .long; at = λ i k. rw (le-ltb (b * 128 + i) (x .count) (omega arith)) (F .past i (omega arith) k) };
+      docs-are = rw docs-here (record { long = D .long; at = λ i k. rw (le-ltb (b * 128 + i) (x .count) (omega arith)) (D .past i (omega arith) k) });
+      freqs-are = rw freqs-here (record { long = F .long; at = λ i k. rw (le-ltb (b * 128 + i) (x .count) (omega arith)) (F .past i (omega arith) k) });
     }
 
 -- documents never fall, up to TERMINATED and on
@@ -113,19 +119,28 @@ module _ {file : List ℕ} {x : Part} (L : ListIn file x) where
     | inr h ↦ rw (add-one, le-ltb (suc p) (x .count) h) (doc-small p)
   ]
 
-  pub decoded-sorted : {b : ℕ} {docs freqs : List ℕ} → Decoded file x b docs freqs → Sorted docs
+  pub decoded-sorted : {b : ℕ} {block : List (List ℕ)} → Decoded file x b block → Sorted (docsOf block)
   decoded-sorted {b} D i h = rw (D .docs-are .at i (omega arith), D .docs-are .at (i + 1) h, group (start 128 b) i) (doc-rises (start 128 b + i))
     where
       group : (a i : ℕ) → a + (i + 1) ≡ a + i + 1
       group a i = omega arith
 
   -- so a decoded block's last document limits them all, and TERMINATED does
-  pub decoded-below : {b : ℕ} {docs freqs : List ℕ} → Decoded file x b docs freqs → (i : ℕ) → i < 128 → getD docs i 0 < getD docs 127 0 + 1
-  decoded-below {docs = docs} D i h = let l = up-to (127 - i) i (omega arith) in omega arith
+  pub decoded-below : {b : ℕ} {block : List (List ℕ)} → Decoded file x b block → (i : ℕ) → i < 128 → getD (docsOf block) i 0 < getD (docsOf block) 127 0 + 1
+  decoded-below {block = block} D i h = let l = up-to (127 - i) i (omega arith) in omega arith
     where
-      up-to : (n i : ℕ) → i + n ≡ 127 → getD docs i 0 ≤ getD docs 127 0
-      up-to zero i e = let f : i ≡ 127 = omega arith in subst (λ (z : ℕ). getD docs z 0 ≤ getD docs 127 0) (sym f) (le-refl (getD docs 127 0))
+      up-to : (n i : ℕ) → i + n ≡ 127 → getD (docsOf block) i 0 ≤ getD (docsOf block) 127 0
+      up-to zero i e = let f : i ≡ 127 = omega arith in subst (λ (z : ℕ). getD (docsOf block) z 0 ≤ getD (docsOf block) 127 0) (sym f) (le-refl (getD (docsOf block) 127 0))
       up-to (suc n) i e = let l = up-to n (i + 1) (omega arith) in let s = decoded-sorted D i (omega arith) in omega arith
 
-  pub decoded-small : {b : ℕ} {docs freqs : List ℕ} → Decoded file x b docs freqs → (i : ℕ) → i < 128 → getD docs i 0 < 2147483648
+  pub decoded-small : {b : ℕ} {block : List (List ℕ)} → Decoded file x b block → (i : ℕ) → i < 128 → getD (docsOf block) i 0 < 2147483648
   decoded-small {b} D i h = rw (D .docs-are .at i h) (let s = doc-small (start 128 b + i) in omega arith)
+
+-- frequencies of a full block that have at most 24 bits are at most 2 ^ 24, decoded
+pub decoded-narrow : {file : List ℕ} {x : Part} {b : ℕ} {block : List (List ℕ)} → Decoded file x b block → b < fullBlocks x → freqWidth file x b ≤ 24
+    → (i : ℕ) → i < 128 → getD (freqsOf block) i 0 ≤ 16777216
+unfolding start
+decoded-narrow {file} {x} {b} D full narrow i k =
+    let inside : b * 128 + i < x .count = omega arith in
+    let n : (b * 128 + i) / 128 ≡ b = omega arith in
+    rw (D .freqs-are .at i k, lt-ltb (b * 128 + i) (x .count) inside, n) (freq-narrow file x b full narrow ((b * 128 + i) % 128))

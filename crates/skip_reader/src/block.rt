@@ -1,24 +1,22 @@
 // Block loads: the skip reader's block decoded into two lent arrays.
 use crate::skip::BlockInfo;
 use crate::skip::SkipReader;
+use notefile::block::Block;
+use notefile::block::DOCS;
+use notefile::block::FREQS;
 use notefile::block::load_packed;
 use notefile::block::load_tail;
 use notefile::block::pad;
+use notefile::block::sized;
 use notefile::part::Part;
 ghost use Rattle.arrays.specs.Lent.{before, after};
 ghost use Rattle.skip_reader.specs.Inner.Decoded.{Decoded, ListIn};
 ghost use Rattle.skip_reader.specs.Inner.Reader.{Stands};
 
 // The reader's block, filled up with TERMINATED. A tail of no documents has no bytes.
-pub fn load_block(
-    file: &[u8],
-    x: Part,
-    reader: SkipReader,
-    docs: &mut [u32; 128],
-    freqs: &mut [u32; 128],
-)
+pub fn load_block(file: &[u8], x: Part, reader: SkipReader, block: &mut Block)
     requires { ⌜ ListIn (now file) x × Stands (now file) x reader ⌝ }
-    ensures { λ _. ⌜ Decoded (before file) x (reader .block) (after docs) (after freqs) ⌝ }
+    ensures { λ _. ⌜ Decoded (before file) x (reader .block) (after block) ⌝ }
 {
     let info = reader.block_info;
     let at = reader.byte_offset;
@@ -30,13 +28,14 @@ pub fn load_block(
             freq_bits: _,
             norm_code: _,
             freq_code: _,
-        } => load_packed(file, x, reader.block, at, previous, docs, freqs),
+        } => load_packed(file, x, reader.block, at, previous, block),
         BlockInfo::VInt { num_docs } => {
             if num_docs == 0 {
-                pad(docs, 0);
-                pad(freqs, 0);
+                sized(block);
+                pad(&mut block[DOCS], 0);
+                pad(&mut block[FREQS], 0);
             } else {
-                load_tail(file, x, at, previous, docs, freqs);
+                load_tail(file, x, at, previous, block);
             }
         }
     }

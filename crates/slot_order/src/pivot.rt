@@ -1,12 +1,13 @@
 // What is found by the scorers' documents and list bounds: the pivot, the scorer to seek, and how far it may.
 use notefile::block::TERMINATED;
 use ordering::Pivot;
+use slot_rows::place::Blocks;
 use slot_rows::place::Places;
+use term_scorer::score;
 use term_scorer::slot;
 ghost use mathlib.Core.List.{List, map};
 ghost use mathlib.Core.Path.{_≡_};
 ghost use Prim.Native.Nat.{ℕ, _+_, _≤_, _<_};
-ghost use lib.Ieee.{Float};
 ghost use lib.ListN.{drop, take};
 ghost use Rattle.arrays.specs.Lent.{before};
 ghost use Rattle.route.specs.F32.{f32};
@@ -14,18 +15,19 @@ ghost use Rattle.arrays.specs.Every.{All};
 ghost use Rattle.ordering.specs.Inner.Pivots.{beforePivot, countOn, pivotOf, placeToSeek};
 ghost use Rattle.ordering.specs.Inner.Scorers.{leastDocOf};
 ghost use Rattle.term_scorer.specs.Inner.Slots.{Sixteen};
+ghost use Rattle.term_scorer.specs.Inner.Weights.{TopRead};
 ghost use Rattle.slot_order.specs.Inner.Rows.{Readable, termIn};
 
 // How many scorers stand before the one with which the list bounds exceed the threshold: all, if they never do.
-fn before_pivot(order: &[usize; 16], n: usize, tops: &[f32; 16], threshold: f32) -> usize
-    requires { ⌜ (n ≤ 16) × Sixteen (now order) × Sixteen (now tops) × All (λ q. q < 16) (take n (now order)) ⌝ }
-    ensures { λ r. ⌜ ((places docs : List (List ℕ))
-        → r ≡ beforePivot threshold (f32 .nil) (take n (map (termIn (before tops) places docs) (before order)))) ⌝ }
+fn before_pivot(order: &[usize; 16], n: usize, lists: &[[usize; 8]; 16], threshold: f32) -> usize
+    requires { ⌜ (n ≤ 16) × Sixteen (now order) × All (TopRead (now lists)) (take n (now order)) ⌝ }
+    ensures { λ r. ⌜ ((places : List (List ℕ)) (blocks : List (List (List ℕ)))
+        → r ≡ beforePivot threshold (f32 .nil) (take n (map (termIn (before lists) places blocks) (before order)))) ⌝ }
 {
     let mut max_score = 0.0f32;
     let mut i = 0usize;
     while i < n {
-        max_score = max_score + tops[order[i]];
+        max_score = max_score + score::max_score(lists, order[i]);
         if max_score > threshold {
             return i;
         }
@@ -41,15 +43,15 @@ fn end_of_pivot(
     from: usize,
     doc: u32,
     places: &Places,
-    docs: &[[u32; 128]; 16],
+    blocks: &Blocks,
 ) -> usize
     requires { ⌜ (from ≤ n) × (n ≤ 16) × Sixteen (now order) × All (Readable (now places)) (take n (now order)) ⌝ }
-    ensures { λ r. ⌜ ((tops : List Float)
-        → r ≡ from + countOn doc (drop from (take n (map (termIn tops (before places) (before docs)) (before order))))) ⌝ }
+    ensures { λ r. ⌜ ((lists : List (List ℕ))
+        → r ≡ from + countOn doc (drop from (take n (map (termIn lists (before places) (before blocks)) (before order))))) ⌝ }
 {
     let mut i = from;
     while i < n {
-        if slot::doc(order[i], places, docs) != doc {
+        if slot::doc(order[i], places, blocks) != doc {
             return i;
         }
         i += 1;
@@ -61,23 +63,24 @@ fn end_of_pivot(
 pub fn find_pivot_doc(
     order: &[usize; 16],
     n: usize,
-    tops: &[f32; 16],
+    lists: &[[usize; 8]; 16],
     threshold: f32,
     places: &Places,
-    docs: &[[u32; 128]; 16],
+    blocks: &Blocks,
 ) -> Pivot
-    requires { ⌜ (n ≤ 16) × Sixteen (now order) × Sixteen (now tops) × All (Readable (now places)) (take n (now order)) ⌝ }
-    ensures { λ r. ⌜ r ≡ pivotOf threshold (take n (map (termIn (before tops) (before places) (before docs)) (before order))) ⌝ }
+    requires { ⌜ (n ≤ 16) × Sixteen (now order) × All (TopRead (now lists)) (take n (now order))
+        × All (Readable (now places)) (take n (now order)) ⌝ }
+    ensures { λ r. ⌜ r ≡ pivotOf threshold (take n (map (termIn (before lists) (before places) (before blocks)) (before order))) ⌝ }
 {
-    let before_pivot_len = before_pivot(order, n, tops, threshold);
+    let before_pivot_len = before_pivot(order, n, lists, threshold);
     if n <= before_pivot_len {
         return Pivot::Nowhere;
     }
-    let pivot_doc = slot::doc(order[before_pivot_len], places, docs);
+    let pivot_doc = slot::doc(order[before_pivot_len], places, blocks);
     if pivot_doc == TERMINATED {
         return Pivot::Nowhere;
     }
-    let pivot_len = end_of_pivot(order, n, before_pivot_len + 1, pivot_doc, places, docs);
+    let pivot_len = end_of_pivot(order, n, before_pivot_len + 1, pivot_doc, places, blocks);
     Pivot::At {
         before_pivot_len,
         pivot_len,
@@ -86,17 +89,17 @@ pub fn find_pivot_doc(
 }
 
 // The place of the highest list bound among the first len scorers, the last among equals.
-pub fn scorer_to_seek(order: &[usize; 16], len: usize, tops: &[f32; 16]) -> usize
-    requires { ⌜ (0 < len) × (len ≤ 16) × Sixteen (now order) × Sixteen (now tops) × All (λ q. q < 16) (take len (now order)) ⌝ }
-    ensures { λ r. ⌜ ((places docs : List (List ℕ))
-        → r ≡ placeToSeek (take len (map (termIn (before tops) places docs) (before order)))) ⌝ }
+pub fn scorer_to_seek(order: &[usize; 16], len: usize, lists: &[[usize; 8]; 16]) -> usize
+    requires { ⌜ (0 < len) × (len ≤ 16) × Sixteen (now order) × All (TopRead (now lists)) (take len (now order)) ⌝ }
+    ensures { λ r. ⌜ ((places : List (List ℕ)) (blocks : List (List (List ℕ)))
+        → r ≡ placeToSeek (take len (map (termIn (before lists) places blocks) (before order)))) ⌝ }
 {
     let mut at = len - 1;
-    let mut highest = tops[order[at]];
+    let mut highest = score::max_score(lists, order[at]);
     let mut i = at;
     while 0 < i {
         i -= 1;
-        let max_score = tops[order[i]];
+        let max_score = score::max_score(lists, order[i]);
         if max_score > highest {
             highest = max_score;
             at = i;
@@ -112,16 +115,16 @@ pub fn least_doc(
     len: usize,
     from: u32,
     places: &Places,
-    docs: &[[u32; 128]; 16],
+    blocks: &Blocks,
 ) -> u32
     requires { ⌜ (len ≤ n) × (n ≤ 16) × Sixteen (now order) × All (Readable (now places)) (take n (now order)) ⌝ }
-    ensures { λ r. ⌜ ((tops : List Float)
-        → r ≡ leastDocOf from (drop len (take n (map (termIn tops (before places) (before docs)) (before order))))) ⌝ }
+    ensures { λ r. ⌜ ((lists : List (List ℕ))
+        → r ≡ leastDocOf from (drop len (take n (map (termIn lists (before places) (before blocks)) (before order))))) ⌝ }
 {
     let mut least = from;
     let mut i = len;
     while i < n {
-        let doc = slot::doc(order[i], places, docs);
+        let doc = slot::doc(order[i], places, blocks);
         i += 1;
         if doc <= least {
             least = doc;

@@ -1,7 +1,9 @@
 // The scorers as structs in an array of 16, read off the tables in their order, and their slots written back.
 use ordering::Scorers;
+use slot_rows::place::Blocks;
 use slot_rows::place::Places;
 use term_scorer::TermScorer;
+use term_scorer::score;
 use term_scorer::slot;
 ghost use mathlib.Core.List.{map};
 ghost use mathlib.Core.Path.{_≡_};
@@ -11,19 +13,21 @@ ghost use Rattle.arrays.specs.Lent.{before, after};
 ghost use Rattle.arrays.specs.Every.{All};
 ghost use Rattle.ordering.specs.Inner.Scorers.{slotOf};
 ghost use Rattle.term_scorer.specs.Inner.Slots.{Sixteen};
+ghost use Rattle.term_scorer.specs.Inner.Weights.{TopRead};
 ghost use Rattle.slot_order.specs.Inner.Rows.{Ordered, Readable, termIn};
 
 // The scorers of the first n slots.
 pub fn in_order(
     order: &[usize; 16],
     n: usize,
-    tops: &[f32; 16],
+    lists: &[[usize; 8]; 16],
     places: &Places,
-    docs: &[[u32; 128]; 16],
+    blocks: &Blocks,
 ) -> Scorers
-    requires { ⌜ (n ≤ 16) × Sixteen (now order) × Sixteen (now tops) × All (Readable (now places)) (take n (now order)) ⌝ }
+    requires { ⌜ (n ≤ 16) × Sixteen (now order) × All (TopRead (now lists)) (take n (now order))
+        × All (Readable (now places)) (take n (now order)) ⌝ }
     ensures { λ r.
-        let scorers = map (termIn (before tops) (before places) (before docs)) (take n (before order)) in
+        let scorers = map (termIn (before lists) (before places) (before blocks)) (take n (before order)) in
         ⌜ (r .len ≡ n) × (take n (r .scorers) ≡ scorers) ⌝ }
 {
     let mut out = [TermScorer {
@@ -34,10 +38,10 @@ pub fn in_order(
     let mut i = 0usize;
     while i < n {
         let q = order[i];
-        let doc = slot::doc(q, places, docs);
+        let doc = slot::doc(q, places, blocks);
         out[i] = TermScorer {
             doc,
-            max_score: tops[q],
+            max_score: score::max_score(lists, q),
             slot: q,
         };
         i += 1;

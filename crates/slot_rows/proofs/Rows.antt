@@ -17,6 +17,7 @@ use Rattle.route.specs.Cursor.{Cursor, advanceIn, seekBlockIn, seekIn}
 use Rattle.bm25.specs.declared.Scoring.{Scoring}
 use Rattle.bm25.specs.declared.Scoring.the-variants.{Unstepped}
 use Rattle.notefile.specs.Lists.{fullBlocks}
+use Rattle.notefile.specs.Inner.Reads.{docsOf}
 use Rattle.notefile.specs.declared.part.Part.{Part}
 use Rattle.decoded.specs.Lists.{listOf}
 use Rattle.skip_reader.specs.Inner.Decoded.{docIn, doc-is, Decoded, ListIn}
@@ -67,49 +68,49 @@ module _ (file : List ℕ) (x : Part) where
       ∙ ap (λ (b : Bool). record { «skip_reader» = p .«skip_reader»; «block_loaded» = b; decoded = p .decoded; cur = p .cur }) (flag-back (p .«block_loaded»))
 
   -- the row of a place that the arrays hold
-  kept-in : (p : SegmentPostings) (k m a : ℕ) {docs freqs : List ℕ} → Narrow p → Placed file x p docs freqs → PlaceIn file x (placeRow p k m a) docs freqs
-  kept-in p k m a {docs} {freqs} n P =
+  kept-in : (p : SegmentPostings) (k m a : ℕ) {block : List (List ℕ)} → Narrow p → Placed file x p block → PlaceIn file x (placeRow p k m a) block
+  kept-in p k m a {block} n P =
       let e = place-back p k m a (P .stands) in
       record {
         standing = record { row-is = ap (λ (q : SegmentPostings). placeRow q k m a) (sym e); narrow = subst Narrow (sym e) n; low = P .low };
-        placed = subst (λ (q : SegmentPostings). Placed file x q docs freqs) (sym e) P;
+        placed = subst (λ (q : SegmentPostings). Placed file x q block) (sym e) P;
       }
 
   -- what is known of its blocks moves nothing
-  told-in : {row row′ docs freqs : List ℕ} (k m a : ℕ) → row′ ≡ placeRow (postingsIn file x row) k m a → PlaceIn file x row docs freqs
-      → PlaceIn file x row′ docs freqs × (cursorIn row′ ≡ cursorIn row)
-  told-in {row} {row′} {docs} {freqs} k m a e P =
+  told-in : {row row′ : List ℕ} {block : List (List ℕ)} (k m a : ℕ) → row′ ≡ placeRow (postingsIn file x row) k m a → PlaceIn file x row block
+      → PlaceIn file x row′ block × (cursorIn row′ ≡ cursorIn row)
+  told-in {row} {row′} {block} k m a e P =
       let p = postingsIn file x row in (
-        subst (λ (z : List ℕ). PlaceIn file x z docs freqs) (sym e) (kept-in p k m a (P .standing .narrow) (P .placed)),
+        subst (λ (z : List ℕ). PlaceIn file x z block) (sym e) (kept-in p k m a (P .standing .narrow) (P .placed)),
         ap cursorIn e ∙ sym (cursor-is (placeRow p k m a)) ∙ ap cursorOf (place-back p k m a (P .placed .stands)) ∙ cursor-is row,
       )
 
   -- to know its bound, or not
-  pub bound-in : (k : ℕ) {row docs freqs : List ℕ} → PlaceIn file x row docs freqs → PlaceIn file x (set row 7 k) docs freqs × (cursorIn (set row 7 k) ≡ cursorIn row)
+  pub bound-in : (k : ℕ) {row : List ℕ} {block : List (List ℕ)} → PlaceIn file x row block → PlaceIn file x (set row 7 k) block × (cursorIn (set row 7 k) ≡ cursorIn row)
   bound-in k {row} P = told-in k (getD row 8 0) (getD row 9 0) (ap (λ (z : List ℕ). set z 7 k) (P .standing .row-is)) P
 
   -- to have made the scores of its decoded block, or not
-  pub scores-in : (k : ℕ) {row docs freqs : List ℕ} → PlaceIn file x row docs freqs → PlaceIn file x (set row 8 k) docs freqs × (cursorIn (set row 8 k) ≡ cursorIn row)
+  pub scores-in : (k : ℕ) {row : List ℕ} {block : List (List ℕ)} → PlaceIn file x row block → PlaceIn file x (set row 8 k) block × (cursorIn (set row 8 k) ≡ cursorIn row)
   scores-in k {row} P = told-in (getD row 7 0) k (getD row 9 0) (ap (λ (z : List ℕ). set z 8 k) (P .standing .row-is)) P
 
   -- to have bounds that stand ready, or not
-  pub ahead-in : (k : ℕ) {row docs freqs : List ℕ} → PlaceIn file x row docs freqs → PlaceIn file x (set row 9 k) docs freqs × (cursorIn (set row 9 k) ≡ cursorIn row)
+  pub ahead-in : (k : ℕ) {row : List ℕ} {block : List (List ℕ)} → PlaceIn file x row block → PlaceIn file x (set row 9 k) block × (cursorIn (set row 9 k) ≡ cursorIn row)
   ahead-in k {row} P = told-in (getD row 7 0) (getD row 8 0) k (ap (λ (z : List ℕ). set z 9 k) (P .standing .row-is)) P
 
   -- a row's document, whatever the scoring
-  here : (p : SegmentPostings) {docs freqs : List ℕ} → Placed file x p docs freqs → {doc : ℕ} → Here p docs doc → doc ≡ docIn file x (cursorOf p .at)
-  here p {docs} {freqs} P h = h file x freqs P Unstepped ∙ doc-is file x Unstepped (cursorOf p .at)
+  here : (p : SegmentPostings) {block : List (List ℕ)} → Placed file x p block → {doc : ℕ} → Here p block doc → doc ≡ docIn file x (cursorOf p .at)
+  here p {block} P h = h file x P Unstepped ∙ doc-is file x Unstepped (cursorOf p .at)
 
-  module _ (p : SegmentPostings) {docs freqs : List ℕ} (n : Narrow p) (to : Scoring → Cursor) (M : Moved file x to p docs freqs) where
+  module _ (p : SegmentPostings) {block : List (List ℕ)} (n : Narrow p) (to : Scoring → Cursor) (M : Moved file x to p block) where
     -- a place that has moved, kept in a row
-    kept-row : {row row′ : List ℕ} (k m a : ℕ) → row′ ≡ placeRow p k m a → {doc : ℕ} → Here p docs doc
+    kept-row : {row row′ : List ℕ} (k m a : ℕ) → row′ ≡ placeRow p k m a → {doc : ℕ} → Here p block doc
         → (k ≡ 1 → (getD row 7 0 ≡ 1) × (cursorOf p .blk ≡ cursorIn row .blk) × (cursorOf p .loaded ≡ cursorIn row .loaded))
-        → (m ≡ 1 → (getD row 8 0 ≡ 1) × (cursorOf p .dec ≡ cursorIn row .dec)) → ((b : ℕ) → a ≡ suc b → getD row 9 0 ≡ suc b) → MovedRow file x to row row′ docs freqs doc
+        → (m ≡ 1 → (getD row 8 0 ≡ 1) × (cursorOf p .dec ≡ cursorIn row .dec)) → ((b : ℕ) → a ≡ suc b → getD row 9 0 ≡ suc b) → MovedRow file x to row row′ block doc
     kept-row {row} {row′} k m a e {doc} h known made ready =
         let P = M .placed in
         let c : cursorIn row′ ≡ cursorOf p = ap cursorIn e ∙ sym (cursor-is (placeRow p k m a)) ∙ ap cursorOf (place-back p k m a (P .stands)) in
         record {
-          place = subst (λ (z : List ℕ). PlaceIn file x z docs freqs) (sym e) (kept-in p k m a n P);
+          place = subst (λ (z : List ℕ). PlaceIn file x z block) (sym e) (kept-in p k m a n P);
           cursor-is = λ s. c ∙ M .cursor-is s;
           doc-is = here p P h ∙ ap (λ (z : Cursor). docIn file x (z .at)) (sym c);
           bound-is = λ b.
@@ -121,8 +122,8 @@ module _ (file : List ℕ) (x : Part) where
           ahead-is = λ b u. ready b (sym (ap (λ (z : List ℕ). getD z 9 0) e) ∙ u);
         }
 
-    pub moved-row : {row row′ : List ℕ} (a : ℕ) → row′ ≡ placeRow p 0 0 a → {doc : ℕ} → Here p docs doc → ((b : ℕ) → a ≡ suc b → getD row 9 0 ≡ suc b)
-        → MovedRow file x to row row′ docs freqs doc
+    pub moved-row : {row row′ : List ℕ} (a : ℕ) → row′ ≡ placeRow p 0 0 a → {doc : ℕ} → Here p block doc → ((b : ℕ) → a ≡ suc b → getD row 9 0 ≡ suc b)
+        → MovedRow file x to row row′ block doc
     moved-row a e h ready = kept-row 0 0 a e h (λ k. absurd (omega (arith, k))) (λ k. absurd (omega (arith, k))) ready
 
 -- what functions of a part ask of the one that a row stands for
@@ -142,13 +143,13 @@ module _ (file list row : List ℕ) (move : Postings Float → Cursor → Cursor
   To s = move (listOf s file x) (cursorIn row)
 
   module _ {y : Part} (part-is : y ≡ partIn list) {q : SegmentPostings} (place-is : q ≡ postingsIn file y row) where
-    carried : (p : SegmentPostings) {docs freqs : List ℕ} → Moved file y (λ s. move (listOf s file y) (cursorOf q)) p docs freqs → Moved file x To p docs freqs
-    carried p {docs} {freqs} M =
-        let N = subst (λ (z : Part). Moved file z (λ s. move (listOf s file z) (cursorOf q)) p docs freqs) part-is M in
+    carried : (p : SegmentPostings) {block : List (List ℕ)} → Moved file y (λ s. move (listOf s file y) (cursorOf q)) p block → Moved file x To p block
+    carried p {block} M =
+        let N = subst (λ (z : Part). Moved file z (λ s. move (listOf s file z) (cursorOf q)) p block) part-is M in
         let e = subst (λ (z : Part). q ≡ postingsIn file z row) part-is place-is in
         record { cursor-is = λ s. N .cursor-is s ∙ ap (move (listOf s file x)) (ap cursorOf e ∙ cursor-is file x row); placed = N .placed }
 
-    pub moves : (p : SegmentPostings) {docs freqs : List ℕ} → Moved file y (λ s. move (listOf s file y) (cursorOf q)) p docs freqs → {row′ : List ℕ} → (row′ ≡ placeRow p 0 0 (getD row 9 0)) × Narrow p → {doc : ℕ} → Here p docs doc → MovedRow file x To row row′ docs freqs doc
+    pub moves : (p : SegmentPostings) {block : List (List ℕ)} → Moved file y (λ s. move (listOf s file y) (cursorOf q)) p block → {row′ : List ℕ} → (row′ ≡ placeRow p 0 0 (getD row 9 0)) × Narrow p → {doc : ℕ} → Here p block doc → MovedRow file x To row row′ block doc
     moves p M k h = moved-row file x p (k .1) To (carried p M) (getD row 9 0) (k .0) h (λ b u. u)
 
     -- what functions of a place ask of the one that a row stands for
@@ -162,16 +163,16 @@ module _ (file list row : List ℕ) (move : Postings Float → Cursor → Cursor
     pub block-for : (q .«skip_reader» .block ≡ getD row 0 0) × (fullBlocks y ≡ fullBlocks x)
     block-for = (block-is file y (getD row 0 0) reader-is, ap fullBlocks part-is)
 
-    pub placed-for : {docs freqs : List ℕ} → PlaceIn file x row docs freqs → Placed file y q docs freqs
-    placed-for {docs} {freqs} P =
-        subst (λ (z : Part). Placed file z q docs freqs) (sym part-is)
-        (subst (λ (z : SegmentPostings). Placed file x z docs freqs) (sym (subst (λ (z : Part). q ≡ postingsIn file z row) part-is place-is)) (P .placed))
+    pub placed-for : {block : List (List ℕ)} → PlaceIn file x row block → Placed file y q block
+    placed-for {block} P =
+        subst (λ (z : Part). Placed file z q block) (sym part-is)
+        (subst (λ (z : SegmentPostings). Placed file x z block) (sym (subst (λ (z : Part). q ≡ postingsIn file z row) part-is place-is)) (P .placed))
 
     -- a move of the reader alone, which keeps the place
     module _ (same-at : (s : Scoring) → To s .at ≡ cursorIn row .at) where
       pub moves-shallow : (p : SegmentPostings) → Shallow file y (λ s. move (listOf s file y) (cursorOf q)) q p → {row′ : List ℕ} → (row′ ≡ placeRow p 0 0 (getD row 9 0)) × Narrow p → ShallowRow file x To row row′
-      moves-shallow p M {row′} k docs freqs P =
-          let R = moves p (M docs freqs (placed-for P)) k (doc-here p docs) in
+      moves-shallow p M {row′} k block P =
+          let R = moves p (M block (placed-for P)) k (doc-here p block) in
           record {
             place = R .place;
             cursor-is = R .cursor-is;
@@ -182,7 +183,7 @@ module _ (file list row : List ℕ) (move : Postings Float → Cursor → Cursor
           }
 
   -- moves within the block decoded last
-  module _ {docs freqs : List ℕ} (P : PlaceIn file x row docs freqs) where
+  module _ {block : List (List ℕ)} (P : PlaceIn file x row block) where
     abbrev p : SegmentPostings
     p = postingsIn file x row
 
@@ -192,7 +193,7 @@ module _ (file list row : List ℕ) (move : Postings Float → Cursor → Cursor
     abbrev To-p : Scoring → Cursor
     To-p s = move (listOf s file x) (cursorOf p)
 
-    to-row : (cur : ℕ) → Moved file x To-p (at-cur cur) docs freqs → Moved file x To (at-cur cur) docs freqs
+    to-row : (cur : ℕ) → Moved file x To-p (at-cur cur) block → Moved file x To (at-cur cur) block
     to-row cur M = record { cursor-is = λ s. M .cursor-is s ∙ ap (move (listOf s file x)) (cursor-is file x row); placed = M .placed }
 
     narrow-in : (cur : ℕ) → Narrow (at-cur cur)
@@ -206,13 +207,13 @@ module _ (file list row : List ℕ) (move : Postings Float → Cursor → Cursor
     same-block cur = (refl, refl, refl)
 
     -- another posting of it
-    pub moves-in : (cur : ℕ) → Moved file x To-p (at-cur cur) docs freqs → {doc : ℕ} → doc ≡ getD docs cur 0 → MovedRow file x To row (set row 6 cur) docs freqs doc
+    pub moves-in : (cur : ℕ) → Moved file x To-p (at-cur cur) block → {doc : ℕ} → doc ≡ getD (docsOf block) cur 0 → MovedRow file x To row (set row 6 cur) block doc
     moves-in cur M {doc} e =
-        kept-row file x (at-cur cur) (narrow-in cur) To (to-row cur M) (getD row 7 0) (getD row 8 0) (getD row 9 0) (set-cur cur) (subst (Here (at-cur cur) docs) (sym e) (doc-here (at-cur cur) docs))
+        kept-row file x (at-cur cur) (narrow-in cur) To (to-row cur M) (getD row 7 0) (getD row 8 0) (getD row 9 0) (set-cur cur) (subst (Here (at-cur cur) block) (sym e) (doc-here (at-cur cur) block))
         (λ k. (k, same-block cur .0, same-block cur .1)) (λ k. (k, same-block cur .2)) (λ b u. u)
 
     -- the same posting
-    pub stays-in : Moved file x To-p p docs freqs → {doc : ℕ} → doc ≡ docIn file x (cursorIn row .at) → MovedRow file x To row row docs freqs doc
+    pub stays-in : Moved file x To-p p block → {doc : ℕ} → doc ≡ docIn file x (cursorIn row .at) → MovedRow file x To row row block doc
     stays-in M e = record {
       place = P;
       cursor-is = λ s. sym (cursor-is file x row) ∙ M .cursor-is s ∙ ap (move (listOf s file x)) (cursor-is file x row);
@@ -223,21 +224,21 @@ module _ (file list row : List ℕ) (move : Postings Float → Cursor → Cursor
     }
 
 -- the fast moves of a row: no struct is made
-module _ (file list row : List ℕ) (L : ListIn file (partIn list)) {docs freqs : List ℕ} (P : PlaceIn file (partIn list) row docs freqs) where
+module _ (file list row : List ℕ) (L : ListIn file (partIn list)) {block : List (List ℕ)} (P : PlaceIn file (partIn list) row block) where
   pub cur-inside : getD row 6 0 < 128
   unfolding postingsIn
   cur-inside = P .placed .inside
 
   -- the document that the scorer stands on is in the array
-  pub doc-in-array : docIn file (partIn list) (cursorIn row .at) ≡ getD docs (getD row 6 0) 0
+  pub doc-in-array : docIn file (partIn list) (cursorIn row .at) ≡ getD (docsOf block) (getD row 6 0) 0
   unfolding postingsIn
   doc-in-array =
-      sym (here file (partIn list) (postingsIn file (partIn list) row) (P .placed) (doc-here (postingsIn file (partIn list) row) docs)
+      sym (here file (partIn list) (postingsIn file (partIn list) row) (P .placed) (doc-here (postingsIn file (partIn list) row) block)
       ∙ ap (λ (c : Cursor). docIn file (partIn list) (c .at)) (cursor-is file (partIn list) row))
 
   module _ (t : ℕ) {doc : ℕ} (doc-is : doc ≡ docIn file (partIn list) (cursorIn row .at)) where
     abbrev Sought : (row′ : List ℕ) → ℕ → Type 0
-    Sought row′ d = MovedRow file (partIn list) (λ s. seekIn (listOf s file (partIn list)) 128 t (cursorIn row)) row row′ docs freqs d
+    Sought row′ d = MovedRow file (partIn list) (λ s. seekIn (listOf s file (partIn list)) 128 t (cursorIn row)) row row′ block d
 
     pub seeks-here : t ≤ doc → Sought row doc
     unfolding postingsIn
@@ -245,21 +246,21 @@ module _ (file list row : List ℕ) (L : ListIn file (partIn list)) {docs freqs 
         stays-in file list row (λ l c. seekIn l 128 t c) P
         (sought-here L (postingsIn file (partIn list) row) (P .placed) t (omega (arith, h, doc-is, doc-in-array))) doc-is
 
-    pub seeks-next : doc < t → {next : ℕ} → (next ≡ min (suc (getD row 6 0)) 127) × (next < 128) → t ≤ getD docs next 0 → Sought (set row 6 next) (getD docs next 0)
+    pub seeks-next : doc < t → {next : ℕ} → (next ≡ min (suc (getD row 6 0)) 127) × (next < 128) → t ≤ getD (docsOf block) next 0 → Sought (set row 6 next) (getD (docsOf block) next 0)
     unfolding postingsIn
     seeks-next h {next} (e, i) k =
         moves-in file list row (λ l c. seekIn l 128 t c) P next
         (sought-next L (postingsIn file (partIn list) row) (P .placed) t (omega (arith, h, doc-is, doc-in-array)) e i k) refl
 
-    module _ (h : doc < t) {next : ℕ} (e : (next ≡ min (suc (getD row 6 0)) 127) × (next < 128)) (k : getD docs next 0 < t) (on : getD row 4 0 ≡ 1) (r : t ≤ getD row 3 0)
-        {cur : ℕ} (c : cur ≡ countBelow 128 docs t) where
+    module _ (h : doc < t) {next : ℕ} (e : (next ≡ min (suc (getD row 6 0)) 127) × (next < 128)) (k : getD (docsOf block) next 0 < t) (on : getD row 4 0 ≡ 1) (r : t ≤ getD row 3 0)
+        {cur : ℕ} (c : cur ≡ countBelow 128 (docsOf block) t) where
       found-within : Moved file (partIn list) (λ s. seekIn (listOf s file (partIn list)) 128 t (cursorOf (postingsIn file (partIn list) row)))
           (record {
             «skip_reader» = postingsIn file (partIn list) row .«skip_reader»;
             «block_loaded» = postingsIn file (partIn list) row .«block_loaded»;
             decoded = postingsIn file (partIn list) row .decoded;
             cur = cur;
-          }) docs freqs
+          }) block
       unfolding postingsIn
       found-within =
           let l = ap (λ (z : List ℕ). getD z 3 0) (P .standing .row-is) in
@@ -268,10 +269,10 @@ module _ (file list row : List ℕ) (L : ListIn file (partIn list)) {docs freqs 
       pub within-inside : cur < 128
       within-inside = found-within .placed .inside
 
-      pub seeks-within : Sought (set row 6 cur) (getD docs cur 0)
+      pub seeks-within : Sought (set row 6 cur) (getD (docsOf block) cur 0)
       seeks-within = moves-in file list row (λ l z. seekIn l 128 t z) P cur found-within refl
 
-  pub advances-in : (getD row 6 0 ≡ 127 → ⊥) → MovedRow file (partIn list) (λ s. advanceIn (listOf s file (partIn list)) 128 (cursorIn row)) row (set row 6 (getD row 6 0 + 1)) docs freqs (getD docs (getD row 6 0 + 1) 0)
+  pub advances-in : (getD row 6 0 ≡ 127 → ⊥) → MovedRow file (partIn list) (λ s. advanceIn (listOf s file (partIn list)) 128 (cursorIn row)) row (set row 6 (getD row 6 0 + 1)) block (getD (docsOf block) (getD row 6 0 + 1) 0)
   unfolding postingsIn
   advances-in h = moves-in file list row (λ l c. advanceIn l 128 c) P (getD row 6 0 + 1) (advanced-in L (postingsIn file (partIn list) row) (P .placed) h) refl
 
@@ -287,9 +288,9 @@ module _ (file list row : List ℕ) (L : ListIn file (partIn list)) (S : Standin
   ]
 
   pub stays-shallow : t ≤ getD row 3 0 → ShallowRow file (partIn list) (λ s. seekBlockIn (listOf s file (partIn list)) 128 t (cursorIn row)) row row
-  stays-shallow h docs freqs P =
+  stays-shallow h block P =
       let r = ap (λ (z : List ℕ). getD z 3 0) (S .row-is) in
-      stays-in file list row shallow P (stays file (partIn list) L (postingsIn file (partIn list) row) (P .placed .stands) t (omega (arith, h, r)) docs freqs (P .placed)) refl
+      stays-in file list row shallow P (stays file (partIn list) L (postingsIn file (partIn list) row) (P .placed .stands) t (omega (arith, h, r)) block (P .placed)) refl
 
 -- the first posting of the reader's block
 module _ (file : List ℕ) (x : Part) (p : SegmentPostings) where
@@ -297,7 +298,7 @@ module _ (file : List ℕ) (x : Part) (p : SegmentPostings) where
   on-first = record { «skip_reader» = p .«skip_reader»; «block_loaded» = true; decoded = p .«skip_reader» .block; cur = 0 }
 
   -- which has just been decoded
-  first-of : {d f docs freqs : List ℕ} → Placed file x p d f → Decoded file x (p .«skip_reader» .block) docs freqs → Moved file x (λ _. firstOf (cursorOf p)) on-first docs freqs
+  first-of : {before block : List (List ℕ)} → Placed file x p before → Decoded file x (p .«skip_reader» .block) block → Moved file x (λ _. firstOf (cursorOf p)) on-first block
   unfolding cursorOf
   first-of P D = record {
     cursor-is = λ _. rw (add-zero (start 128 (p .«skip_reader» .block)));
@@ -309,22 +310,22 @@ module _ (file list row : List ℕ) where
   first l c = firstOf c
 
   -- the block was loaded: one number changes
-  pub first-in : {docs freqs : List ℕ} → PlaceIn file (partIn list) row docs freqs → getD row 4 0 ≡ 1
-      → MovedRow file (partIn list) (λ _. firstOf (cursorIn row)) row (set row 6 0) docs freqs (getD docs 0 0)
+  pub first-in : {block : List (List ℕ)} → PlaceIn file (partIn list) row block → getD row 4 0 ≡ 1
+      → MovedRow file (partIn list) (λ _. firstOf (cursorIn row)) row (set row 6 0) block (getD (docsOf block) 0 0)
   unfolding postingsIn
-  first-in {docs} {freqs} P h =
+  first-in {block} P h =
       let p = postingsIn file (partIn list) row in
       let b : p .«block_loaded» ≡ true = eq-eqb (getD row 4 0) 1 h in
       let d : p .decoded ≡ p .«skip_reader» .block = P .placed .loaded-is b in
-      let M = first-of file (partIn list) p (P .placed) (subst (λ (k : ℕ). Decoded file (partIn list) k docs freqs) d (P .placed .holds)) in
+      let M = first-of file (partIn list) p (P .placed) (subst (λ (k : ℕ). Decoded file (partIn list) k block) d (P .placed .holds)) in
       let same : on-first file (partIn list) p ≡ record { «skip_reader» = p .«skip_reader»; «block_loaded» = p .«block_loaded»; decoded = p .decoded; cur = 0 } = rw (b, d) in
-      moves-in file list row first P 0 (subst (λ (z : SegmentPostings). Moved file (partIn list) (λ _. firstOf (cursorOf p)) z docs freqs) same M) refl
+      moves-in file list row first P 0 (subst (λ (z : SegmentPostings). Moved file (partIn list) (λ _. firstOf (cursorOf p)) z block) same M) refl
 
   -- it has just been decoded
   module _ {y : Part} (part-is : y ≡ partIn list) {q : SegmentPostings} (place-is : q ≡ postingsIn file y row) where
-    pub first-loaded : {d f docs freqs : List ℕ} → PlaceIn file (partIn list) row d f → Decoded file y (q .«skip_reader» .block) docs freqs
+    pub first-loaded : {before block : List (List ℕ)} → PlaceIn file (partIn list) row before → Decoded file y (q .«skip_reader» .block) block
         → {row′ : List ℕ} → (row′ ≡ placeRow (on-first file y q) 0 0 (getD row 9 0)) × Narrow (on-first file y q)
-        → MovedRow file (partIn list) (λ _. firstOf (cursorIn row)) row row′ docs freqs (getD docs 0 0)
-    first-loaded {docs = docs} P D k =
+        → MovedRow file (partIn list) (λ _. firstOf (cursorIn row)) row row′ block (getD (docsOf block) 0 0)
+    first-loaded {block = block} P D k =
         moves file list row first part-is place-is (on-first file y q) (first-of file y q (placed-for file list row first part-is place-is P) D) k
-        (doc-here (on-first file y q) docs)
+        (doc-here (on-first file y q) block)

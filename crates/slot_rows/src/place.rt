@@ -15,6 +15,9 @@ pub type Place = [usize; 10];
 
 pub type Places = [[usize; 10]; 16];
 
+// The blocks that the slots decoded last.
+pub type Blocks = [[[u32; 128]; 2]; 16];
+
 // Where a place's numbers stand in its row. The last three say what is kept of its list: whether the block's bound is known,
 // whether the scores of the block decoded last are made, and the block behind those whose bounds stand ready, or 0.
 pub const BLOCK: usize = 0;

@@ -9,6 +9,8 @@ use crate::place::keep;
 use crate::place::part_of;
 use crate::place::postings_of;
 use block_search::search_block;
+use notefile::block::Block;
+use notefile::block::DOCS;
 use notefile::part::Part;
 use postings::cursor::SegmentPostings;
 use postings::cursor::next_place;
@@ -25,21 +27,15 @@ ghost use Rattle.skip_reader.specs.Inner.Decoded.{docIn, ListIn};
 ghost use Rattle.slot_rows.specs.Inner.Rows.{cursorIn, firstOf, partIn, MovedRow, PartRow, PlaceIn, ShallowRow, Standing, Unkept};
 
 // On the list's first posting. Nothing is kept of the list that had the row before.
-pub fn open(
-    file: &[u8],
-    x: Part,
-    place: &mut Place,
-    docs: &mut [u32; 128],
-    freqs: &mut [u32; 128],
-) -> u32
+pub fn open(file: &[u8], x: Part, place: &mut Place, block: &mut Block) -> u32
     requires { ⌜ ListIn (now file) x ⌝ }
-    ensures { λ r. ⌜ MovedRow (before file) x (λ _. fresh) (before place) (after place) (after docs) (after freqs) r
+    ensures { λ r. ⌜ MovedRow (before file) x (λ _. fresh) (before place) (after place) (after block) r
         × Unkept (after place) ⌝ }
 {
-    let p = SegmentPostings::open(file, x, docs, freqs);
+    let p = SegmentPostings::open(file, x, block);
     keep(p, place);
     place[AHEAD] = NOWHERE;
-    p.doc(docs)
+    p.doc(block)
 }
 
 // The skip reader alone goes on; within its block nothing moves.
@@ -66,21 +62,20 @@ fn seek_far(
     list: &[usize; 8],
     target: u32,
     place: &mut Place,
-    docs: &mut [u32; 128],
-    freqs: &mut [u32; 128],
+    block: &mut Block,
 ) -> u32
     requires { let x = partIn (now list) in
-        ⌜ PartRow (now list) × ListIn (now file) x × PlaceIn (now file) x (now place) (now docs) (now freqs) × (target ≤ 2147483647) ⌝ }
+        ⌜ PartRow (now list) × ListIn (now file) x × PlaceIn (now file) x (now place) (now block) × (target ≤ 2147483647) ⌝ }
     ensures { λ r.
         let x = partIn (before list) in
         let to : Scoring → Cursor = λ scoring. seekIn (listOf scoring (before file) x) 128 target (cursorIn (before place)) in
-        ⌜ MovedRow (before file) x to (before place) (after place) (after docs) (after freqs) r ⌝ }
+        ⌜ MovedRow (before file) x to (before place) (after place) (after block) r ⌝ }
 {
     let x = part_of(list);
     let p = postings_of(file, x, place);
-    let r = p.seek(file, x, target, docs, freqs);
+    let r = p.seek(file, x, target, block);
     keep(r, place);
-    r.doc(docs)
+    r.doc(block)
 }
 
 // On to the first posting from the target on: where the scorer stands, the next one, another of the block, or in another block.
@@ -90,105 +85,86 @@ pub fn seek(
     doc: u32,
     target: u32,
     place: &mut Place,
-    docs: &mut [u32; 128],
-    freqs: &mut [u32; 128],
+    block: &mut Block,
 ) -> u32
     requires { let x = partIn (now list) in
-        ⌜ PartRow (now list) × ListIn (now file) x × PlaceIn (now file) x (now place) (now docs) (now freqs)
+        ⌜ PartRow (now list) × ListIn (now file) x × PlaceIn (now file) x (now place) (now block)
         × (doc ≡ docIn (now file) x (cursorIn (now place) .at)) × (target ≤ 2147483647) ⌝ }
     ensures { λ r.
         let x = partIn (before list) in
         let to : Scoring → Cursor = λ scoring. seekIn (listOf scoring (before file) x) 128 target (cursorIn (before place)) in
-        ⌜ MovedRow (before file) x to (before place) (after place) (after docs) (after freqs) r ⌝ }
+        ⌜ MovedRow (before file) x to (before place) (after place) (after block) r ⌝ }
 {
     if target <= doc {
         return doc;
     }
     let next = next_place(place[CUR]);
-    let next_doc = docs[next];
+    let next_doc = block[DOCS][next];
     if target <= next_doc {
         place[CUR] = next;
         return next_doc;
     }
     if place[LOADED] == 1 {
         if place[LAST] >= target as usize {
-            let cur = search_block(docs, target);
+            let cur = search_block(&block[DOCS], target);
             place[CUR] = cur;
-            return docs[cur];
+            return block[DOCS][cur];
         }
     }
-    seek_far(file, list, target, place, docs, freqs)
+    seek_far(file, list, target, place, block)
 }
 
 // To the first posting of the next block.
-fn advance_far(
-    file: &[u8],
-    list: &[usize; 8],
-    place: &mut Place,
-    docs: &mut [u32; 128],
-    freqs: &mut [u32; 128],
-) -> u32
+fn advance_far(file: &[u8], list: &[usize; 8], place: &mut Place, block: &mut Block) -> u32
     requires { let x = partIn (now list) in
-        ⌜ PartRow (now list) × ListIn (now file) x × PlaceIn (now file) x (now place) (now docs) (now freqs)
+        ⌜ PartRow (now list) × ListIn (now file) x × PlaceIn (now file) x (now place) (now block)
         × (getD (now place) 0 0 ≤ fullBlocks x) ⌝ }
     ensures { λ r.
         let x = partIn (before list) in
         let to : Scoring → Cursor = λ scoring. advanceIn (listOf scoring (before file) x) 128 (cursorIn (before place)) in
-        ⌜ MovedRow (before file) x to (before place) (after place) (after docs) (after freqs) r ⌝ }
+        ⌜ MovedRow (before file) x to (before place) (after place) (after block) r ⌝ }
 {
     let x = part_of(list);
     let p = postings_of(file, x, place);
-    let r = p.advance(file, x, docs, freqs);
+    let r = p.advance(file, x, block);
     keep(r, place);
-    r.doc(docs)
+    r.doc(block)
 }
 
 // On to the next posting.
-pub fn advance(
-    file: &[u8],
-    list: &[usize; 8],
-    place: &mut Place,
-    docs: &mut [u32; 128],
-    freqs: &mut [u32; 128],
-) -> u32
+pub fn advance(file: &[u8], list: &[usize; 8], place: &mut Place, block: &mut Block) -> u32
     requires { let x = partIn (now list) in
-        ⌜ PartRow (now list) × ListIn (now file) x × PlaceIn (now file) x (now place) (now docs) (now freqs)
+        ⌜ PartRow (now list) × ListIn (now file) x × PlaceIn (now file) x (now place) (now block)
         × (getD (now place) 0 0 ≤ fullBlocks x) ⌝ }
     ensures { λ r.
         let x = partIn (before list) in
         let to : Scoring → Cursor = λ scoring. advanceIn (listOf scoring (before file) x) 128 (cursorIn (before place)) in
-        ⌜ MovedRow (before file) x to (before place) (after place) (after docs) (after freqs) r ⌝ }
+        ⌜ MovedRow (before file) x to (before place) (after place) (after block) r ⌝ }
 {
     let cur = place[CUR];
     if cur != 127 {
         place[CUR] = cur + 1;
-        return docs[cur + 1];
+        return block[DOCS][cur + 1];
     }
-    advance_far(file, list, place, docs, freqs)
+    advance_far(file, list, place, block)
 }
 
 // To the first posting of the skip reader's block, which is loaded if it is not.
-pub fn load(
-    file: &[u8],
-    list: &[usize; 8],
-    place: &mut Place,
-    docs: &mut [u32; 128],
-    freqs: &mut [u32; 128],
-) -> u32
+pub fn load(file: &[u8], list: &[usize; 8], place: &mut Place, block: &mut Block) -> u32
     requires { let x = partIn (now list) in
-        ⌜ PartRow (now list) × ListIn (now file) x × PlaceIn (now file) x (now place) (now docs) (now freqs) ⌝ }
+        ⌜ PartRow (now list) × ListIn (now file) x × PlaceIn (now file) x (now place) (now block) ⌝ }
     ensures { λ r.
         let x = partIn (before list) in
-        ⌜ MovedRow (before file) x (λ _. firstOf (cursorIn (before place))) (before place) (after place) (after docs) (after freqs) r ⌝ }
+        ⌜ MovedRow (before file) x (λ _. firstOf (cursorIn (before place))) (before place) (after place) (after block) r ⌝ }
 {
     if place[LOADED] == 1 {
         place[CUR] = 0;
-        return docs[0];
+        return block[DOCS][0];
     }
     let x = part_of(list);
     let p = postings_of(file, x, place);
     let skip_reader = p.skip_reader;
-    load_block(file, x, skip_reader, docs, freqs);
+    load_block(file, x, skip_reader, block);
     let loaded = SegmentPostings {
         skip_reader,
         block_loaded: true,
@@ -196,5 +172,5 @@ pub fn load(
         cur: 0,
     };
     keep(loaded, place);
-    docs[0]
+    block[DOCS][0]
 }

@@ -240,8 +240,8 @@ module _ {scoring : Scoring} {file : List ℕ} {lists : List (List ℕ)} {q : �
     row-there = ap (λ (z : List (List ℕ)). getD z q []) (B .places-are) ∙ getD-set-same places q _ [] (omega arith)
 
     -- its scorer stands where it stood
-    pub bounded-place : {docs freqs : List ℕ} → PlaceIn file (partAt lists q) (getD places q []) docs freqs
-        → PlaceIn file (partAt lists q) (getD places′ q []) docs freqs × (cursorAt places′ q ≡ cursorAt places q)
+    pub bounded-place : {block : List (List ℕ)} → PlaceIn file (partAt lists q) (getD places q []) block
+        → PlaceIn file (partAt lists q) (getD places′ q []) block × (cursorAt places′ q ≡ cursorAt places q)
     bounded-place P =
         let A = ahead-in file (partAt lists q) (B .end) P in
         let C = bound-in file (partAt lists q) (B .flag) (A .0) in
@@ -253,7 +253,7 @@ module _ {scoring : Scoring} {file : List ℕ} {lists : List (List ℕ)} {q : �
         ∙ getD-set-other (getD places q []) 9 8 (B .end) 0 (λ z. omega (arith, z))
 
     -- its bound is kept
-    pub bounded-kept : {docs freqs : List ℕ} → PlaceIn file (partAt lists q) (getD places q []) docs freqs → BoundKept scoring file lists places′ bounds′ q
+    pub bounded-kept : {block : List (List ℕ)} → PlaceIn file (partAt lists q) (getD places q []) block → BoundKept scoring file lists places′ bounds′ q
     bounded-kept P =
         let n = ap length (P .standing .row-is) in
         let e : getD (getD places′ q []) 9 0 ≡ B .end =

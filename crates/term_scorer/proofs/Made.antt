@@ -50,15 +50,15 @@ module _ {scoring : Scoring} {file : List ℕ} {lists : List (List ℕ)} {q : �
       (λ e. let z = eqb-true r q e in rw z (ap (λ (row : List ℕ). getD row k 0) row-there ∙ getD-set-other (getD places q []) 8 k 1 0 other))
       (λ e. ap (λ (row : List ℕ). getD row k 0) (row-other r (eqb-false r q e)))
 
-  place-there : (x : Part) (r : ℕ) {d f : List ℕ} → PlaceIn file x (getD places r []) d f → PlaceIn file x (getD places′ r []) d f
+  place-there : (x : Part) (r : ℕ) {b : List (List ℕ)} → PlaceIn file x (getD places r []) b → PlaceIn file x (getD places′ r []) b
   place-there x r P =
       on-test (eqb r q)
       (λ e. let z = eqb-true r q e in rw (z, row-there) (scores-in file x 1 (rw z at P) .0))
       (λ e. rw (row-other r (eqb-false r q e)) P)
 
-  pub made-slot : {docs freqs : List (List ℕ)} (r : ℕ) → SlotIn file lists (held places docs freqs) r → SlotIn file lists (held places′ docs freqs) r
+  pub made-slot : {blocks : List (List (List ℕ))} (r : ℕ) → SlotIn file lists (held places blocks) r → SlotIn file lists (held places′ blocks) r
   made-slot r S = record {
-    sixteen = (ap length (M .places-are) ∙ length-set places q (set (getD places q []) 8 1) ∙ n, S .sixteen .1, S .sixteen .2);
+    sixteen = (ap length (M .places-are) ∙ length-set places q (set (getD places q []) 8 1) ∙ n, S .sixteen .1);
     part-row = S .part-row;
     list = S .list;
     place = place-there (partAt lists r) r (S .place);

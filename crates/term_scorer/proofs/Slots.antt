@@ -29,14 +29,22 @@ unfolding cursorIn
 block-at places q n h = h
 
 module _ (file : List ℕ) (lists : List (List ℕ)) (q : ℕ) (h : q < 16) where
-  pub moved-slot : (to : Scoring → Cursor) {places docs freqs : List (List ℕ)} → Sixteen places × Sixteen docs × Sixteen freqs → {p d f : List ℕ} {doc : ℕ}
-      → MovedRow file (partAt lists q) to (getD places q []) p d f doc
-      → MovedSlot file lists q to (held places docs freqs) (held (set places q p) (set docs q d) (set freqs q f)) doc
-  moved-slot to {places} {docs} {freqs} (lp, ld, lf) {p} {d} {f} M = record {
+  pub moved-slot : (to : Scoring → Cursor) {places : List (List ℕ)} {blocks : List (List (List ℕ))} → Sixteen places × Sixteen blocks → {p : List ℕ} {b : List (List ℕ)} {doc : ℕ}
+      → MovedRow file (partAt lists q) to (getD places q []) p b doc
+      → MovedSlot file lists q to (held places blocks) (held (set places q p) (set blocks q b)) doc
+  moved-slot to {places} {blocks} (lp, lb) {p} {b} M = record {
     places-only = only-row places q p h lp;
-    docs-only = only-row docs q d h ld;
-    freqs-only = only-row freqs q f h lf;
-    moved = rw (same-row places q p h lp, same-row docs q d h ld, same-row freqs q f h lf) M;
+    blocks-only = only-row blocks q b h lb;
+    moved = rw (same-row places q p h lp, same-row blocks q b h lb) M;
+  }
+
+  -- within its block
+  pub moved-within : (to : Scoring → Cursor) {places : List (List ℕ)} {blocks : List (List (List ℕ))} → Sixteen places → {p : List ℕ} {doc : ℕ}
+      → MovedRow file (partAt lists q) to (getD places q []) p (getD blocks q []) doc → MovedSlot file lists q to (held places blocks) (held (set places q p) blocks) doc
+  moved-within to {places} {blocks} l {p} M = record {
+    places-only = only-row places q p h l;
+    blocks-only = sym (set-getD blocks q []);
+    moved = rw (same-row places q p h l) M;
   }
 
   pub shallowed : (to : Scoring → Cursor) {places : List (List ℕ)} → Sixteen places → {p : List ℕ}
@@ -52,15 +60,15 @@ module _ (file : List ℕ) (x : Part) (top q : ℕ) (h : q < 16) (lists : List (
   part-there : partAt (set lists q (partRow x top)) q ≡ x
   part-there = ap partIn (same-row lists q (partRow x top) h l) ∙ part-back x top
 
-  pub opened : {list : List ℕ} → (list ≡ partRow x top) × PartRow list → {places docs freqs : List (List ℕ)} → Sixteen places × Sixteen docs × Sixteen freqs → {p d f : List ℕ} {doc : ℕ}
-      → MovedRow file x (λ _. fresh) (getD places q []) p d f doc × Unkept p
-      → Opened file x top q lists (set lists q list) (held places docs freqs) (held (set places q p) (set docs q d) (set freqs q f)) doc
-  opened {list} (e, r) {places} {docs} {freqs} s {p} {d} {f} {doc} (M, u) =
-      subst (λ (z : List ℕ). Opened file x top q lists (set lists q z) (held places docs freqs) (held (set places q p) (set docs q d) (set freqs q f)) doc) (sym e)
+  pub opened : {list : List ℕ} → (list ≡ partRow x top) × PartRow list → {places : List (List ℕ)} {blocks : List (List (List ℕ))} → Sixteen places × Sixteen blocks → {p : List ℕ} {b : List (List ℕ)} {doc : ℕ}
+      → MovedRow file x (λ _. fresh) (getD places q []) p b doc × Unkept p
+      → Opened file x top q lists (set lists q list) (held places blocks) (held (set places q p) (set blocks q b)) doc
+  opened {list} (e, r) {places} {blocks} s {p} {b} {doc} (M, u) =
+      subst (λ (z : List ℕ). Opened file x top q lists (set lists q z) (held places blocks) (held (set places q p) (set blocks q b)) doc) (sym e)
       (record {
         lists-only = refl;
         part-row = subst PartRow e r;
         opened = moved-slot file (set lists q (partRow x top)) q h (λ _. fresh) s
-            (subst (λ (z : Part). MovedRow file z (λ _. fresh) (getD places q []) p d f doc) (sym part-there) M);
+            (subst (λ (z : Part). MovedRow file z (λ _. fresh) (getD places q []) p b doc) (sym part-there) M);
         unkept = rw (same-row places q p h (s .0)) u;
       })

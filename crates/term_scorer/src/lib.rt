@@ -5,7 +5,7 @@ pub mod slot;
 
 // The floats of a run, in rows of 128: block bounds by slot, and behind them seven that stand ready for each slot;
 // the intersection's sums of the bounds that follow, by place in its order;
-// then 16 rows for the scores of decoded blocks, by place in the block: a union has one for each slot, the others use the first.
+// then a row for the scores of each slot's decoded block, by place in the block.
 pub type Floats = [[f32; 128]; 18];
 
 pub const BOUNDS: usize = 0;

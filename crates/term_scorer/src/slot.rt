@@ -1,6 +1,8 @@
 // A scorer's moves by its slot. The other slots stay as they are.
+use notefile::block::DOCS;
 use notefile::part::Part;
 use slot_rows::place::BLOCK;
+use slot_rows::place::Blocks;
 use slot_rows::place::COUNT;
 use slot_rows::place::CUR;
 use slot_rows::place::LAST;
@@ -16,6 +18,7 @@ ghost use Rattle.arrays.specs.Lent.{before, after};
 ghost use Rattle.route.specs.Cursor.{advanceIn, seekBlockIn, seekIn};
 ghost use Rattle.route.specs.Postings.{start};
 ghost use Rattle.notefile.specs.Lists.{fullBlocks};
+ghost use Rattle.notefile.specs.Inner.Reads.{docsOf};
 ghost use Rattle.notefile.specs.declared.part.Part.{Part};
 ghost use Rattle.skip_reader.specs.Inner.Decoded.{docIn, ListIn};
 ghost use Rattle.slot_rows.specs.Inner.Rows.{firstOf};
@@ -30,27 +33,26 @@ pub fn open(
     q: usize,
     lists: &mut [[usize; 8]; 16],
     places: &mut Places,
-    docs: &mut [[u32; 128]; 16],
-    freqs: &mut [[u32; 128]; 16],
+    blocks: &mut Blocks,
 ) -> u32
     requires { ⌜ (q < 16) × ListIn (now file) x
-        × Sixteen (now lists) × Sixteen (now places) × Sixteen (now docs) × Sixteen (now freqs) ⌝ }
+        × Sixteen (now lists) × Sixteen (now places) × Sixteen (now blocks) ⌝ }
     ensures { λ r.
-        let old = held (before places) (before docs) (before freqs) in
-        let new = held (after places) (after docs) (after freqs) in
+        let old = held (before places) (before blocks) in
+        let new = held (after places) (after blocks) in
         ⌜ Opened (before file) x «max_score» q (before lists) (after lists) old new r ⌝ }
 {
     keep_part(x, max_score, &mut lists[q]);
-    row::open(file, x, &mut places[q], &mut docs[q], &mut freqs[q])
+    row::open(file, x, &mut places[q], &mut blocks[q])
 }
 
 // The document that slot q's scorer stands on.
-pub fn doc(q: usize, places: &Places, docs: &[[u32; 128]; 16]) -> u32
+pub fn doc(q: usize, places: &Places, blocks: &Blocks) -> u32
     requires { ⌜ (q < 16) × (getD (getD (now places) q []) 6 0 < 128) ⌝ }
-    ensures { λ r. ⌜ r ≡ getD (getD (before docs) q []) (getD (getD (before places) q []) 6 0) 0 ⌝ }
+    ensures { λ r. ⌜ r ≡ getD (docsOf (getD (before blocks) q [])) (getD (getD (before places) q []) 6 0) 0 ⌝ }
 {
     let cur = places[q][CUR];
-    docs[q][cur]
+    blocks[q][DOCS][cur]
 }
 
 // The last document of the block on which the skip reader stands.
@@ -109,28 +111,19 @@ pub fn seek(
     doc: u32,
     target: u32,
     places: &mut Places,
-    docs: &mut [[u32; 128]; 16],
-    freqs: &mut [[u32; 128]; 16],
+    blocks: &mut Blocks,
 ) -> u32
-    requires { let slots = held (now places) (now docs) (now freqs) in
+    requires { let slots = held (now places) (now blocks) in
         ⌜ (q < 16) × SlotIn (now file) (now lists) slots q
         × (doc ≡ docIn (now file) (partAt (now lists) q) (cursorAt (now places) q .at)) × (target ≤ 2147483647) ⌝ }
     ensures { λ r.
-        let old = held (before places) (before docs) (before freqs) in
-        let new = held (after places) (after docs) (after freqs) in
+        let old = held (before places) (before blocks) in
+        let new = held (after places) (after blocks) in
         ⌜ MovedSlot (before file) (before lists) q
         (λ s. seekIn (listAt s (before file) (before lists) q) 128 target (cursorAt (before places) q))
         old new r ⌝ }
 {
-    row::seek(
-        file,
-        &lists[q],
-        doc,
-        target,
-        &mut places[q],
-        &mut docs[q],
-        &mut freqs[q],
-    )
+    row::seek(file, &lists[q], doc, target, &mut places[q], &mut blocks[q])
 }
 
 // On to the next posting.
@@ -139,19 +132,43 @@ pub fn advance(
     lists: &[[usize; 8]; 16],
     q: usize,
     places: &mut Places,
-    docs: &mut [[u32; 128]; 16],
-    freqs: &mut [[u32; 128]; 16],
+    blocks: &mut Blocks,
 ) -> u32
-    requires { let slots = held (now places) (now docs) (now freqs) in
+    requires { let slots = held (now places) (now blocks) in
         ⌜ (q < 16) × SlotIn (now file) (now lists) slots q × (cursorAt (now places) q .blk ≤ fullBlocks (partAt (now lists) q)) ⌝ }
     ensures { λ r.
-        let old = held (before places) (before docs) (before freqs) in
-        let new = held (after places) (after docs) (after freqs) in
+        let old = held (before places) (before blocks) in
+        let new = held (after places) (after blocks) in
         ⌜ MovedSlot (before file) (before lists) q
         (λ s. advanceIn (listAt s (before file) (before lists) q) 128 (cursorAt (before places) q))
         old new r ⌝ }
 {
-    row::advance(file, &lists[q], &mut places[q], &mut docs[q], &mut freqs[q])
+    row::advance(file, &lists[q], &mut places[q], &mut blocks[q])
+}
+
+// `advance` for a loop over scorers: most stay in their block, and this much can stand in the loop.
+pub fn step(
+    file: &[u8],
+    lists: &[[usize; 8]; 16],
+    q: usize,
+    places: &mut Places,
+    blocks: &mut Blocks,
+) -> u32
+    requires { let slots = held (now places) (now blocks) in
+        ⌜ (q < 16) × SlotIn (now file) (now lists) slots q × (cursorAt (now places) q .blk ≤ fullBlocks (partAt (now lists) q)) ⌝ }
+    ensures { λ r.
+        let old = held (before places) (before blocks) in
+        let new = held (after places) (after blocks) in
+        ⌜ MovedSlot (before file) (before lists) q
+        (λ s. advanceIn (listAt s (before file) (before lists) q) 128 (cursorAt (before places) q))
+        old new r ⌝ }
+{
+    let cur = places[q][CUR];
+    if cur != 127 {
+        places[q][CUR] = cur + 1;
+        return blocks[q][DOCS][cur + 1];
+    }
+    advance(file, lists, q, places, blocks)
 }
 
 // To the first posting of the skip reader's block, which is loaded if it is not.
@@ -160,14 +177,13 @@ pub fn load(
     lists: &[[usize; 8]; 16],
     q: usize,
     places: &mut Places,
-    docs: &mut [[u32; 128]; 16],
-    freqs: &mut [[u32; 128]; 16],
+    blocks: &mut Blocks,
 ) -> u32
-    requires { ⌜ (q < 16) × SlotIn (now file) (now lists) (held (now places) (now docs) (now freqs)) q ⌝ }
+    requires { ⌜ (q < 16) × SlotIn (now file) (now lists) (held (now places) (now blocks)) q ⌝ }
     ensures { λ r.
-        let old = held (before places) (before docs) (before freqs) in
-        let new = held (after places) (after docs) (after freqs) in
+        let old = held (before places) (before blocks) in
+        let new = held (after places) (after blocks) in
         ⌜ MovedSlot (before file) (before lists) q (λ _. firstOf (cursorAt (before places) q)) old new r ⌝ }
 {
-    row::load(file, &lists[q], &mut places[q], &mut docs[q], &mut freqs[q])
+    row::load(file, &lists[q], &mut places[q], &mut blocks[q])
 }

@@ -20,14 +20,14 @@ use Rattle.block_wand_intersection.specs.declared.Intersection.{Intersec
 abbrev pub topSum : List (List ℕ) → ℕ → List ℕ → Float
 topSum lists n order = f32 .add (topAt lists (getD order 0 0)) (sum f32 (map (topAt lists) (drop 1 (take n order))))
 
--- each of the slots holds its list, on the first posting, with its norms and its list bound, and no block bound; the order is not yet made
+-- each of the slots holds its list, on the first posting, with its norms and its list bound, and keeps nothing; the order is not yet made
 pub record FreshSlots (x : Query) (h : Held) : Type 0 where
   pub two : 2 ≤ x .len
   pub few : x .len ≤ 16
   pub long : Sixteen (x .order)
-  pub norms-are : x .norms ≡ normReader (x .file)
-  pub sixteen : Sixteen (h .places) × Sixteen (h .docs) × Sixteen (h .freqs)
-  pub each : (q : ℕ) → q < x .len → FreshSlot (x .scoring) (x .file) (x .lists) (x .caches) h q
+  pub norms-are : x .reader ≡ normReader (x .file)
+  pub sixteen : Sixteen (h .places) × Sixteen (h .blocks)
+  pub each : (q : ℕ) → q < x .len → FreshSlot (x .scoring) (x .file) (x .lists) (x .norms) h q
 
 -- the run stands at the first place of the query's route, whatever the floats hold: that of the scorers by size
 pub record Begins (x : Query) (h : Held) (v : Intersection) : Type 0 where

@@ -11,7 +11,7 @@ use Rattle.route.specs.Report.{Report}
 use Rattle.route.specs.Intersection.{InterPlace, Stage as RouteStage, called, early, over, window, within}
 use Rattle.term_scorer.specs.Inner.Slots.{Held, cursorAt}
 use Rattle.term_scorer.specs.Inner.Weights.{BlockScores, FloatRows}
-use Rattle.intersection_window.specs.Inner.Scorers.{InOrder, Query, Ready, listIn, placeAt, slotAt}
+use Rattle.intersection_window.specs.Inner.Scorers.{InOrder, Query, Ready, ScoredIn, listIn, placeAt, slotAt}
 use Rattle.intersection_window.specs.Inner.Candidates.{Rests, leftIn}
 use Rattle.intersection_window.specs.Inner.Windows.{boundsOf, boundsRow, restsRow, scoresRow}
 use Rattle.intersection_window.specs.declared.leader.Candidates.{Candidates}
@@ -54,9 +54,9 @@ module _ (x : Query) where
   abbrev pub placeOf : Intersection → List (List ℕ) → List (List Float) → InterPlace Float
   placeOf v places floats = placeAt x places (stageOf places floats (v .stage)) (v .doc)
 
-  -- the scores of the block that the leader decoded last stand in their row
+  -- the scores of the block that the leader decoded last stand in its row
   abbrev pub Scored : List (List ℕ) → List (List Float) → Type 0
-  Scored places floats = BlockScores (listIn x (slotAt x 0)) (cursorAt places (slotAt x 0) .dec) (scoresRow floats)
+  Scored places floats = BlockScores (listIn x (slotAt x 0)) (cursorAt places (slotAt x 0) .dec) (scoresRow floats (slotAt x 0))
 
   -- in an open window the sums of the bounds that follow stand in theirs
   pub record Open (floats : List (List Float)) (c : Candidates) : Type 0 where
@@ -66,7 +66,7 @@ module _ (x : Query) where
 
   abbrev pub StageKept : List (List ℕ) → List (List Float) → Stage → Type 0
   StageKept places floats Early = Unit {0}
-  StageKept places floats Window = Scored places floats
+  StageKept places floats Window = Unit {0}
   StageKept places floats (Within c) = Scored places floats × Open floats c
   StageKept places floats (Called c) = Scored places floats × Open floats c
   StageKept places floats Over = Unit {0}
@@ -76,6 +76,7 @@ module _ (x : Query) where
     pub order : InOrder x
     pub ready : Ready x h (boundsRow floats)
     pub rows : FloatRows floats
+    pub scores : ScoredIn x (slotAt x 0) (h .places) floats
     pub len-is : v .len ≡ x .len
     pub max-is : v .«max_sum» ≡ maxSum x
     pub stage : StageKept (h .places) floats (v .stage)

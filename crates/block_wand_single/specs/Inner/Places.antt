@@ -2,7 +2,7 @@
 use mathlib.Core.Path.{_≡_}
 use mathlib.Core.Bool.{Bool, true, false, cond}
 use mathlib.Core.List.{List, []}
-use Prim.Native.Nat.{ℕ, suc, min, _+_}
+use Prim.Native.Nat.{ℕ, min, _+_}
 use lib.Dec.{eqb, ltb}
 use lib.ListN.{getD}
 use lib.Ieee.{Float}
@@ -11,10 +11,12 @@ use Rattle.route.specs.Postings.{Postings, TERMINATED, lastDoc, start}
 use Rattle.route.specs.Cursor.{Cursor, fresh}
 use Rattle.route.specs.Route.{Route}
 use Rattle.route.specs.Single as route
+use Rattle.notefile.specs.Inner.Reads.{docsOf}
 use Rattle.bm25.specs.declared.Scoring.{Scoring}
 use Rattle.reports.specs.declared.Event.{Event}
 use Rattle.reports.specs.declared.Event.the-variants.{Over, Paused, Report}
 use Rattle.term_scorer.specs.Inner.Slots.{Held, cursorAt, held, listAt, SlotIn}
+use Rattle.block_wand_single.specs.Inner.Kept.{KeptSlot}
 use Rattle.block_wand_single.specs.declared.Phase.{Phase}
 use Rattle.block_wand_single.specs.declared.Phase.the-variants.{Hunt, Walk, Called, Over as Done}
 use Rattle.block_wand_single.specs.declared.Single.{Single}
@@ -75,29 +77,24 @@ inBlock l c docs n i =
     cond (ltb i n) (record { phase = route.walk; cur = onPlace c i; doc = getD docs i 0 })
     (skipped l (onPlace c (min n 127)) TERMINATED)
 
--- slot q's scorer has moved, and the scan to a place of the route, whatever the scoring
+-- slot q's scorer has moved, and the scan to a place of the route, whatever the scoring: what was kept of the slot still is
 pub record MovedTo (file : List ℕ) (lists : List (List ℕ)) (q : ℕ) (to : Scoring → route.SinglePlace)
     (before after : Held) (r : Single) : Type 0 where
   pub slot-is : r .slot ≡ q
   pub place-is : (s : Scoring) → placeOf r (after .places) ≡ to s
-  pub slot : SlotIn file lists after q
-  pub bound-is : getD (getD (after .places) q []) 7 0 ≡ 1
-      → (getD (getD (before .places) q []) 7 0 ≡ 1) × (cursorAt (after .places) q .blk ≡ cursorAt (before .places) q .blk)
-      × (cursorAt (after .places) q .loaded ≡ cursorAt (before .places) q .loaded)
-  pub ahead-is : (e : ℕ) → getD (getD (after .places) q []) 9 0 ≡ suc e → getD (getD (before .places) q []) 9 0 ≡ suc e
+  pub kept : (s : Scoring) (norms floats : List (List Float)) → KeptSlot s file lists norms before floats q
+      → KeptSlot s file lists norms after floats q
 
 module _ (file : List ℕ) (lists : List (List ℕ)) (q : ℕ) where
   -- what `skip` leaves, whatever the slots have decoded
   pub record Skips (end : ℕ) (places places′ : List (List ℕ)) (r : Single) : Type 0 where
-    pub moved : (docs freqs : List (List ℕ)) → SlotIn file lists (held places docs freqs) q
+    pub moved : (blocks : List (List (List ℕ))) → SlotIn file lists (held places blocks) q
         → MovedTo file lists q (λ s. skipped (listAt s file lists q) (cursorAt places q) end)
-        (held places docs freqs) (held places′ docs freqs) r
+        (held places blocks) (held places′ blocks) r
     pub off : onWalk (r .phase) ≡ false
 
-  -- what `to_place` leaves, whatever the frequencies
-  pub record ToPlace (docs : List (List ℕ)) (n i : ℕ) (places places′ : List (List ℕ)) (r : Single) : Type 0 where
-    pub moved : (freqs : List (List ℕ)) → SlotIn file lists (held places docs freqs) q
-        → MovedTo file lists q (λ s. inBlock (listAt s file lists q) (cursorAt places q) (getD docs q []) n i)
-        (held places docs freqs) (held places′ docs freqs) r
-    pub same-block : (freqs : List (List ℕ)) → SlotIn file lists (held places docs freqs) q → onWalk (r .phase) ≡ true
-        → cursorAt places′ q .dec ≡ cursorAt places q .dec
+  -- what `to_place` leaves
+  pub record ToPlace (blocks : List (List (List ℕ))) (n i : ℕ) (places places′ : List (List ℕ)) (r : Single) : Type 0 where
+    pub moved : MovedTo file lists q (λ s. inBlock (listAt s file lists q) (cursorAt places q) (docsOf (getD blocks q [])) n i)
+        (held places blocks) (held places′ blocks) r
+    pub same-block : onWalk (r .phase) ≡ true → cursorAt places′ q .dec ≡ cursorAt places q .dec

@@ -1,12 +1,10 @@
 -- Where a scan stands, with all that it needs to go on, and what its parts leave.
 use mathlib.Core.Path.{_≡_}
 use mathlib.Core.Bool.{true}
-use mathlib.Core.List.{List, []}
-use Prim.Native.Nat.{ℕ, _+_, _≤_, _<_}
-use lib.ListN.{getD}
+use mathlib.Core.List.{List}
+use Prim.Native.Nat.{ℕ, _≤_, _<_}
 use lib.Ieee.{Float}
 use Rattle.route.specs.F32.{f32}
-use Rattle.route.specs.Postings.{Postings, start}
 use Rattle.route.specs.Cursor.{seekIn}
 use Rattle.route.specs.Route.{Route}
 use Rattle.route.specs.Single.{huntTurn, landed}
@@ -15,28 +13,25 @@ use Rattle.notefile.specs.Header.{normReader}
 use Rattle.reports.specs.Inner.Turns.{afterTurns, Silent, Went}
 use Rattle.reports.specs.declared.Event.{Event}
 use Rattle.reports.specs.declared.Event.the-variants.{Over, Paused, Report}
-use Rattle.term_scorer.specs.Inner.Slots.{Held, cursorAt, listAt, SlotIn}
-use Rattle.term_scorer.specs.Inner.Weights.{BlockScores, BoundKept, FloatRows, Weighed}
+use Rattle.term_scorer.specs.Inner.Slots.{Held, cursorAt, listAt}
+use Rattle.term_scorer.specs.Inner.Weights.{FloatRows}
 use Rattle.term_scorer.specs.declared.score.Similarity.{Similarity}
+use Rattle.block_wand_single.specs.Inner.Kept.{KeptSlot, Scored}
 use Rattle.block_wand_single.specs.Inner.Places.{onWalk, phaseOf, placeOf, singleRoute}
 use Rattle.block_wand_single.specs.declared.Gone.{Gone}
 use Rattle.block_wand_single.specs.declared.Single.{Single}
 
-module _ (file : List ℕ) (similarity : Similarity) (lists : List (List ℕ)) (caches : List (List Float)) where
-  -- slot q holds a scorer of the file, with its norms, and a block bound where one is known
+module _ (file : List ℕ) (similarity : Similarity) (lists : List (List ℕ)) (norms : List (List Float)) where
+  -- a scan has its tables, and all that is kept of slot q
   pub record Ready (q : ℕ) (h : Held) (floats : List (List Float)) : Type 0 where
-    pub small : q < 16
     pub norms-are : similarity .norms ≡ normReader file
-    pub slot : SlotIn file lists h q
-    pub weighed : Weighed lists caches q
     pub rows : FloatRows floats
-    pub bound : BoundKept (similarity .scoring) file lists (h .places) (getD floats 0 []) q
+    pub kept : KeptSlot (similarity .scoring) file lists norms h floats q
 
-  -- A scan stands at its place of the route: on a walk the floats have the scores of the block decoded last.
+  -- A scan stands at its place of the route: on a walk its slot's row has the scores of the block decoded last.
   pub record Stands (x : Single) (h : Held) (floats : List (List Float)) : Type 0 where
     pub ready : Ready (x .slot) h floats
-    pub scores : onWalk (x .phase) ≡ true
-        → BlockScores (listAt (similarity .scoring) file lists (x .slot)) (cursorAt (h .places) (x .slot) .dec) (getD floats 2 [])
+    pub scores : onWalk (x .phase) ≡ true → Scored (similarity .scoring) file lists (h .places) floats (x .slot)
     pub kept : SingleKept 128 (listAt (similarity .scoring) file lists (x .slot))
         (phaseOf (x .phase)) (cursorAt (h .places) (x .slot)) (x .doc)
 
@@ -46,8 +41,7 @@ module _ (file : List ℕ) (similarity : Similarity) (lists : List (List ℕ)) (
     pub place-is : let l = listAt (similarity .scoring) file lists (x .slot) in
         placeOf r (after .places) ≡ landed 128 f32 l (seekIn l 128 (x .doc) (cursorAt (before .places) (x .slot)))
     pub ready : Ready (x .slot) after floats
-    pub scores : onWalk (r .phase) ≡ true
-        → BlockScores (listAt (similarity .scoring) file lists (x .slot)) (cursorAt (after .places) (x .slot) .dec) (getD floats 2 [])
+    pub scores : onWalk (r .phase) ≡ true → Scored (similarity .scoring) file lists (after .places) floats (x .slot)
 
   module _ (t : Float) where
     -- what `hunt` leaves: the route's next place

@@ -14,8 +14,8 @@ use Rattle.bm25.specs.declared.Scoring.{Scoring}
 use Rattle.ordering.specs.Inner.Scorers.{Moving}
 use Rattle.term_scorer.specs.declared.TermScorer.{TermScorer}
 use Rattle.term_scorer.specs.Inner.Slots.{Held, lastAt, Sixteen}
-use Rattle.term_scorer.specs.Inner.Weights.{FloatRows}
-use Rattle.block_wand_union.specs.Inner.Seats.{Carried, Seat, Terms, TopIs, onRoute, scorerAt, terms, termsOf}
+use Rattle.term_scorer.specs.Inner.Weights.{FloatRows, TopKept}
+use Rattle.block_wand_union.specs.Inner.Seats.{Carried, Seat, Terms, onRoute, scorerAt, terms, termsOf}
 use Rattle.block_wand_union.specs.declared.align.Alignment.{Alignment}
 
 -- the least of t and the last documents of the slots' present blocks
@@ -31,7 +31,7 @@ module _ (file : List ℕ) (lists : List (List ℕ)) where
   -- the first len of l have shallowly sought doc, and r is the sum of their block bounds, in their order
   pub record BlocksSought (T : Terms) (h : Held) (doc len : ℕ)
       (h′ : Held) (floats′ : List (List Float)) (r : Float) (l : List TermScorer) : Type 0 where
-    pub seats : All (Seat file lists (terms (T .scoring) (T .caches) floats′) h′) l
+    pub seats : All (Seat file lists (terms (T .scoring) (T .norms) floats′) h′) l
     pub moving : Moving (seekBlock 128 doc) (scorerAt file lists (T .scoring) (h .places)) l len
         (scorerAt file lists (T .scoring) (h′ .places)) l
     pub sum-is : r ≡ sum f32 (map (blockMaxScore 128 f32) (onRoute file lists (T .scoring) h′ (take len l)))
@@ -43,9 +43,9 @@ module _ (file : List ℕ) (lists : List (List ℕ)) where
     pub scorers-are : onRoute file lists scoring h′ l′
         ≡ blockMaxWasTooLow 128 f32 (onRoute file lists scoring h (take len l)) (onRoute file lists scoring h (drop len l))
 
-  -- of n slots in the row, whatever the scoring, if the list bounds are in theirs
-  pub record TooLow (tops : List Float) (h : Held) (order : List ℕ) (n len : ℕ) (h′ : Held) (order′ : List ℕ) : Type 0 where
-    pub one : (scoring : Scoring) → All (TopIs file lists scoring tops) (take n order)
+  -- of n slots in the row, whatever the scoring, if their list bounds are kept
+  pub record TooLow (h : Held) (order : List ℕ) (n len : ℕ) (h′ : Held) (order′ : List ℕ) : Type 0 where
+    pub one : (scoring : Scoring) → All (TopKept scoring file lists) (take n order)
         → OneOn scoring h (termsOf file lists scoring (h .places) (take n order)) len h′ (termsOf file lists scoring (h′ .places) (take n order′))
     pub long : Sixteen order′
 

@@ -3,7 +3,7 @@ use mathlib.Core.Path.{_≡_}
 use mathlib.Core.List.{List, [], map}
 use Prim.Native.Nat.{ℕ, _≤_, _<_}
 use lib.ListN.{getD, take}
-use lib.Ieee.{Float, nan}
+use lib.Ieee.{Float}
 use Rattle.arrays.specs.Every.{All}
 use Rattle.route.specs.Scorer.{Scorer}
 use Rattle.route.specs.Union.{Stage, UnionPlace, called, looking, over}
@@ -14,18 +14,18 @@ use Rattle.term_scorer.specs.declared.TermScorer.{TermScorer}
 use Rattle.notefile.specs.Lists.{fullBlocks}
 use Rattle.skip_reader.specs.Inner.Decoded.{docIn}
 use Rattle.term_scorer.specs.Inner.Slots.{cursorAt, Held, listAt, partAt, SlotIn}
-use Rattle.term_scorer.specs.Inner.Weights.{BoundKept, FloatRows, ScoresKept, TopKept, topAt, Weighed}
+use Rattle.term_scorer.specs.Inner.Weights.{BoundKept, FloatRows, ScoresKept, TopKept, Weighed}
 use Rattle.block_wand_union.specs.declared.Stage as code
 use Rattle.block_wand_union.specs.declared.Stage.the-variants.{Called, Looking, Over}
 
 -- how the lists' postings are scored, and the block bounds and scores that are kept
 pub record Terms : Type 0 where
   pub scoring : Scoring
-  pub caches : List (List Float)
+  pub norms : List (List Float)
   pub floats : List (List Float)
 
 abbrev pub terms : Scoring → List (List Float) → List (List Float) → Terms
-terms scoring caches floats = record { scoring = scoring; caches = caches; floats = floats }
+terms scoring norms floats = record { scoring = scoring; norms = norms; floats = floats }
 
 -- the scorers of an array that are left
 abbrev pub alive : Scorers → List TermScorer
@@ -36,10 +36,6 @@ abbrev pub stageOf : code.Stage → Stage
 stageOf Looking = looking
 stageOf (Called n) = called n
 stageOf Over = over
-
--- a row has slot q's list bound, as it was kept
-abbrev pub TopCopied : List (List ℕ) → List Float → ℕ → Type 0
-TopCopied lists tops q = getD tops q nan ≡ topAt lists q
 
 -- slot q's skip reader has a block to stand on, so that its scorer can advance
 abbrev pub Inside : List (List ℕ) → Held → ℕ → Type 0
@@ -83,15 +79,11 @@ module _ (file : List ℕ) (lists : List (List ℕ)) where
   abbrev pub MaxScoreAt : Scoring → TermScorer → Type 0
   MaxScoreAt scoring s = listAt scoring file lists (s .slot) .top ≡ s .«max_score»
 
-  -- a row has slot q's list bound
-  abbrev pub TopIs : Scoring → List Float → ℕ → Type 0
-  TopIs scoring tops q = getD tops q nan ≡ listAt scoring file lists q .top
-
   -- a scorer stands in its slot, with its list's norms and its list bound; a block bound that is known is right, and so are scores
   -- that are made
   pub record Seat (T : Terms) (h : Held) (s : TermScorer) : Type 0 where
     pub stand : Stand h s
-    pub weighed : Weighed lists (T .caches) (s .slot)
+    pub weighed : Weighed lists (T .norms) (s .slot)
     pub bound : BoundKept (T .scoring) file lists (h .places) (getD (T .floats) 0 []) (s .slot)
     pub scores : ScoresKept (T .scoring) file lists (h .places) (T .floats) (s .slot)
     pub max-is : MaxScoreAt (T .scoring) s
@@ -104,10 +96,10 @@ module _ (file : List ℕ) (lists : List (List ℕ)) where
     pub inside : Inside lists h q
 
   -- postings were scored: every scorer stands where it stood, and where it was right it still is
-  pub record Unmoved (scoring : Scoring) (caches : List (List Float)) (floats : List (List Float)) (h : Held)
+  pub record Unmoved (scoring : Scoring) (norms : List (List Float)) (floats : List (List Float)) (h : Held)
       (floats′ : List (List Float)) (h′ : Held) : Type 0 where
     pub cursor-is : (q : ℕ) → cursorAt (h′ .places) q ≡ cursorAt (h .places) q
-    pub seats : (s : TermScorer) → Seat (terms scoring caches floats) h s → Seat (terms scoring caches floats′) h′ s
+    pub seats : (s : TermScorer) → Seat (terms scoring norms floats) h s → Seat (terms scoring norms floats′) h′ s
     pub rows : FloatRows floats′
 
   -- the scorers of these slots can move, each in a slot of its own
@@ -115,12 +107,10 @@ module _ (file : List ℕ) (lists : List (List ℕ)) where
     pub stands : (scoring : Scoring) → All (Stand h) (termsOf scoring (h .places) qs)
     pub apart : (scoring : Scoring) → Apart (termsOf scoring (h .places) qs)
 
-  -- after moves of scorers l, those left are l′: each stands in a slot of its own, where it was right it still is,
-  -- and a row that has the list bounds of l has theirs
+  -- after moves of scorers l, those left are l′: each stands in a slot of its own, and where it was right it still is
   pub record Carried (h : Held) (l : List TermScorer) (h′ : Held) (l′ : List TermScorer) : Type 0 where
     pub stands : All (Stand h′) l′
     pub apart : Apart l′
-    pub topped : (scoring : Scoring) (tops : List Float) → All (λ s. TopIs scoring tops (s .slot)) l → All (λ s. TopIs scoring tops (s .slot)) l′
     pub seats : (T : Terms) → All (Seat T h) l → All (Seat T h′) l′
 
   -- the scorers of a run, each in a slot of its own

@@ -18,10 +18,10 @@ use Rattle.term_scorer.specs.declared.TermScorer.{TermScorer}
 use Rattle.ordering.specs.declared.Pivot.the-variants.{At}
 use Rattle.notefile.specs.Header.{documents}
 use Rattle.term_scorer.specs.Inner.Slots.{Held, Sixteen}
-use Rattle.block_wand_union.specs.Inner.Seats.{Seated, Terms, TopIs, onRoute, placeIn, terms, termsOf}
+use Rattle.block_wand_union.specs.Inner.Seats.{Seated, Terms, onRoute, placeIn, terms, termsOf}
 use Rattle.block_wand_union.specs.declared.Stage.{Stage}
 use Rattle.block_wand_union.specs.declared.Stage.the-variants.{Looking}
-use Rattle.block_wand_union.specs.declared.turn.Span.{Span}
+use Rattle.block_wand_union.specs.declared.pivot.Span.{Span}
 use Rattle.block_wand_union.specs.declared.turn.Step.{Step}
 
 -- the report that a step found due
@@ -42,11 +42,9 @@ module _ (file : List ℕ) (lists : List (List ℕ)) where
     pub next-is : u .next ≡ placeIn file lists scoring (h′ .places) (r .union .stage) (leftBy scoring h′ order′ r)
     pub due-is : u .due ≡ dueOf r
 
-  -- the scorers that a step leaves of n slots are seated, and a row that has the list bounds of these has theirs
-  pub record Left (T : Terms) (n : ℕ) (order : List ℕ) (h′ : Held) (order′ : List ℕ) (floats′ : List (List Float)) (r : Step) : Type 0 where
-    pub seated : Seated file lists (terms (T .scoring) (T .caches) floats′) h′ (leftBy (T .scoring) h′ order′ r)
-    pub topped : (tops : List Float) → All (TopIs file lists (T .scoring) tops) (take n order)
-        → All (TopIs file lists (T .scoring) tops) (take (r .union .len) order′)
+  -- the scorers that a step leaves are seated
+  abbrev pub Left : Terms → Held → List ℕ → List (List Float) → Step → Type 0
+  Left T h′ order′ floats′ r = Seated file lists (terms (T .scoring) (T .norms) floats′) h′ (leftBy (T .scoring) h′ order′ r)
 
   -- scorers at a pivot whose blocks are high enough: seated, and safe on the route
   pub record AtPivot (T : Terms) (h : Held) (l : List TermScorer) (at : Span) : Type 0 where
@@ -57,7 +55,7 @@ module _ (file : List ℕ) (lists : List (List ℕ)) where
   -- the first len of n slots, all on document p, were scored at threshold t, and went on if no report is due
   pub record Hit (T : Terms) (t : Float) (h : Held) (order : List ℕ) (n len p : ℕ) (h′ : Held) (order′ : List ℕ)
       (floats′ : List (List Float)) (r : Step) : Type 0 where
-    pub left : Left T n order h′ order′ floats′ r
+    pub left : Left T h′ order′ floats′ r
     pub does : (ls : List Load)
         → let l = termsOf file lists (T .scoring) (h .places) (take n order) in
         let route = onRoute file lists (T .scoring) h in
@@ -68,7 +66,7 @@ module _ (file : List ℕ) (lists : List (List ℕ)) where
   -- what the route does from there, at threshold t
   pub record Pivoted (T : Terms) (t : Float) (h : Held) (order : List ℕ) (n : ℕ) (at : Span)
       (h′ : Held) (order′ : List ℕ) (floats′ : List (List Float)) (r : Step) : Type 0 where
-    pub left : Left T n order h′ order′ floats′ r
+    pub left : Left T h′ order′ floats′ r
     pub does :
         let l = termsOf file lists (T .scoring) (h .places) (take n order) in
         let route = onRoute file lists (T .scoring) h in
@@ -82,10 +80,9 @@ module _ (file : List ℕ) (lists : List (List ℕ)) where
     pub long : Sixteen order′
 
   -- n slots, and the pivot that was found among their scorers
-  pub record ToPivot (T : Terms) (t : Float) (tops : List Float) (h : Held) (order : List ℕ) (n : ℕ) (at : Span) : Type 0 where
+  pub record ToPivot (T : Terms) (t : Float) (h : Held) (order : List ℕ) (n : ℕ) (at : Span) : Type 0 where
     pub few : n ≤ 16
     pub long : Sixteen order
-    pub topped : All (TopIs file lists (T .scoring) tops) (take n order)
     pub found : At (at .«before_pivot_len») (at .«pivot_len») (at .«pivot_doc»)
         ≡ pivotOf t (termsOf file lists (T .scoring) (h .places) (take n order))
     pub seated : Seated file lists T h (termsOf file lists (T .scoring) (h .places) (take n order))
@@ -98,6 +95,6 @@ module _ (file : List ℕ) (lists : List (List ℕ)) where
     pub does : Does (T .scoring)
         (unionTurn 128 f32 t (placeIn file lists (T .scoring) (h .places) stage (termsOf file lists (T .scoring) (h .places) (take n order))))
         h′ order′ r
-    pub left : Left T n order h′ order′ floats′ r
+    pub left : Left T h′ order′ floats′ r
     pub few : r .union .len ≤ n
     pub long : Sixteen order′

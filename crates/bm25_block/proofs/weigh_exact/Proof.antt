@@ -5,8 +5,6 @@ use native.Mathlib.Omega.{arith}
 use lib.ListN.{getD}
 use lib.Ieee.{nan}
 use borrow.Author.Needs.{needs}
-use borrow.Author.Tests.{leb-true}
-use Rattle.arrays.proofs.Every.{each}
 use Rattle.arrays.proofs.Filling.{Filling, begun, goes-on, ended}
 use Rattle.bm25.specs.Score.{scoreAt}
 use Rattle.bm25_block.proofs.AtMost.{each-at-most}

@@ -1,5 +1,6 @@
 -- What the loops over a block's 128 postings leave.
-use mathlib.Core.Bool.{Bool, cond}
+use mathlib.Core.Path.{_≡_}
+use mathlib.Core.Bool.{Bool, true, cond}
 use mathlib.Core.List.{List}
 use Prim.Native.Nat.{ℕ}
 use lib.Dec.{leb}
@@ -29,6 +30,10 @@ allAtMost limit xs = every 128 (λ i. leb (getD xs i 0) limit)
 abbrev pub allExact : List ℕ → Bool
 allExact freqs = allAtMost 16777216 freqs
 
+-- what a caller says who calls a block small
+abbrev pub ExactWhere : Bool → List ℕ → Type 0
+ExactWhere small freqs = small ≡ true → allExact freqs ≡ true
+
 -- each posting's score, at its norm
 abbrev pub weighedAt : Float → List ℕ → List Float → ℕ → Float
 weighedAt weight freqs norms i = scoreAt weight (getD norms i nan) (getD freqs i 0)
@@ -39,6 +44,11 @@ Weighed weight freqs norms out = Holds nan 128 (weighedAt weight freqs norms) ou
 -- each score cut down to the grid
 abbrev pub CutDown : List Float → List Float → Type 0
 CutDown xs out = Holds nan 128 (λ i. stepDown (getD xs i nan)) out
+
+-- each posting's score, by a list's norms and weight
+abbrev pub ScoredBy : FieldNormReader → List ℕ → List Float → Float → Scoring → List ℕ → List ℕ → List Float → Type 0
+ScoredBy reader file cache weight scoring docs freqs out =
+    Holds nan 128 (λ i. scored scoring (scoreAt weight (getD cache (fieldnormId reader file (getD docs i 0)) nan) (getD freqs i 0))) out
 
 -- posting i's score, by its list's struct
 abbrev pub postingScore : FieldNormReader → List ℕ → Bm25Weight → List ℕ → List ℕ → ℕ → Float

@@ -11,26 +11,26 @@ use Rattle.route.specs.Intersection.{Stage, InterPlace}
 use Rattle.bm25.specs.declared.Scoring.{Scoring}
 use Rattle.notefile.specs.Header.{normReader}
 use Rattle.term_scorer.specs.Inner.Slots.{Held, Sixteen, SlotIn, cursorAt, listAt}
-use Rattle.term_scorer.specs.Inner.Weights.{Weighed, BoundKept, FloatRow}
+use Rattle.term_scorer.specs.Inner.Weights.{Weighed, BoundKept, FloatRow, ScoresKept}
 use Rattle.term_scorer.specs.declared.score.Similarity.{Similarity}
 
 -- what a run has of its query and does not change: the lists by slot with their norms, how many, and the slots in the scorers' order
 pub record Query : Type 0 where
-  pub norms : FieldNormReader
+  pub reader : FieldNormReader
   pub scoring : Scoring
   pub file : List ℕ
   pub lists : List (List ℕ)
-  pub caches : List (List Float)
+  pub norms : List (List Float)
   pub len : ℕ
   pub order : List ℕ
 
 abbrev pub query : Similarity → List ℕ → List (List ℕ) → List (List Float) → ℕ → List ℕ → Query
-query similarity file lists caches len order = record {
-  norms = similarity .norms;
+query similarity file lists norms len order = record {
+  reader = similarity .norms;
   scoring = similarity .scoring;
   file = file;
   lists = lists;
-  caches = caches;
+  norms = norms;
   len = len;
   order = order;
 }
@@ -69,12 +69,12 @@ module _ (x : Query) where
     pub leader : 0 < x .len
     pub below : (i : ℕ) → i < x .len → slotAt x i < x .len
     pub apart : (i j : ℕ) → i < x .len → j < x .len → slotAt x i ≡ slotAt x j → i ≡ j
-    pub norms-are : x .norms ≡ normReader (x .file)
-    pub weighed : (q : ℕ) → q < x .len → Weighed (x .lists) (x .caches) q
+    pub norms-are : x .reader ≡ normReader (x .file)
+    pub weighed : (q : ℕ) → q < x .len → Weighed (x .lists) (x .norms) q
 
   -- each slot's scorer stands in its list
   pub record SlotsIn (h : Held) : Type 0 where
-    pub sixteen : Sixteen (h .places) × Sixteen (h .docs) × Sixteen (h .freqs)
+    pub sixteen : Sixteen (h .places) × Sixteen (h .blocks)
     pub slot : (q : ℕ) → q < x .len → SlotIn (x .file) (x .lists) h q
 
   -- block bounds that are known are kept
@@ -85,6 +85,13 @@ module _ (x : Query) where
   abbrev pub StillKept : List (List ℕ) → List (List ℕ) → Type 0
   StillKept places places′ = (bounds : List Float) → BoundsKept places bounds → BoundsKept places′ bounds
 
+  -- where the scores of slot q's decoded block are made, they stand in its row, and they still do
+  abbrev pub ScoredIn : ℕ → List (List ℕ) → List (List Float) → Type 0
+  ScoredIn q places floats = ScoresKept (x .scoring) (x .file) (x .lists) places floats q
+
+  abbrev pub StillScored : ℕ → List (List ℕ) → List (List ℕ) → Type 0
+  StillScored q places places′ = (floats : List (List Float)) → ScoredIn q places floats → ScoredIn q places′ floats
+
 -- a run's arrays between two of its steps
 pub record Ready (x : Query) (h : Held) (bounds : List Float) : Type 0 where
   pub seated : SlotsIn x h
@@ -94,5 +101,4 @@ pub record Ready (x : Query) (h : Held) (bounds : List Float) : Type 0 where
 -- what stands in slot q is as it was
 pub record Unmoved (q : ℕ) (h h′ : Held) : Type 0 where
   pub place : getD (h′ .places) q [] ≡ getD (h .places) q []
-  pub docs : getD (h′ .docs) q [] ≡ getD (h .docs) q []
-  pub freqs : getD (h′ .freqs) q [] ≡ getD (h .freqs) q []
+  pub block : getD (h′ .blocks) q [] ≡ getD (h .blocks) q []

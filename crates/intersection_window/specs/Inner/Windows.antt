@@ -2,7 +2,7 @@
 use mathlib.Core.Path.{_≡_}
 use mathlib.Core.Bool.{false, true}
 use mathlib.Core.List.{List, [], map}
-use Prim.Native.Nat.{ℕ, suc, _≤_}
+use Prim.Native.Nat.{ℕ, suc, _+_, _≤_}
 use lib.ListN.{drop, getD, take}
 use lib.Ieee.{Float, nan}
 use Rattle.route.specs.F32.{f32}
@@ -12,7 +12,7 @@ use Rattle.route.specs.Union.{leastLastDoc}
 use Rattle.route.specs.Intersection.{allRemain, candidatesIn, over, seekBlockAll, window, windowTurn, within}
 use Rattle.term_scorer.specs.Inner.Slots.{Held, cursorAt, held}
 use Rattle.term_scorer.specs.Inner.Weights.{FloatRows}
-use Rattle.intersection_window.specs.Inner.Scorers.{Query, Ready, leaderIn, listIn, placeAt, secondariesIn, slotAt}
+use Rattle.intersection_window.specs.Inner.Scorers.{Query, Ready, StillScored, leaderIn, listIn, placeAt, secondariesIn, slotAt}
 use Rattle.intersection_window.specs.Inner.Candidates.{Rests}
 use Rattle.intersection_window.specs.declared.window.Secondaries.{Secondaries}
 use Rattle.intersection_window.specs.declared.window.Window.{Window}
@@ -22,21 +22,21 @@ use Rattle.intersection_window.specs.declared.window.Window.the-variants
 abbrev pub boundsAlong : ℕ → List ℕ → List Float → List Float
 boundsAlong len order bounds = map (λ q. getD bounds q nan) (drop 1 (take len order))
 
--- the rows of the run's floats: the bounds by slot, the sums of those that follow, and the scores of the leader's block
+-- the rows of the run's floats: the bounds by slot, the sums of those that follow, and the scores of slot q's decoded block
 abbrev pub boundsRow : List (List Float) → List Float
 boundsRow floats = getD floats 0 []
 
 abbrev pub restsRow : List (List Float) → List Float
 restsRow floats = getD floats 1 []
 
-abbrev pub scoresRow : List (List Float) → List Float
-scoresRow floats = getD floats 2 []
+abbrev pub scoresRow : List (List Float) → ℕ → List Float
+scoresRow floats q = getD floats (2 + q) []
 
 -- behind each secondary the sum of the bounds that follow is written, and nothing else
 pub record Sums (n : ℕ) (order : List ℕ) (floats floats′ : List (List Float)) : Type 0 where
   pub rests : Rests n (boundsAlong n order (boundsRow floats)) (restsRow floats′)
   pub bounds : boundsRow floats′ ≡ boundsRow floats
-  pub scores : scoresRow floats′ ≡ scoresRow floats
+  pub scores : (q : ℕ) → scoresRow floats′ q ≡ scoresRow floats q
   pub rows : FloatRows floats′
 
 abbrev pub boundsOf : Query → List Float → List Float
@@ -45,7 +45,7 @@ boundsOf x bounds = boundsAlong (x .len) (x .order) bounds
 -- every secondary's skip reader has gone on to document d
 pub record Gathered (x : Query) (d leaderEnd : ℕ) (h : Held)
     (places′ : List (List ℕ)) (bounds′ : List Float) (r : Secondaries) : Type 0 where
-  pub ready : Ready x (held places′ (h .docs) (h .freqs)) bounds′
+  pub ready : Ready x (held places′ (h .blocks)) bounds′
   pub leader : getD places′ (slotAt x 0) [] ≡ getD (h .places) (slotAt x 0) []
   pub secs-are : secondariesIn x places′ ≡ map (seekBlock 128 d) (secondariesIn x (h .places))
   pub end-is : (s : Scorer Float) → lastDocInBlock 128 s ≡ leaderEnd → r .«window_end» ≡ leastLastDoc 128 s (secondariesIn x places′)
@@ -55,7 +55,7 @@ pub record Gathered (x : Query) (d leaderEnd : ℕ) (h : Held)
 
 -- or one of them has no document left: those up to it have gone on
 pub record RunOut (x : Query) (d : ℕ) (h : Held) (places′ : List (List ℕ)) (bounds′ : List Float) : Type 0 where
-  pub ready : Ready x (held places′ (h .docs) (h .freqs)) bounds′
+  pub ready : Ready x (held places′ (h .blocks)) bounds′
   pub leader : getD places′ (slotAt x 0) [] ≡ getD (h .places) (slotAt x 0) []
   pub secs-are : secondariesIn x places′ ≡ seekBlockAll 128 d (secondariesIn x (h .places))
 
@@ -82,4 +82,5 @@ Windowed x t d h (Open e total) h′ bounds′ =
 -- `next_window` is that turn
 pub record Turns (x : Query) (t : Float) (d : ℕ) (h : Held) (r : Window) (h′ : Held) (bounds′ : List Float) : Type 0 where
   pub ready : Ready x h′ bounds′
+  pub scores : StillScored x (slotAt x 0) (h .places) (h′ .places)
   pub turned : Windowed x t d h r h′ bounds′

@@ -5,7 +5,7 @@ use mathlib.Core.List.{List}
 use Prim.Native.Nat.{ℕ}
 use Rattle.notefile.specs.Conditions.{blockDocsRight, blockFreqsRight}
 use Rattle.notefile.specs.Inner.Order.{firstOf}
-use Rattle.notefile.specs.Inner.Reads.{DocsRead, FreqsRead}
+use Rattle.notefile.specs.Inner.Reads.{docsOf, freqsOf, DocsRead, FreqsRead}
 use Rattle.notefile.specs.declared.part.Part.{Part}
 use Rattle.listcheck.specs.declared.skip.TailPlace.{TailPlace}
 use Rattle.listcheck.specs.declared.skip.TailPlace.the-variants.{At, Wrong}
@@ -15,8 +15,8 @@ abbrev pub tailOr : Bool → ℕ → TailPlace
 tailOr true at = At at
 tailOr false at = Wrong
 
--- what the documents and frequencies of a full block are refused for, of 7 and 8; they stand in the arrays where that is nothing
-pub record PackedRead (file : List ℕ) (x : Part) (b r : ℕ) (docs freqs : List ℕ) : Type 0 where
+-- what the documents and frequencies of a full block are refused for, of 7 and 8; they stand in the lent block where that is nothing
+pub record PackedRead (file : List ℕ) (x : Part) (b r : ℕ) (block : List (List ℕ)) : Type 0 where
   pub same : r ≡ firstOf (blockDocsRight file x b) (blockFreqsRight file x b) true
-  pub docs-read : r ≡ 0 → DocsRead file x b true docs
-  pub freqs-read : r ≡ 0 → FreqsRead file x b true freqs
+  pub docs-read : r ≡ 0 → DocsRead file x b true (docsOf block)
+  pub freqs-read : r ≡ 0 → FreqsRead file x b true (freqsOf block)

@@ -6,18 +6,19 @@ use Rattle.notefile.specs.Header as header
 use Rattle.reports.proofs.RowLaws.{documents-long, scores-long}
 use Rattle.machine.specs.Inner.Stands.{tables, placeIn, Tables}
 use Rattle.machine.proofs.Nearing.{costIn}
-use Rattle.machine.proofs.Driving.{Driving, driving-begun, has-row, pauses-nearer, pauses-on, reports-nearer, reports-on, stops-full, stops-over}
+use Rattle.machine.specs.Inner.Drives.{GoesOn}
+use Rattle.machine.proofs.Driving.{Driving, by-leg, driving-begun, for-leg, has-row, pauses-nearer, pauses-on, reports-nearer, reports-on, stops-full, stops-over}
 use Rattle.machine.proofs.drive.Statement.{statement}
 use Rattle.machine.proofs.drive.Tie as tie
 
 abbrev Inv-loop : tie.InvT-loop
-Inv-loop file script lists caches order₀ places₀ docs₀ freqs₀ floats₀ documents₀ scores₀ similarity rule room machine₀ t₀ best₀ order places docs freqs floats documents scores machine t best =
-    Driving file script lists caches (record { similarity = similarity; machine = machine₀; rule = rule }) (tables order₀ places₀ docs₀ freqs₀ floats₀) documents₀ scores₀
-    t best (tables order places docs freqs floats) machine documents scores
+Inv-loop file script task lists norms order₀ places₀ blocks₀ floats₀ documents₀ scores₀ rule room now₀ t₀ best₀ order places blocks floats documents scores now t best =
+    Driving file script lists norms (record { similarity = task .similarity; machine = now₀; rule = rule }) (tables order₀ places₀ blocks₀ floats₀) documents₀ scores₀
+    t best (tables order places blocks floats) now documents scores
 
 abbrev μ-loop : tie.MeasureT-loop
-μ-loop file script lists caches order₀ places₀ docs₀ freqs₀ floats₀ documents₀ scores₀ similarity rule room machine₀ t₀ best₀ order places docs freqs floats documents scores machine t best =
-    costIn (header.documents file) (placeIn file similarity lists caches (tables order places docs freqs floats) machine)
+μ-loop file script task lists norms order₀ places₀ blocks₀ floats₀ documents₀ scores₀ rule room now₀ t₀ best₀ order places blocks floats documents scores now t best =
+    costIn (header.documents file) (placeIn file (task .similarity) lists norms (tables order places blocks floats) now)
 
 -- the places that the answers look back to
 abbrev after-go-on : tie.After-stopped2 Inv-loop μ-loop → tie.After-go-on Inv-loop μ-loop
@@ -29,18 +30,27 @@ else-of c = c .before .before .before
 abbrev after-report : tie.After-slice-known4 Inv-loop μ-loop → tie.After-report Inv-loop μ-loop
 after-report c = c .before .before .before .before
 
-abbrev asked : tie.After-go-on-arg5 Inv-loop μ-loop → tie.At-loop Inv-loop μ-loop
-asked c = c .before .before .before .before .before
+abbrev leg-of : tie.After-go-on-arg4 Inv-loop μ-loop → tie.After-leg-to Inv-loop μ-loop
+leg-of c = c .before .before .before .before
 
 abbrev start-of : tie.After-rows Inv-loop μ-loop → tie.Start Inv-loop μ-loop
-start-of c = c .before .before .before .before .before .before .before .before
+start-of c = c .before .before .before .before .before .before .before
 
 abbrev loop-of : tie.After-go-on Inv-loop μ-loop → tie.At-loop Inv-loop μ-loop
-loop-of g = g .before .before .before .before .before .before
+loop-of g = leg-of (g .before) .before
 
 -- the tables that `go_on` left
 abbrev left-by : tie.After-go-on Inv-loop μ-loop → Tables
-left-by g = let l = g .go-on .last .1 .1 .1 .1 .1 .1 .1 in tables (l .0) (l .1 .0) (l .1 .1 .0) (l .1 .1 .1 .0) (l .1 .1 .1 .1 .0)
+left-by g = let l = g .go-on .last .1 .1 .1 .1 .1 in tables (l .0) (l .1 .0) (l .1 .1 .0) (l .1 .1 .1 .0)
+
+went : (g : tie.After-go-on Inv-loop μ-loop) → (let l = loop-of g in let a = start-of (l .before .before) in
+    GoesOn (a .args .file .now) (a .args .task .similarity) (a .args .lists .now) (a .args .norms .now) (l .loop .t .now) 18446744073709551615
+    (tables (l .loop .order) (l .loop .places) (l .loop .blocks) (l .loop .floats)) (l .loop .now) (left-by g) (g .go-on .result))
+went g =
+    let k = leg-of (g .before) in
+    let l = k .before in
+    let a = start-of (l .before .before) in
+    by-leg (a .args .file .now) (a .args .lists .now) (a .args .norms .now) (a .args .task .similarity) (l .loop .t .now) (k .leg-to .ensures) {new = left-by g} (g .go-on .ensures)
 
 abbrev reported-of : tie.After-struct-known Inv-loop μ-loop → tie.After-event Inv-loop μ-loop
 reported-of c = c .before .before
@@ -55,12 +65,17 @@ loop-holds : tie.Need-loop-holds Inv-loop μ-loop
 unfolding ofBits
 loop-holds c =
     let a = start-of (c .before) in
-    driving-begun (a .args .file .now) (a .args .script .now) (a .args .lists .now) (a .args .caches .now) (a .args .task) _ _ _ (a .pre .2) (a .pre .3) (c .new .ensures (a .args .script .now))
+    driving-begun (a .args .file .now) (a .args .script .now) (a .args .lists .now) (a .args .norms .now) (a .args .task) _ _ _ (a .pre .2) (a .pre .3) (c .new .ensures (a .args .script .now))
+
+leg-to-requires : tie.Need-leg-to-requires Inv-loop μ-loop
+leg-to-requires c κs = search needs
 
 go-on-requires : tie.Need-go-on-requires Inv-loop μ-loop
 go-on-requires c κs =
-    let l = asked c in
-    (start-of (l .before .before) .pre .0, l .loop .inv .stands)
+    let k = leg-of c in
+    let l = k .before in
+    let a = start-of (l .before .before) in
+    for-leg (a .args .file .now) (a .args .lists .now) (a .args .norms .now) (a .args .task .similarity) (l .loop .t .now) (k .leg-to .ensures) (tables (l .loop .order) (l .loop .places) (l .loop .blocks) (l .loop .floats)) (l .loop .now) (a .pre .0, l .loop .inv .stands)
 
 enum-known-event : tie.Need-enum-known-event Inv-loop μ-loop
 enum-known-event c = search needs
@@ -80,7 +95,7 @@ returns c =
     let e = reported-of (t .before) in
     let g = e .before .before in
     let l = loop-of g in
-    stops-full _ _ _ _ _ _ _ _ (l .loop .inv) {h′ = left-by g} (g .go-on .ensures) (e .event .given .1) (t .if1 .taken) (l .before .before .rows .ensures) (c .stopped .ensures)
+    stops-full _ _ _ _ _ _ _ _ (l .loop .inv) {h′ = left-by g} (went g) (e .event .given .1) (t .if1 .taken) (l .before .before .rows .ensures) (c .stopped .ensures)
 
 report-requires : tie.Need-report-requires Inv-loop μ-loop
 report-requires c κs =
@@ -95,7 +110,7 @@ loop-less c =
     let f = else-of (after-report c .before) in
     let e = reported-of (f .before) in
     let g = e .before .before in
-    reports-nearer _ _ _ _ _ _ _ _ (loop-of g .loop .inv) {h′ = left-by g} (g .go-on .ensures) (e .event .given .1)
+    reports-nearer _ _ _ _ _ _ _ _ (loop-of g .loop .inv) {h′ = left-by g} (went g) (e .event .given .1)
 
 loop-again : tie.Need-loop-again Inv-loop μ-loop
 loop-again c =
@@ -104,7 +119,7 @@ loop-again c =
     let e = reported-of (f .before) in
     let g = e .before .before in
     let l = loop-of g in
-    reports-on _ _ _ _ _ _ _ _ (l .loop .inv) {h′ = left-by g} (g .go-on .ensures) (e .event .given .1) (f .if1 .left) (l .before .before .rows .ensures) (p .report .ensures)
+    reports-on _ _ _ _ _ _ _ _ (l .loop .inv) {h′ = left-by g} (went g) (e .event .given .1) (f .if1 .left) (l .before .before .rows .ensures) (p .report .ensures)
 
 enum-told : tie.Need-enum-told Inv-loop μ-loop
 enum-told c = search needs
@@ -122,7 +137,7 @@ returns-2 : tie.Need-returns-2 Inv-loop μ-loop
 returns-2 c =
     let m = c .before in
     let g = m .before .before in
-    stops-over _ _ _ _ _ _ _ _ (loop-of g .loop .inv) {h′ = left-by g} (g .go-on .ensures) (m .enum-told .given .1) (c .stopped2 .ensures)
+    stops-over _ _ _ _ _ _ _ _ (loop-of g .loop .inv) {h′ = left-by g} (went g) (m .enum-told .given .1) (c .stopped2 .ensures)
 
 enum-told-2 : tie.Need-enum-told-2 Inv-loop μ-loop
 enum-told-2 c = search needs
@@ -130,12 +145,12 @@ enum-told-2 c = search needs
 loop-less-2 : tie.Need-loop-less-2 Inv-loop μ-loop
 loop-less-2 c =
     let g = c .before .before in
-    pauses-nearer _ _ _ _ _ _ _ _ (loop-of g .loop .inv) {h′ = left-by g} (g .go-on .ensures) (c .enum-told2 .given .1) (omega arith)
+    pauses-nearer _ _ _ _ _ _ _ _ (loop-of g .loop .inv) {h′ = left-by g} (went g) (c .enum-told2 .given .1) (omega arith)
 
 loop-again-2 : tie.Need-loop-again-2 Inv-loop μ-loop
 loop-again-2 c =
     let g = c .before .before in
-    pauses-on _ _ _ _ _ _ _ _ (loop-of g .loop .inv) {h′ = left-by g} (g .go-on .ensures) (c .enum-told2 .given .1)
+    pauses-on _ _ _ _ _ _ _ _ (loop-of g .loop .inv) {h′ = left-by g} (went g) (c .enum-told2 .given .1)
 
 pub drive-spec : {M : Type 1} → statement M
 drive-spec =
@@ -146,6 +161,7 @@ drive-spec =
     rows-requires
     new-requires
     loop-holds
+    leg-to-requires
     go-on-requires
     enum-known-event
     stopped-requires

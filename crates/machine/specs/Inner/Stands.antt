@@ -25,10 +25,10 @@ pub record Tables : Type 0 where
   pub held : Held
   pub floats : List (List Float)
 
-abbrev pub tables : List ℕ → List (List ℕ) → List (List ℕ) → List (List ℕ) → List (List Float) → Tables
-tables order places docs freqs floats = record { order = order; held = held places docs freqs; floats = floats }
+abbrev pub tables : List ℕ → List (List ℕ) → List (List (List ℕ)) → List (List Float) → Tables
+tables order places blocks floats = record { order = order; held = held places blocks; floats = floats }
 
-module _ (file : List ℕ) (similarity : Similarity) (lists : List (List ℕ)) (caches : List (List Float)) where
+module _ (file : List ℕ) (similarity : Similarity) (lists : List (List ℕ)) (norms : List (List Float)) where
   -- the scorer of a slot, as a single scan begins with it
   abbrev pub onlyScorer : ℕ → Scorer Float
   onlyScorer q = record { ord = q; list = listAt (similarity .scoring) file lists q; cur = fresh }
@@ -38,12 +38,12 @@ module _ (file : List ℕ) (similarity : Similarity) (lists : List (List ℕ)) (
   placeIn h (Union u) = union (any.placeOf file lists (similarity .scoring) u (h .order) (h .held .places))
   placeIn h (Single x) = single (onlyScorer (x .slot)) (one.placeOf x (h .held .places))
   placeIn h (Intersection v) =
-      intersection (all.placeOf (query similarity file lists caches (v .len) (h .order)) v (h .held .places) (h .floats))
+      intersection (all.placeOf (query similarity file lists norms (v .len) (h .order)) v (h .held .places) (h .floats))
   placeIn h (Plain x) = plain (hitsOf (similarity .scoring) file lists (x .len) (x .all)) (x .doc)
 
   -- and its struct and tables are as the mode's functions ask
   abbrev pub StandsIn : Tables → Machine → Type 0
-  StandsIn h (Union u) = any.Stands file lists (terms (similarity .scoring) caches (h .floats)) u (h .order) (h .held)
-  StandsIn h (Single x) = scan.Stands file similarity lists caches x (h .held) (h .floats)
-  StandsIn h (Intersection v) = all.Stands (query similarity file lists caches (v .len) (h .order)) v (h .held) (h .floats)
-  StandsIn h (Plain x) = PlainStands (similarity .scoring) file lists caches (h .held) x
+  StandsIn h (Union u) = any.Stands file lists (terms (similarity .scoring) norms (h .floats)) u (h .order) (h .held)
+  StandsIn h (Single x) = scan.Stands file similarity lists norms x (h .held) (h .floats)
+  StandsIn h (Intersection v) = all.Stands (query similarity file lists norms (v .len) (h .order)) v (h .held) (h .floats)
+  StandsIn h (Plain x) = PlainStands (similarity .scoring) file lists norms (h .held) x

@@ -1,7 +1,7 @@
 -- What the functions that read a file leave and answer.
 use mathlib.Core.Path.{_≡_}
 use mathlib.Core.Bool.{Bool, true, cond}
-use mathlib.Core.List.{List}
+use mathlib.Core.List.{List, []}
 use Prim.Native.Nat.{ℕ, _≤_, _<_}
 use lib.Dec.{eqb, ltb}
 use lib.ListN.{length, getD}
@@ -11,6 +11,19 @@ use Rattle.notefile.specs.Lists.{fullBlocks, tailSize, blockSize, docVal
 use Rattle.notefile.specs.Conditions.{postingsRight, blockDocsRight, blockFreqsRight, boundsRight}
 use Rattle.notefile.specs.Inner.Order.{firstOf}
 use Rattle.notefile.specs.declared.part.Part.{Part}
+
+-- a decoded block's documents and its frequencies
+abbrev pub docsOf : List (List ℕ) → List ℕ
+docsOf block = getD block 0 []
+
+abbrev pub freqsOf : List (List ℕ) → List ℕ
+freqsOf block = getD block 1 []
+
+-- which are all of it, 128 places each
+pub record Sized (block : List (List ℕ)) : Type 0 where
+  pub two : length block ≡ 2
+  pub long-docs : length (docsOf block) ≡ 128
+  pub long-freqs : length (freqsOf block) ≡ 128
 
 -- the scores of a list's postings, by their documents and frequencies
 abbrev pub scoreAmong : List ℕ → Part → List ℕ → List ℕ → ℕ → Float

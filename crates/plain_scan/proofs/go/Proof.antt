@@ -13,11 +13,11 @@ use Rattle.plain_scan.proofs.go.Statement.{statement}
 use Rattle.plain_scan.proofs.go.Tie as tie
 
 abbrev Inv-loop : tie.InvT-loop
-Inv-loop file similarity lists caches threshold turns places₀ docs₀ freqs₀ n all heads₀ at₀ taken₀ places docs freqs heads at taken =
-    Upward (similarity .scoring) file lists n all threshold turns at₀ taken at (held places docs freqs) heads
+Inv-loop file leg lists norms places₀ blocks₀ turns n all heads₀ at₀ taken₀ places blocks heads at taken =
+    Upward (leg .similarity .scoring) file lists n all (leg .threshold) turns at₀ taken at (held places blocks) heads
 
 abbrev μ-loop : tie.MeasureT-loop
-μ-loop file similarity lists caches threshold turns places₀ docs₀ freqs₀ n all heads₀ at₀ taken₀ places docs freqs heads at taken =
+μ-loop file leg lists norms places₀ blocks₀ turns n all heads₀ at₀ taken₀ places blocks heads at taken =
     2147483647 - at
 
 -- the places that the answers look back to
@@ -27,8 +27,8 @@ after-least c = c .before .before .before
 abbrev begun : tie.After-heads-of-arg2 Inv-loop μ-loop → tie.Start Inv-loop μ-loop
 begun c = c .before .before .before
 
-abbrev else-of : tie.After-take-document-arg3 Inv-loop μ-loop → tie.Else2 Inv-loop μ-loop
-else-of c = c .before .before .before .before .before
+abbrev else-of : tie.After-take-document-arg2 Inv-loop μ-loop → tie.Else2 Inv-loop μ-loop
+else-of c = c .before .before .before .before
 
 abbrev start : tie.At-loop Inv-loop μ-loop → tie.Start Inv-loop μ-loop
 start l = l .before .before .before .before .before
@@ -37,11 +37,11 @@ abbrev loop-of : tie.After-least Inv-loop μ-loop → tie.At-loop Inv-loop μ-lo
 loop-of g = g .before .before
 
 abbrev taken-at : tie.After-take-document Inv-loop μ-loop → tie.Else3 Inv-loop μ-loop
-taken-at c = c .before .before .before .before .before
+taken-at c = c .before .before .before .before
 
 -- the slots and the heads that a document's taking left
 abbrev moved : tie.After-take-document Inv-loop μ-loop → Held
-moved d = let l = d .take-document .last .1 .1 .1 .1 .1 .1 .1 in held (l .0) (l .1 .0) (l .1 .1 .0)
+moved d = let l = d .take-document .last .1 .1 .1 .1 .1 .1 .1 in held (l .0) (l .1 .0)
 
 abbrev heads′ : tie.After-take-document Inv-loop μ-loop → List ℕ
 heads′ d = d .take-document .last .1 .1 .1 .1 .1 .1 .0
@@ -52,8 +52,8 @@ ahead-of g = ahead _ _ _ _ _ (loop-of g .loop .inv) (g .least .ensures)
 -- the scan has come to the least document
 at-least : (x : tie.Else1 Inv-loop μ-loop)
     → (let g = x .before in let l = loop-of g in let a = start l in
-    Upward (a .args .similarity .scoring) (a .args .file .now) (a .args .lists .now) (a .args .plain .len) (a .args .plain .all) (a .args .threshold) (a .args .turns) (a .args .plain .doc)
-    (l .loop .taken + (g .least .result - l .loop .at)) (g .least .result) (held (l .loop .places) (l .loop .docs) (l .loop .freqs)) (l .loop .heads))
+    Upward (a .args .leg .similarity .scoring) (a .args .file .now) (a .args .lists .now) (a .args .plain .len) (a .args .plain .all) (a .args .leg .threshold) (a .args .leg .turns) (a .args .plain .doc)
+    (l .loop .taken + (g .least .result - l .loop .at)) (g .least .result) (held (l .loop .places) (l .loop .blocks)) (l .loop .heads))
 at-least x =
     let g = x .before in
     let l = loop-of g in
@@ -66,20 +66,20 @@ live : (e : tie.Else2 Inv-loop μ-loop) → e .before .before .least .result < 2
 live e = lt-of-ne (ahead-of (e .before .before) .1) (e .if2 .left)
 
 more : (x : tie.Else3 Inv-loop μ-loop)
-    → (let g = after-least x in let l = loop-of g in l .loop .taken + (g .least .result - l .loop .at) < start l .args .turns)
+    → (let g = after-least x in let l = loop-of g in l .loop .taken + (g .least .result - l .loop .at) < start l .args .leg .turns)
 more x = lt-of-ne (at-least (x .before .before) .within) (x .if3 .left)
 
 heads-of-requires : tie.Need-heads-of-requires Inv-loop μ-loop
 heads-of-requires c κs =
     let a = begun c in
-    (a .pre .1 .few, places-read (a .args .similarity .scoring) _ _ _ _ (a .args .plain) (a .pre .1))
+    (a .pre .1 .few, places-read (a .args .leg .similarity .scoring) _ _ _ _ (a .args .plain) (a .pre .1))
 
 loop-holds : tie.Need-loop-holds Inv-loop μ-loop
 loop-holds c =
     let a = begun (c .before) in
     let P = a .pre .1 in
     record {
-      standing = with-heads (a .args .similarity .scoring) _ _ _ _ (a .args .plain) P (c .heads-of .ensures);
+      standing = with-heads (a .args .leg .similarity .scoring) _ _ _ _ (a .args .plain) P (c .heads-of .ensures);
       quietly = none-yet _ _ _ (a .args .plain .doc);
       cap = P .cap;
       within = omega arith;
@@ -115,10 +115,10 @@ returns c =
     let l = loop-of g in
     let a = start l in
     let z = stops-early _ _ _ _ _ (l .loop .inv) (g .least .ensures) (c .before .if1 .taken) in
-    gone-on (a .args .similarity .scoring) _ _ _ (a .args .plain) (a .pre .1) (z .0 .standing) (z .0 .cap) (z .1) (c .stand .ensures)
+    gone-on (a .args .leg .similarity .scoring) _ _ _ (a .args .plain) (a .pre .1) (z .0 .standing) (z .0 .cap) (z .1) (c .stand .ensures)
 
 add-taken : tie.Need-add-taken Inv-loop μ-loop
-add-taken c = omega (arith, c .if1 .left, loop-of (c .before) .loop .inv .within, start (loop-of (c .before)) .fits .turns)
+add-taken c = omega (arith, c .if1 .left, loop-of (c .before) .loop .inv .within, start (loop-of (c .before)) .good .1 .0)
 
 stand-requires-2 : tie.Need-stand-requires-2 Inv-loop μ-loop
 stand-requires-2 c κs = search needs
@@ -128,7 +128,7 @@ returns-2 c =
     let t = c .before in
     let U = at-least (t .before) in
     let a = start (loop-of (t .before .before)) in
-    gone-on (a .args .similarity .scoring) _ _ _ (a .args .plain) (a .pre .1) (U .standing) (U .cap) (stops-over _ _ _ _ _ U (t .if2 .taken)) (c .stand2 .ensures)
+    gone-on (a .args .leg .similarity .scoring) _ _ _ (a .args .plain) (a .pre .1) (U .standing) (U .cap) (stops-over _ _ _ _ _ U (t .if2 .taken)) (c .stand2 .ensures)
 
 stand-requires-3 : tie.Need-stand-requires-3 Inv-loop μ-loop
 stand-requires-3 c κs = search needs
@@ -139,7 +139,7 @@ returns-3 c =
     let e = t .before in
     let U = at-least (e .before) in
     let a = start (loop-of (e .before .before)) in
-    gone-on (a .args .similarity .scoring) _ _ _ (a .args .plain) (a .pre .1) (U .standing) (U .cap) (stops-paused _ _ _ _ _ U (live e) (t .if3 .taken)) (c .stand3 .ensures)
+    gone-on (a .args .leg .similarity .scoring) _ _ _ (a .args .plain) (a .pre .1) (U .standing) (U .cap) (stops-paused _ _ _ _ _ U (live e) (t .if3 .taken)) (c .stand3 .ensures)
 
 take-document-requires : tie.Need-take-document-requires Inv-loop μ-loop
 take-document-requires c κs =
@@ -148,7 +148,7 @@ take-document-requires c κs =
     (a .pre .1 .few, a .pre .0, a .pre .1 .weighed, at-least (e .before) .standing, live e)
 
 add-taken-2 : tie.Need-add-taken-2 Inv-loop μ-loop
-add-taken-2 c = omega (arith, more (taken-at c), start (loop-of (after-least (taken-at c))) .fits .turns)
+add-taken-2 c = omega (arith, more (taken-at c), start (loop-of (after-least (taken-at c))) .good .1 .0)
 
 add-at : tie.Need-add-at Inv-loop μ-loop
 add-at c = omega (arith, live (taken-at c .before))
@@ -168,7 +168,7 @@ returns-4 c =
     let e = x .before in
     let a = start (loop-of (e .before .before)) in
     let T = d .take-document .ensures in
-    gone-on (a .args .similarity .scoring) _ _ _ (a .args .plain) (a .pre .1) {h′ = moved d} {heads′ = heads′ d} (stands-next _ _ _ _ _ (at-least (e .before)) (live e) (more x) {h′ = moved d} {heads′ = heads′ d} T) (omega (arith, live e))
+    gone-on (a .args .leg .similarity .scoring) _ _ _ (a .args .plain) (a .pre .1) {h′ = moved d} {heads′ = heads′ d} (stands-next _ _ _ _ _ (at-least (e .before)) (live e) (more x) {h′ = moved d} {heads′ = heads′ d} T) (omega (arith, live e))
     (stops-due _ _ _ _ _ (at-least (e .before)) (live e) (more x) {h′ = moved d} {heads′ = heads′ d} T (sym (u .due .ensures) ∙ t .if4 .taken)) (c .stand4 .ensures)
 
 loop-less : tie.Need-loop-less Inv-loop μ-loop

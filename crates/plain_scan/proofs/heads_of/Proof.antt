@@ -10,10 +10,10 @@ use Rattle.plain_scan.proofs.heads_of.Statement.{statement}
 use Rattle.plain_scan.proofs.heads_of.Tie as tie
 
 abbrev Inv-loop : tie.InvT-loop
-Inv-loop n places docs heads₀ q₀ heads q = HeadsOf places docs q heads × (q ≤ n)
+Inv-loop n places blocks heads₀ q₀ heads q = HeadsOf places blocks q heads × (q ≤ n)
 
 abbrev μ-loop : tie.MeasureT-loop
-μ-loop n places docs heads₀ q₀ heads q = n - q
+μ-loop n places blocks heads₀ q₀ heads q = n - q
 
 loop-holds : tie.Need-loop-holds Inv-loop μ-loop
 loop-holds c = (no-heads _ _ _ (search needs) (record { blank = λ q h k. getD-replicate 16 q 2147483647 2147483647 k }), omega arith)
@@ -41,14 +41,14 @@ loop-again c =
     let i = c .before in
     let l = i .before in
     let a = l .before in
-    (one-more-head (a .args .places .now) (a .args .docs .now) (l .loop .heads) (l .loop .q) (omega (arith, i .loop-test .taken, a .pre .0)) (l .loop .inv .0) (c .doc .ensures), omega (arith, i .loop-test .taken))
+    (one-more-head (a .args .places .now) (a .args .blocks .now) (l .loop .heads) (l .loop .q) (omega (arith, i .loop-test .taken, a .pre .0)) (l .loop .inv .0) (c .doc .ensures), omega (arith, i .loop-test .taken))
 
 returns : tie.Need-returns Inv-loop μ-loop
 returns c =
     let l = c .before in
     let a = l .before in
     let e : l .loop .q ≡ a .args .n = omega (arith, l .loop .inv .1, c .loop-test .left) in
-    subst (λ (k : ℕ). HeadsOf (a .args .places .now) (a .args .docs .now) k (l .loop .heads)) e (l .loop .inv .0)
+    subst (λ (k : ℕ). HeadsOf (a .args .places .now) (a .args .blocks .now) k (l .loop .heads)) e (l .loop .inv .0)
 
 pub heads-of-spec : {M : Type 1} → statement M
 heads-of-spec =

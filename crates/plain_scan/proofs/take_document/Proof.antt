@@ -10,24 +10,24 @@ use Rattle.plain_scan.proofs.take_document.Statement.{statement}
 use Rattle.plain_scan.proofs.take_document.Tie as tie
 
 abbrev Inv-loop : tie.InvT-loop
-Inv-loop file similarity lists caches n doc heads₀ places₀ docs₀ freqs₀ found₀ q₀ heads places docs freqs found q = Taking (similarity .scoring) file lists n doc found (held places docs freqs) heads q
+Inv-loop file lists norms n doc heads₀ places₀ blocks₀ similarity found₀ q₀ heads places blocks found q = Taking (similarity .scoring) file lists n doc found (held places blocks) heads q
 
 abbrev μ-loop : tie.MeasureT-loop
-μ-loop file similarity lists caches n doc heads₀ places₀ docs₀ freqs₀ found₀ q₀ heads places docs freqs found q = n - q
+μ-loop file lists norms n doc heads₀ places₀ blocks₀ similarity found₀ q₀ heads places blocks found q = n - q
 
 -- the places that the answers look back to
-abbrev then-of : tie.After-score-arg3 Inv-loop μ-loop → tie.Then1 Inv-loop μ-loop
-then-of c = c .before .before .before
+abbrev then-of : tie.After-score-arg2 Inv-loop μ-loop → tie.Then1 Inv-loop μ-loop
+then-of c = c .before .before
 
-abbrev after-with : tie.After-advance-arg3 Inv-loop μ-loop → tie.After-with Inv-loop μ-loop
-after-with c = c .before .before .before
+abbrev after-with : tie.After-advance-arg2 Inv-loop μ-loop → tie.After-with Inv-loop μ-loop
+after-with c = c .before .before
 
-abbrev start : tie.In-loop Inv-loop μ-loop → tie.Start Inv-loop μ-loop
-start c = c .before .before .before
+abbrev start : tie.At-loop Inv-loop μ-loop → tie.Start Inv-loop μ-loop
+start l = l .before .before .before
 
 loop-holds : tie.Need-loop-holds Inv-loop μ-loop
 unfolding ofBits
-loop-holds c = taking-begun _ _ _ _ _ (c .before .pre .3)
+loop-holds c = taking-begun _ _ _ _ _ (c .before .before .pre .3)
 
 add-q : tie.Need-add-q Inv-loop μ-loop
 add-q c = search needs
@@ -43,20 +43,20 @@ score-requires c κs =
     let t = then-of c in
     let i = t .before .before in
     let l = i .before in
-    let a = l .before .before in
+    let a = start l in
     let S = this _ _ _ _ _ (l .loop .inv) (i .loop-test .taken) in
     (omega (arith, i .loop-test .taken, a .pre .0), a .pre .1, S .slot, a .pre .2 (l .loop .q) (i .loop-test .taken), omega (arith, t .if1 .taken, S .head-is), a .pre .4)
 
 with-requires : tie.Need-with-requires Inv-loop μ-loop
 with-requires c κs =
     let i = then-of (c .before) .before .before in
-    few-found _ _ _ _ _ (i .before .loop .inv) (i .loop-test .taken) (start i .pre .0)
+    few-found _ _ _ _ _ (i .before .loop .inv) (i .loop-test .taken) (start (i .before) .pre .0)
 
 advance-requires : tie.Need-advance-requires Inv-loop μ-loop
 advance-requires c κs =
     let i = then-of (after-with c .before .before) .before .before in
     let l = i .before in
-    let a = l .before .before in
+    let a = start l in
     let S = this _ _ _ _ _ (l .loop .inv) (i .loop-test .taken) in
     (omega (arith, i .loop-test .taken, a .pre .0), S .slot, in-list _ _ _ S)
 
@@ -75,9 +75,9 @@ loop-again c =
     let t = then-of (w .before .before) in
     let i = t .before .before in
     let l = i .before in
-    let a = l .before .before in
+    let a = start l in
     let z = c .advance .last .1 .1 .1 in
-    taking-takes _ _ _ _ _ (l .loop .inv) (i .loop-test .taken) (a .pre .0) (a .pre .4) (t .if1 .taken) (w .before .score .ensures) {h′ = held (z .0) (z .1 .0) (z .1 .1 .0)} (c .advance .ensures) (w .with .ensures)
+    taking-takes _ _ _ _ _ (l .loop .inv) (i .loop-test .taken) (a .pre .0) (a .pre .4) (t .if1 .taken) (w .before .score .ensures) {h′ = held (z .0) (z .1 .0)} (c .advance .ensures) (w .with .ensures)
 
 loop-less-2 : tie.Need-loop-less-2 Inv-loop μ-loop
 loop-less-2 c = search needs

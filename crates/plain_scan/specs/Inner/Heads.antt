@@ -7,6 +7,7 @@ use lib.Ieee.{Float}
 use Rattle.route.specs.Plain.{present}
 use Rattle.route.specs.Inner.Cursors.{Wf, Past}
 use Rattle.bm25.specs.declared.Scoring.{Scoring}
+use Rattle.notefile.specs.Inner.Reads.{docsOf}
 use Rattle.skip_reader.specs.Inner.Decoded.{docIn}
 use Rattle.term_scorer.specs.Inner.Slots.{Held, Sixteen, SlotIn, partAt, listAt, cursorAt, listsFrom, Blank}
 use Rattle.term_scorer.specs.Inner.Weights.{Weighed}
@@ -23,14 +24,14 @@ abbrev pub PlaceRead : List (List ℕ) → ℕ → Type 0
 PlaceRead places n = (q : ℕ) → q < n → getD (getD places q []) 6 0 < 128
 
 -- the documents on which the first n scorers stand, and behind them TERMINATED
-pub record HeadsOf (places docs : List (List ℕ)) (n : ℕ) (heads : List ℕ) : Type 0 where
+pub record HeadsOf (places : List (List ℕ)) (blocks : List (List (List ℕ))) (n : ℕ) (heads : List ℕ) : Type 0 where
   pub long : Sixteen heads
-  pub are : (q : ℕ) → q < n → getD heads q 0 ≡ getD (getD docs q []) (getD (getD places q []) 6 0) 0
+  pub are : (q : ℕ) → q < n → getD heads q 0 ≡ getD (docsOf (getD blocks q [])) (getD (getD places q []) 6 0) 0
   pub behind : Blank 2147483647 n heads
 
 -- each of the first n slots has its list's norms
 abbrev pub AllWeighed : List (List ℕ) → List (List Float) → ℕ → Type 0
-AllWeighed lists caches n = (q : ℕ) → q < n → Weighed lists caches q
+AllWeighed lists norms n = (q : ℕ) → q < n → Weighed lists norms q
 
 module _ (scoring : Scoring) (file : List ℕ) (lists : List (List ℕ)) where
   -- slot q's scorer has passed no document from d on, and stands on one from there on

@@ -47,12 +47,12 @@ hitsOf scoring file lists n all d = hitIn all n (foundOf (present d (listsFrom s
 abbrev pub goneTo : ℕ → Bool → ℕ → ℕ → Event → Gone
 goneTo len all doc taken event = record { plain = record { len = len; all = all; doc = doc }; taken = taken; event = event }
 
-module _ (scoring : Scoring) (file : List ℕ) (lists : List (List ℕ)) (caches : List (List Float)) where
+module _ (scoring : Scoring) (file : List ℕ) (lists : List (List ℕ)) (norms : List (List Float)) where
   -- a scan stands at its document: no scorer has passed it
   pub record PlainStands (h : Held) (p : Plain) : Type 0 where
     pub few : p .len ≤ 16
     pub cap : p .doc ≤ TERMINATED
-    pub weighed : AllWeighed lists caches (p .len)
+    pub weighed : AllWeighed lists norms (p .len)
     pub each : (q : ℕ) → q < p .len → RestsFrom scoring file lists (p .doc) h q
 
   -- it went on, over the same lists

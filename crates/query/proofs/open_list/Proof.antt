@@ -15,8 +15,8 @@ use Rattle.query.proofs.open_list.Tie as tie
 abbrev after-read-part : tie.After-new → tie.After-read-part
 after-read-part c = c .before .before .before
 
-abbrev after-max-score : tie.After-open-arg4 → tie.After-max-score
-after-max-score c = c .before .before .before .before .before
+abbrev after-max-score : tie.After-open-arg3 → tie.After-max-score
+after-max-score c = c .before .before .before .before
 
 read-part-requires : tie.Need-read-part-requires
 read-part-requires c κs =
@@ -60,7 +60,7 @@ open-requires c κs =
     let r = after-read-part (m .before) in
     let a = r .before .before in
     let R = a .pre .4 in
-    (a .pre .3, list-of r, R .lists, R .places, R .docs, R .freqs)
+    (a .pre .3, list-of r, R .lists, R .places, R .blocks)
 
 returns : tie.Need-returns
 returns c =
@@ -69,7 +69,7 @@ returns c =
     let r = after-read-part n in
     let a = r .before .before in
     let l = c .«open» .last .1 .1 .1 .1 in
-    one-opened (a .args .scoring) (a .args .file .now) (a .args .l) (a .args .q) (a .pre .3) (r .read-part .ensures) (list-of r) (limits-of r) (n .new .ensures) (m .max-score .ensures) _ (a .pre .4) {held′ = held (l .1 .0) (l .1 .1 .0) (l .1 .1 .1 .0)} (c .«open» .ensures)
+    one-opened (a .args .scoring) (a .args .file .now) (a .args .l) (a .args .q) (a .pre .3) (r .read-part .ensures) (list-of r) (limits-of r) (n .new .ensures) (m .max-score .ensures) _ (a .pre .4) {held′ = held (l .1 .0) (l .1 .1 .0)} (c .«open» .ensures)
 
 pub open-list-spec : {M : Type 1} → statement M
 open-list-spec =

@@ -11,27 +11,27 @@ use Rattle.query.proofs.open_lists.Statement.{statement}
 use Rattle.query.proofs.open_lists.Tie as tie
 
 abbrev Inv-loop : tie.InvT-loop
-Inv-loop file h scoring query lists₀ caches₀ places₀ docs₀ freqs₀ scorers₀ q₀ lists caches places docs freqs scorers q =
-    let a = tables lists caches places docs freqs in
-    QueryOpened scoring file query q a scorers × (q ≤ length query) × Untouched q (tables lists₀ caches₀ places₀ docs₀ freqs₀) a
+Inv-loop file h scoring query lists₀ norms₀ places₀ blocks₀ scorers₀ q₀ lists norms places blocks scorers q =
+    let a = tables lists norms places blocks in
+    QueryOpened scoring file query q a scorers × (q ≤ length query) × Untouched q (tables lists₀ norms₀ places₀ blocks₀) a
 
 abbrev μ-loop : tie.MeasureT-loop
-μ-loop file h scoring query lists₀ caches₀ places₀ docs₀ freqs₀ scorers₀ q₀ lists caches places docs freqs scorers q =
+μ-loop file h scoring query lists₀ norms₀ places₀ blocks₀ scorers₀ q₀ lists norms places blocks scorers q =
     length query - q
 
 -- the places that the answers look back to
-abbrev in-loop : tie.After-open-list-arg5 Inv-loop μ-loop → tie.In-loop Inv-loop μ-loop
-in-loop c = c .before .before .before .before .before .before
+abbrev in-loop : tie.After-open-list-arg4 Inv-loop μ-loop → tie.In-loop Inv-loop μ-loop
+in-loop c = c .before .before .before .before .before
 
 abbrev start : tie.At-loop Inv-loop μ-loop → tie.Start Inv-loop μ-loop
 start c = c .before .before .before
 
 -- the tables at a turn, and those that it left
 abbrev now : tie.At-loop Inv-loop μ-loop → Tables
-now l = tables (l .loop .lists) (l .loop .caches) (l .loop .places) (l .loop .docs) (l .loop .freqs)
+now l = tables (l .loop .lists) (l .loop .norms) (l .loop .places) (l .loop .blocks)
 
 abbrev left : tie.After-open-list Inv-loop μ-loop → Tables
-left c = let l = c .open-list .last .1 .1 .1 .1 .1 in tables (l .0) (l .1 .0) (l .1 .1 .0) (l .1 .1 .1 .0) (l .1 .1 .1 .1 .0)
+left c = let l = c .open-list .last .1 .1 .1 .1 .1 in tables (l .0) (l .1 .0) (l .1 .1 .0) (l .1 .1 .1 .0)
 
 loop-holds : tie.Need-loop-holds Inv-loop μ-loop
 unfolding ofBits

@@ -18,23 +18,22 @@ use Rattle.term_scorer.specs.Inner.Weights.{FreshSlot}
 -- the lent tables of a run's slots
 pub record Tables : Type 0 where
   pub lists : List (List ℕ)
-  pub caches : List (List Float)
+  pub norms : List (List Float)
   pub held : Held
 
-abbrev pub tables : List (List ℕ) → List (List Float) → List (List ℕ) → List (List ℕ) → List (List ℕ) → Tables
-tables lists caches places docs freqs = record { lists = lists; caches = caches; held = held places docs freqs }
+abbrev pub tables : List (List ℕ) → List (List Float) → List (List ℕ) → List (List (List ℕ)) → Tables
+tables lists norms places blocks = record { lists = lists; norms = norms; held = held places blocks }
 
 -- each has 16 slots
 pub record Room (a : Tables) : Type 0 where
   pub lists : Sixteen (a .lists)
-  pub caches : Sixteen (a .caches)
+  pub norms : Sixteen (a .norms)
   pub places : Sixteen (a .held .places)
-  pub docs : Sixteen (a .held .docs)
-  pub freqs : Sixteen (a .held .freqs)
+  pub blocks : Sixteen (a .held .blocks)
 
 -- slot q has just been given list l of the file
 pub record OpenSlot (scoring : Scoring) (file : List ℕ) (a : Tables) (l q : ℕ) : Type 0 where
-  pub fresh : FreshSlot scoring file (a .lists) (a .caches) (a .held) q
+  pub fresh : FreshSlot scoring file (a .lists) (a .norms) (a .held) q
   pub part-is : partAt (a .lists) q ≡ partOf file l
 
 -- its scorer
@@ -52,18 +51,16 @@ unopened = record { doc = 0; «max_score» = f32 .nil; slot = 0 }
 -- every table has changed in slot q at most
 pub record OnlySlot (q : ℕ) (a b : Tables) : Type 0 where
   pub lists : b .lists ≡ set (a .lists) q (getD (b .lists) q [])
-  pub caches : b .caches ≡ set (a .caches) q (getD (b .caches) q [])
+  pub norms : b .norms ≡ set (a .norms) q (getD (b .norms) q [])
   pub places : b .held .places ≡ set (a .held .places) q (getD (b .held .places) q [])
-  pub docs : b .held .docs ≡ set (a .held .docs) q (getD (b .held .docs) q [])
-  pub freqs : b .held .freqs ≡ set (a .held .freqs) q (getD (b .held .freqs) q [])
+  pub blocks : b .held .blocks ≡ set (a .held .blocks) q (getD (b .held .blocks) q [])
 
 -- in the slots from n on nothing has changed
 pub record Untouched (n : ℕ) (a b : Tables) : Type 0 where
   pub lists : (q : ℕ) → n ≤ q → getD (b .lists) q [] ≡ getD (a .lists) q []
-  pub caches : (q : ℕ) → n ≤ q → getD (b .caches) q [] ≡ getD (a .caches) q []
+  pub norms : (q : ℕ) → n ≤ q → getD (b .norms) q [] ≡ getD (a .norms) q []
   pub places : (q : ℕ) → n ≤ q → getD (b .held .places) q [] ≡ getD (a .held .places) q []
-  pub docs : (q : ℕ) → n ≤ q → getD (b .held .docs) q [] ≡ getD (a .held .docs) q []
-  pub freqs : (q : ℕ) → n ≤ q → getD (b .held .freqs) q [] ≡ getD (a .held .freqs) q []
+  pub blocks : (q : ℕ) → n ≤ q → getD (b .held .blocks) q [] ≡ getD (a .held .blocks) q []
 
 -- list l has been opened in slot q
 pub record OneOpened (scoring : Scoring) (file : List ℕ) (l q : ℕ) (a b : Tables) (r : TermScorer) : Type 0 where

@@ -77,11 +77,11 @@ RunsFor Plain W p = Unit {0}
 -- A RUN BEGINS AT ITS ROUTE'S FIRST PLACE: the machine stands, a skipping run goes the route of its mode and lists from there,
 -- and from its place its list is the one that is asked for.
 pub record BeganWith (way : Way) (similarity : Similarity) (file query : List ℕ) (m : Mode) (opened : opening.Tables) (h : Tables) (r : Machine) : Type 0 where
-  pub stands : StandsIn file similarity (opened .lists) (opened .caches) h r
-  pub kept : KeptIn (documents file) (placeIn file similarity (opened .lists) (opened .caches) h r)
-  pub runs-are : RunsFor way (route 128 f32 (modeOf m) (queried (similarity .scoring) file query)) (placeIn file similarity (opened .lists) (opened .caches) h r)
+  pub stands : StandsIn file similarity (opened .lists) (opened .norms) h r
+  pub kept : KeptIn (documents file) (placeIn file similarity (opened .lists) (opened .norms) h r)
+  pub runs-are : RunsFor way (route 128 f32 (modeOf m) (queried (similarity .scoring) file query)) (placeIn file similarity (opened .lists) (opened .norms) h r)
   pub list-is : (rule : Rule) (script : List Float) (list : List (Report Float)) → ListFor way (asked file query m (similarity .scoring) rule script) list
-      → Ends (callbackOf rule script) (machineFrom (placeIn file similarity (opened .lists) (opened .caches) h r)) [] list
+      → Ends (callbackOf rule script) (machineFrom (placeIn file similarity (opened .lists) (opened .norms) h r)) [] list
 
 abbrev pub Began : Way → Similarity → List ℕ → List ℕ → Mode → opening.Tables → List ℕ → Machine → Type 0
 Began way similarity file query m opened order r =

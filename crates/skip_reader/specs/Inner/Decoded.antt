@@ -10,6 +10,7 @@ use Rattle.bm25.specs.declared.Scoring.{Scoring}
 use Rattle.notefile.specs.Header.{documents}
 use Rattle.notefile.specs.Lists.{listDoc}
 use Rattle.notefile.specs.Inner.Structs.{listFreq}
+use Rattle.notefile.specs.Inner.Reads.{docsOf, freqsOf}
 use Rattle.notefile.specs.Inner.Given.{BlocksIn, Limits, ListRight}
 use Rattle.notefile.specs.declared.part.Part.{Part}
 use Rattle.decoded.specs.Lists.{listOf}
@@ -28,9 +29,9 @@ module _ (file : List ℕ) (x : Part) where
   doc-is scoring p = refl
 
 -- block b decoded, from its first place on
-pub record Decoded (file : List ℕ) (x : Part) (b : ℕ) (docs freqs : List ℕ) : Type 0 where
-  pub docs-are : Holds 0 128 (λ i. docIn file x (start 128 b + i)) docs
-  pub freqs-are : Holds 0 128 (λ i. freqIn file x (start 128 b + i)) freqs
+pub record Decoded (file : List ℕ) (x : Part) (b : ℕ) (block : List (List ℕ)) : Type 0 where
+  pub docs-are : Holds 0 128 (λ i. docIn file x (start 128 b + i)) (docsOf block)
+  pub freqs-are : Holds 0 128 (λ i. freqIn file x (start 128 b + i)) (freqsOf block)
 
 -- what acceptance gives of a list
 pub record ListIn (file : List ℕ) (x : Part) : Type 0 where

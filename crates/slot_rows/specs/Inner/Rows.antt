@@ -87,15 +87,15 @@ module _ (file : List ℕ) (x : Part) where
     pub narrow : Narrow (postingsIn row)
     pub low : getD row 0 0 ≤ suc (fullBlocks x)
 
-  -- and the arrays hold the block decoded last
-  pub record PlaceIn (row docs freqs : List ℕ) : Type 0 where
+  -- and the block is the one decoded last
+  pub record PlaceIn (row : List ℕ) (block : List (List ℕ)) : Type 0 where
     pub standing : Standing row
-    pub placed : Placed file x (postingsIn row) docs freqs
+    pub placed : Placed file x (postingsIn row) block
 
   -- after a move: where the route's cursor is, whatever the scoring; a bound known before is known still only for the same block,
   -- scores that were made only for the same decoded block, and bounds that stand ready are those that did
-  pub record MovedRow (to : Scoring → Cursor) (row row′ docs′ freqs′ : List ℕ) (doc : ℕ) : Type 0 where
-    pub place : PlaceIn row′ docs′ freqs′
+  pub record MovedRow (to : Scoring → Cursor) (row row′ : List ℕ) (block′ : List (List ℕ)) (doc : ℕ) : Type 0 where
+    pub place : PlaceIn row′ block′
     pub cursor-is : (scoring : Scoring) → cursorIn row′ ≡ to scoring
     pub doc-is : doc ≡ docIn file x (cursorIn row′ .at)
     pub bound-is : getD row′ 7 0 ≡ 1
@@ -106,4 +106,4 @@ module _ (file : List ℕ) (x : Part) where
   -- the same of a move that leaves the decoded block and the document as they are, whatever they are
   abbrev pub ShallowRow : (Scoring → Cursor) → List ℕ → List ℕ → Type 0
   ShallowRow to row row′ =
-      (docs freqs : List ℕ) → PlaceIn row docs freqs → MovedRow to row row′ docs freqs (docIn file x (cursorIn row .at))
+      (block : List (List ℕ)) → PlaceIn row block → MovedRow to row row′ block (docIn file x (cursorIn row .at))

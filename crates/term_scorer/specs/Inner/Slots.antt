@@ -20,14 +20,13 @@ Sixteen xs = length xs ≡ 16
 pub record Blank {A : Type 0} (d : A) (n : ℕ) (xs : List A) : Type 0 where
   pub blank : (k : ℕ) → n ≤ k → k < 16 → getD xs k d ≡ d
 
--- the arrays that change as scorers move
+-- the tables that change as scorers move
 pub record Held : Type 0 where
   pub places : List (List ℕ)
-  pub docs : List (List ℕ)
-  pub freqs : List (List ℕ)
+  pub blocks : List (List (List ℕ))
 
-abbrev pub held : List (List ℕ) → List (List ℕ) → List (List ℕ) → Held
-held places docs freqs = record { places = places; docs = docs; freqs = freqs }
+abbrev pub held : List (List ℕ) → List (List (List ℕ)) → Held
+held places blocks = record { places = places; blocks = blocks }
 
 -- the list of a slot, as the file's part and as the route has it
 abbrev pub partAt : List (List ℕ) → ℕ → Part
@@ -59,20 +58,19 @@ module _ (file : List ℕ) (lists : List (List ℕ)) where
     pub list : ListIn file (partAt lists q)
     pub standing : Standing file (partAt lists q) (getD places q [])
 
-  -- and its arrays hold the block that it decoded last
+  -- and its block is the one that it decoded last
   pub record SlotIn (h : Held) (q : ℕ) : Type 0 where
-    pub sixteen : Sixteen (h .places) × Sixteen (h .docs) × Sixteen (h .freqs)
+    pub sixteen : Sixteen (h .places) × Sixteen (h .blocks)
     pub part-row : PartRow (getD lists q [])
     pub list : ListIn file (partAt lists q)
-    pub place : PlaceIn file (partAt lists q) (getD (h .places) q []) (getD (h .docs) q []) (getD (h .freqs) q [])
+    pub place : PlaceIn file (partAt lists q) (getD (h .places) q []) (getD (h .blocks) q [])
 
   -- slot q's scorer has moved, and the other slots are as before
   pub record MovedSlot (q : ℕ) (to : Scoring → Cursor) (before after : Held) (doc : ℕ) : Type 0 where
     pub places-only : after .places ≡ set (before .places) q (getD (after .places) q [])
-    pub docs-only : after .docs ≡ set (before .docs) q (getD (after .docs) q [])
-    pub freqs-only : after .freqs ≡ set (before .freqs) q (getD (after .freqs) q [])
+    pub blocks-only : after .blocks ≡ set (before .blocks) q (getD (after .blocks) q [])
     pub moved : MovedRow file (partAt lists q) to (getD (before .places) q [])
-        (getD (after .places) q []) (getD (after .docs) q []) (getD (after .freqs) q []) doc
+        (getD (after .places) q []) (getD (after .blocks) q []) doc
 
   -- slot q's skip reader has moved
   pub record Shallowed (q : ℕ) (to : Scoring → Cursor) (before after : List (List ℕ)) : Type 0 where

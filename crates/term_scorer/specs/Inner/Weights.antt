@@ -1,9 +1,9 @@
 -- The norms of the slots' lists, a block's scores, and block bounds that are kept.
 use mathlib.Core.Path.{_≡_}
-use mathlib.Core.Bool.{cond, not, _||_}
+use mathlib.Core.Bool.{Bool, cond, not, _&&_, _||_}
 use mathlib.Core.List.{List, []}
 use Prim.Native.Nat.{ℕ, _+_, _-_, _*_, _≤_, _<_}
-use lib.Dec.{T, eqb, ltb}
+use lib.Dec.{T, eqb, leb, ltb}
 use lib.ListN.{getD, length, set}
 use lib.Ieee.{Float, nan, binary32, nanBits, ofBits}
 use Rattle.route.specs.Cursor.{blockMax, fresh}
@@ -11,6 +11,7 @@ use Rattle.route.specs.F32.{f32}
 use Rattle.route.specs.Postings.{Postings, start}
 use Rattle.bm25.specs.declared.Scoring.{Scoring}
 use Rattle.notefile.specs.Lists.{fullBlocks}
+use Rattle.notefile.specs.Skips.{freqWidth}
 use Rattle.notefile.specs.Inner.Given.{NormsIn}
 use Rattle.notefile.specs.declared.part.Part.{Part}
 use Rattle.decoded.specs.Lists.{listOf}
@@ -56,6 +57,10 @@ pub record FreshSlot (scoring : Scoring) (file : List ℕ) (lists : List (List �
   pub weighed : Weighed lists caches q
   pub top : TopKept scoring file lists q
   pub unkept : Unkept (getD (h .places) q [])
+
+-- block b of a list is full, and its frequencies have at most 24 bits
+abbrev pub narrowIn : List ℕ → Part → ℕ → Bool
+narrowIn file x b = ltb b (fullBlocks x) && leb (freqWidth file x b) 24
 
 -- a row has the scores of block b of a list
 pub record BlockScores (l : Postings Float) (b : ℕ) (scores : List Float) : Type 0 where

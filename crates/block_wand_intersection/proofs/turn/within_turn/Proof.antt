@@ -1,5 +1,7 @@
 -- `within_turn` meets its contract: the next candidate is tried as the route tries it, or the window ends.
+use Prim.Native.Nat.{_<_}
 use native.Mathlib.Omega.{arith}
+use lib.ListN.{getD}
 use borrow.Author.Needs.{needs}
 use Rattle.term_scorer.specs.Inner.Slots.{cursorAt, held}
 use Rattle.intersection_window.specs.Inner.Scorers.{Query, listIn, query, slotAt}
@@ -10,8 +12,8 @@ use Rattle.block_wand_intersection.proofs.turn.within_turn.Statement.{s
 use Rattle.block_wand_intersection.proofs.turn.within_turn.Tie as tie
 
 -- the places that the answers look back to
-abbrev after-found : tie.After-try-candidate-arg4 → tie.After-found
-after-found c = c .before .before .before .before .before
+abbrev after-found : tie.After-try-candidate-arg3 → tie.After-found
+after-found c = c .before .before .before .before
 
 abbrev after-next-candidate : tie.After-struct-known → tie.After-next-candidate
 after-next-candidate c = c .before .before .before
@@ -23,29 +25,41 @@ abbrev sought : tie.After-next-candidate → tie.Start
 sought n = start (n .before .before .before)
 
 abbrev asked : tie.After-next-candidate → Query
-asked n = let a = sought n .args in query (a .similarity) (a .file .now) (a .lists .now) (a .caches .now) (a .v .len) (a .order .now)
+asked n = let a = sought n .args in query (a .leg .similarity) (a .file .now) (a .lists .now) (a .norms .now) (a .v .len) (a .order .now)
 
 abbrev found-in : tie.After-found → tie.After-next-candidate
 found-in f = f .before .before
+
+leader-small : (l : tie.After-leader) → getD (start l .args .order .now) 0 0 < 16
+leader-small l = let O = start l .pre .0 .order in slot-small O (O .leader)
 
 element-copy-out-leader : tie.Need-element-copy-out-leader
 element-copy-out-leader c = search needs
 
 mul-next-candidate : tie.Need-mul-next-candidate
-mul-next-candidate c = let O = start c .pre .0 .order in omega (arith, slot-small O (O .leader))
+mul-next-candidate c = omega (arith, leader-small c)
 
 index-1-next-candidate : tie.Need-index-1-next-candidate
-index-1-next-candidate c = let O = start c .pre .0 .order in omega (arith, slot-small O (O .leader))
+index-1-next-candidate c = omega (arith, leader-small c)
+
+index-2-next-candidate : tie.Need-index-2-next-candidate
+index-2-next-candidate c = search needs
+
+add-next-candidate : tie.Need-add-next-candidate
+add-next-candidate c = record { fits = omega (arith, leader-small (c .before)) }
+
+mul-next-candidate-2 : tie.Need-mul-next-candidate-2
+mul-next-candidate-2 c = omega (arith, leader-small (c .before))
 
 index-1-next-candidate-2 : tie.Need-index-1-next-candidate-2
-index-1-next-candidate-2 c = search needs
+index-1-next-candidate-2 c = omega (arith, leader-small (c .before))
 
 next-candidate-requires : tie.Need-next-candidate-requires
-next-candidate-requires c κs = let a = start (c .before .before) in opened _ (a .args .threshold) (a .pre .0) _ (a .pre .1) .inside
+next-candidate-requires c κs = let a = start (c .before .before) in opened _ (a .args .leg .threshold) (a .pre .0) _ (a .pre .1) .inside
 
 -- what was found of the leader's block
 finds : (n : tie.After-next-candidate) → let x = asked n in Finds (listIn x (slotAt x 0)) (cursorAt (sought n .args .places .now) (slotAt x 0) .dec) (sought n .args .left) (n .next-candidate .result)
-finds n = let a = sought n in n .next-candidate .ensures _ _ (leader-rows _ (a .args .threshold) (a .pre .0) _ (a .pre .1))
+finds n = let a = sought n in n .next-candidate .ensures _ _ (leader-rows _ (a .args .leg .threshold) (a .pre .0) _ (a .pre .1))
 
 enum-told : tie.Need-enum-told
 enum-told c = search needs
@@ -53,7 +67,7 @@ enum-told c = search needs
 add-quiet : tie.Need-add-quiet
 add-quiet c =
     let a = sought (after-next-candidate c) in
-    record { fits = omega (arith, opened _ (a .args .threshold) (a .pre .0) _ (a .pre .1) .small) }
+    record { fits = omega (arith, opened _ (a .args .leg .threshold) (a .pre .0) _ (a .pre .1) .small) }
 
 quiet-requires : tie.Need-quiet-requires
 quiet-requires c κs = search needs
@@ -70,7 +84,7 @@ try-candidate-requires c κs =
     let n = found-in f in
     let a = sought n in
     let S = a .pre .0 in
-    (S .order, S .ready .seated, found _ (a .args .threshold) S _ (a .pre .1) (finds n) (f .found .given .1) .2)
+    (S .order, S .ready .seated, found _ (a .args .leg .threshold) S _ (a .pre .1) (finds n) (f .found .given .1) .2)
 
 after-candidate-requires : tie.Need-after-candidate-requires
 after-candidate-requires c κs = search needs
@@ -80,7 +94,7 @@ returns c =
     let m = c .before .before in
     let n = m .before .before in
     let a = sought n in
-    window-ends _ (a .args .threshold) (a .pre .0) _ (a .pre .1) (finds n) (m .enum-told .given .1) (c .quiet .ensures)
+    window-ends _ (a .args .leg .threshold) (a .pre .0) _ (a .pre .1) (finds n) (m .enum-told .given .1) (c .quiet .ensures)
 
 returns-2 : tie.Need-returns-2
 returns-2 c =
@@ -88,8 +102,8 @@ returns-2 c =
     let f = after-found (k .before) in
     let n = found-in f in
     let a = sought n in
-    let l = k .try-candidate .last .1 .1 .1 .1 .1 .1 .1 .1 .1 in
-    tried _ (a .args .threshold) (a .pre .0) _ (a .pre .1) (finds n) (f .found .given .1) {h′ = held (l .0) (l .1 .0) (l .1 .1 .0)} _ (k .try-candidate .ensures) (c .after-candidate .ensures)
+    let l = k .try-candidate .last .1 .1 .1 .1 .1 .1 .1 .1 in
+    tried _ (a .args .leg .threshold) (a .pre .0) _ (a .pre .1) (finds n) (f .found .given .1) {h′ = held (l .0) (l .1 .0)} _ (k .try-candidate .ensures) (c .after-candidate .ensures)
 
 pub within-turn-spec : {M : Type 1} → statement M
 within-turn-spec =
@@ -98,6 +112,9 @@ within-turn-spec =
     element-copy-out-leader
     mul-next-candidate
     index-1-next-candidate
+    index-2-next-candidate
+    add-next-candidate
+    mul-next-candidate-2
     index-1-next-candidate-2
     next-candidate-requires
     enum-told

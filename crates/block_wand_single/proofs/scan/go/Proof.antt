@@ -12,28 +12,31 @@ use Rattle.block_wand_single.proofs.scan.go.Statement.{statement}
 use Rattle.block_wand_single.proofs.scan.go.Tie as tie
 
 abbrev Inv-loop : tie.InvT-loop
-Inv-loop file similarity lists caches threshold turns places₀ docs₀ freqs₀ floats₀ single₀ taken₀ places docs freqs floats single taken =
-    Going file similarity lists caches threshold turns single₀ (held places₀ docs₀ freqs₀) taken single (held places docs freqs) floats
+Inv-loop file leg lists norms places₀ blocks₀ floats₀ single₀ taken₀ places blocks floats single taken =
+    Going file (leg .similarity) lists norms (leg .threshold) (leg .turns) single₀ (held places₀ blocks₀) taken single (held places blocks) floats
 
 abbrev μ-loop : tie.MeasureT-loop
-μ-loop file similarity lists caches threshold turns places₀ docs₀ freqs₀ floats₀ single₀ taken₀ places docs freqs floats single taken = turns - taken
+μ-loop file leg lists norms places₀ blocks₀ floats₀ single₀ taken₀ places blocks floats single taken = leg .turns - taken
 
 -- the places that the answers look back to
+abbrev else-of : tie.After-stride-arg3 Inv-loop μ-loop → tie.Else2 Inv-loop μ-loop
+else-of c = c .before .before .before .before
+
+abbrev is-over-of : tie.Else2 Inv-loop μ-loop → tie.After-is-over Inv-loop μ-loop
+is-over-of c = c .before .before .before
+
 abbrev loop-of : tie.After-stride Inv-loop μ-loop → tie.At-loop Inv-loop μ-loop
-loop-of c = c .before .before .before .before .before .before .before .before
+loop-of c = is-over-of (else-of (c .before)) .before
 
 abbrev after-stride : tie.After-is-report Inv-loop μ-loop → tie.After-stride Inv-loop μ-loop
 after-stride c = c .before .before .before
 
-abbrev else-of : tie.After-stride-arg4 Inv-loop μ-loop → tie.Else2 Inv-loop μ-loop
-else-of c = c .before .before .before .before
-
 -- the slots and the floats that a stride left
 abbrev strode : tie.After-stride Inv-loop μ-loop → Held
-strode s = let l = s .stride .last .1 .1 .1 .1 .1 .1 .1 in held (l .0) (l .1 .0) (l .1 .1 .0)
+strode s = let l = s .stride .last .1 .1 .1 .1 .1 in held (l .0) (l .1 .0)
 
 abbrev floats′ : tie.After-stride Inv-loop μ-loop → List (List Float)
-floats′ s = s .stride .last .1 .1 .1 .1 .1 .1 .1 .1 .1 .1 .0
+floats′ s = s .stride .last .1 .1 .1 .1 .1 .1 .1 .0
 
 loop-holds : tie.Need-loop-holds Inv-loop μ-loop
 loop-holds c = going-begun _ _ (c .before .pre)
@@ -56,17 +59,17 @@ gone-requires-2 c κs = search needs
 returns-2 : tie.Need-returns-2 Inv-loop μ-loop
 returns-2 c =
     let t = c .before in
-    let e = t .before in
+    let e = t .before .before in
     let o = e .before in
     rw (c .gone2 .ensures) (gone-through (o .before .loop .inv) (sym (o .is-over .ensures) ∙ e .if1 .left) (t .if2 .taken))
 
-sub-stride : tie.Need-sub-stride Inv-loop μ-loop
-sub-stride c = let o = c .before .before in o .before .loop .inv .few
+sub-left : tie.Need-sub-left Inv-loop μ-loop
+sub-left c = let o = is-over-of (c .before) in o .before .loop .inv .few
 
 stride-requires : tie.Need-stride-requires Inv-loop μ-loop
 stride-requires c κs =
     let f = else-of c in
-    let e = f .before in
+    let e = f .before .before in
     let o = e .before in
     let G = o .before .loop .inv in
     (G .stands, sym (o .is-over .ensures) ∙ e .if1 .left, let l = lt-of-ne (G .few) (f .if2 .left) in omega arith)
@@ -75,7 +78,8 @@ add-taken : tie.Need-add-taken Inv-loop μ-loop
 add-taken c =
     let s = c .before .before in
     let l = loop-of s in
-    omega (arith, taken-fits (l .loop .inv) {h″ = strode s} {floats′ = floats′ s} (s .stride .ensures))
+    let k = else-of (s .before) .before in
+    omega (arith, k .struct-known .given, taken-fits (l .loop .inv) {h″ = strode s} {floats′ = floats′ s} (s .stride .ensures))
 
 is-report-requires : tie.Need-is-report-requires Inv-loop μ-loop
 is-report-requires c κs = search needs
@@ -117,7 +121,7 @@ go-spec =
     returns
     gone-requires-2
     returns-2
-    sub-stride
+    sub-left
     stride-requires
     add-taken
     is-report-requires

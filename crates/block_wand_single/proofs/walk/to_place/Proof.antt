@@ -22,20 +22,23 @@ index-2-places c = search needs
 mul-t9 : tie.Need-mul-t9
 mul-t9 c = search needs
 
-mul-t16 : tie.Need-mul-t16
-mul-t16 c = search needs
+mul-t18 : tie.Need-mul-t18
+mul-t18 c = search needs
 
-index-1-t19 : tie.Need-index-1-t19
-index-1-t19 c = search needs
+index-1-t21 : tie.Need-index-1-t21
+index-1-t21 c = search needs
 
-index-2-t19 : tie.Need-index-2-t19
-index-2-t19 c = search needs
+index-2-t21 : tie.Need-index-2-t21
+index-2-t21 c = search needs
+
+index-3-t21 : tie.Need-index-3-t21
+index-3-t21 c = search needs
 
 returns : tie.Need-returns
 returns c =
     let t = c .before in
     let a = t .before .before in
-    placed-in (a .pre .0) (a .args .n) (a .args .i) (a .pre .1) (t .if1 .taken)
+    placed-in (a .pre .2) (a .pre .0) (a .args .n) (a .args .i) (a .pre .1) (t .if1 .taken)
 
 last-place-requires : tie.Need-last-place-requires
 last-place-requires c κs = search needs
@@ -53,14 +56,14 @@ skip-requires : tie.Need-skip-requires
 skip-requires c κs =
     let l = c .before in
     let a = start l in
-    (a .pre .0, standing-in (put-slot (a .pre .2 .1) (a .pre .0) (l .last-place .result) (omega (arith, l .last-place .ensures))))
+    (a .pre .0, standing-in (put-slot (a .pre .2) (a .pre .0) (l .last-place .result) (omega (arith, l .last-place .ensures))))
 
 returns-2 : tie.Need-returns-2
 returns-2 c =
     let l = c .before .before in
     let e = l .before in
     let a = e .before .before in
-    placed-out (a .pre .0) (a .args .n) (a .args .i) (a .pre .1) (e .if1 .left) (l .last-place .ensures) (c .skip .ensures)
+    placed-out (a .pre .2) (a .pre .0) (a .args .n) (a .args .i) (a .pre .1) (e .if1 .left) (l .last-place .ensures) (c .skip .ensures)
 
 pub to-place-spec : {M : Type 1} → statement M
 to-place-spec =
@@ -70,9 +73,10 @@ to-place-spec =
     index-1-places
     index-2-places
     mul-t9
-    mul-t16
-    index-1-t19
-    index-2-t19
+    mul-t18
+    index-1-t21
+    index-2-t21
+    index-3-t21
     returns
     last-place-requires
     mul-places-2

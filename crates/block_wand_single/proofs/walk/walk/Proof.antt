@@ -70,8 +70,8 @@ to-place-requires : tie.Need-to-place-requires
 to-place-requires c κs =
     let b = after-block-len c in
     let a = start (b .before) in
-    let S = a .pre .0 .tables .stands .ready in
-    (S .small, short (a .pre .0 .tables) (b .block-len .ensures), (_, S .slot))
+    let S = a .pre .0 .tables .stands .ready .kept in
+    (S .slot-in, short (a .pre .0 .tables) (b .block-len .ensures), S .slot)
 
 returns : tie.Need-returns
 returns c =
@@ -82,7 +82,7 @@ returns c =
     let b = r .before in
     let a = start (b .before) in
     record {
-      steps = λ similarity caches freqs floats T.
+      steps = λ similarity norms floats T.
           walk-on T (b .block-len .ensures) (a .args .threshold) (a .pre .1) (r .reach .ensures) (p .first-asked .ensures) (f .first-above .ensures) (t .if1 .taken) (c .to-place .ensures);
     }
 
@@ -120,7 +120,10 @@ index-1-doc : tie.Need-index-1-doc
 index-1-doc c = search needs
 
 index-2-doc : tie.Need-index-2-doc
-index-2-doc c = found-in c
+index-2-doc c = search needs
+
+index-3-doc : tie.Need-index-3-doc
+index-3-doc c = found-in c
 
 mul-score : tie.Need-mul-score
 mul-score c = omega (arith, found-in (c .before))
@@ -137,7 +140,7 @@ returns-2 c =
     let b = r .before in
     let a = start (b .before) in
     record {
-      steps = λ similarity caches freqs floats T.
+      steps = λ similarity norms floats T.
           walk-due T (b .block-len .ensures) (a .args .threshold) (a .pre .1) (r .reach .ensures) (p .first-asked .ensures) (f .first-above .ensures) (e .if1 .left) refl;
     }
 
@@ -169,6 +172,7 @@ walk-spec =
     mul-doc-2
     index-1-doc
     index-2-doc
+    index-3-doc
     mul-score
     element-copy-out-score
     returns-2)

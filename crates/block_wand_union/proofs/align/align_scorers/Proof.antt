@@ -17,18 +17,18 @@ use Rattle.block_wand_union.proofs.align.align_scorers.Statement.{state
 use Rattle.block_wand_union.proofs.align.align_scorers.Tie as tie
 
 abbrev Inv-loop : tie.InvT-loop
-Inv-loop file lists n before-pivot-len pivot-doc order₀ places₀ docs₀ freqs₀ i₀ order places docs freqs i =
-    (i ≤ before-pivot-len) × (order ≡ order₀) × ((s : Scoring) → Seeking file lists pivot-doc s (held places₀ docs₀ freqs₀) (take n order) before-pivot-len i (held places docs freqs))
+Inv-loop file lists n before-pivot-len pivot-doc order₀ places₀ blocks₀ i₀ order places blocks i =
+    (i ≤ before-pivot-len) × (order ≡ order₀) × ((s : Scoring) → Seeking file lists pivot-doc s (held places₀ blocks₀) (take n order) before-pivot-len i (held places blocks))
 
 abbrev μ-loop : tie.MeasureT-loop
-μ-loop file lists n before-pivot-len pivot-doc order₀ places₀ docs₀ freqs₀ i₀ order places docs freqs i = i
+μ-loop file lists n before-pivot-len pivot-doc order₀ places₀ blocks₀ i₀ order places blocks i = i
 
 -- the places that the answers look back to
 abbrev read-in : tie.After-doc-arg2 Inv-loop μ-loop → tie.In-loop Inv-loop μ-loop
 read-in c = c .before .before .before
 
-abbrev after-doc : tie.After-seek-arg3 Inv-loop μ-loop → tie.After-doc Inv-loop μ-loop
-after-doc c = c .before .before .before
+abbrev after-doc : tie.After-seek-arg2 Inv-loop μ-loop → tie.After-doc Inv-loop μ-loop
+after-doc c = c .before .before
 
 abbrev then-of : tie.After-put-back-arg3 Inv-loop μ-loop → tie.Then1 Inv-loop μ-loop
 then-of c = c .before .before .before
@@ -37,20 +37,20 @@ abbrev start : tie.At-loop Inv-loop μ-loop → tie.Start Inv-loop μ-loop
 start l = l .before .before
 
 abbrev in-loop : tie.After-seek Inv-loop μ-loop → tie.In-loop Inv-loop μ-loop
-in-loop k = k .before .before .before .before .before .before .before .before
+in-loop k = k .before .before .before .before .before .before .before
 
 abbrev first : tie.Start Inv-loop μ-loop → Held
-first a = held (a .args .places .now) (a .args .docs .now) (a .args .freqs .now)
+first a = held (a .args .places .now) (a .args .blocks .now)
 
 abbrev slots : tie.At-loop Inv-loop μ-loop → List ℕ
 slots l = take (start l .args .n) (l .loop .order)
 
 abbrev now : tie.In-loop Inv-loop μ-loop → Held
-now b = held (b .before .loop .places) (b .before .loop .docs) (b .before .loop .freqs)
+now b = held (b .before .loop .places) (b .before .loop .blocks)
 
 -- the slots that a seek left
 abbrev sought : tie.After-seek Inv-loop μ-loop → Held
-sought k = let l = k .seek .last .1 .1 .1 .1 .1 in held (l .0) (l .1 .0) (l .1 .1 .0)
+sought k = let l = k .seek .last .1 .1 .1 .1 .1 in held (l .0) (l .1 .0)
 
 sixteen : (l : tie.At-loop Inv-loop μ-loop) → Sixteen (l .loop .order)
 sixteen l = subst Sixteen (sym (l .loop .inv .1)) (start l .pre .3)

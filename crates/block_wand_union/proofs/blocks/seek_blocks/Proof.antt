@@ -19,11 +19,11 @@ use Rattle.block_wand_union.proofs.blocks.seek_blocks.Statement.{statem
 use Rattle.block_wand_union.proofs.blocks.seek_blocks.Tie as tie
 
 abbrev Inv-loop : tie.InvT-loop
-Inv-loop file similarity lists caches pivot-len pivot-doc order places₀ docs freqs floats₀ sum₀ i₀ places floats sum i =
-    (i ≤ pivot-len) × ((n : ℕ) → pivot-len ≤ n → Seated file lists (terms (similarity .scoring) caches floats₀) (held places₀ docs freqs) (termsOf file lists (similarity .scoring) places₀ (take n order)) → Bounding file lists (terms (similarity .scoring) caches floats₀) places₀ docs freqs pivot-doc (termsOf file lists (similarity .scoring) places₀ (take n order)) i places floats sum)
+Inv-loop file similarity lists norms pivot-len pivot-doc order places₀ blocks floats₀ sum₀ i₀ places floats sum i =
+    (i ≤ pivot-len) × ((n : ℕ) → pivot-len ≤ n → Seated file lists (terms (similarity .scoring) norms floats₀) (held places₀ blocks) (termsOf file lists (similarity .scoring) places₀ (take n order)) → Bounding file lists (terms (similarity .scoring) norms floats₀) places₀ blocks pivot-doc (termsOf file lists (similarity .scoring) places₀ (take n order)) i places floats sum)
 
 abbrev μ-loop : tie.MeasureT-loop
-μ-loop file similarity lists caches pivot-len pivot-doc order places₀ docs freqs floats₀ sum₀ i₀ places floats sum i = pivot-len - i
+μ-loop file similarity lists norms pivot-len pivot-doc order places₀ blocks floats₀ sum₀ i₀ places floats sum i = pivot-len - i
 
 -- the places that the answers look back to
 abbrev in-loop : tie.After-block-max-arg2 Inv-loop μ-loop → tie.In-loop Inv-loop μ-loop
@@ -54,20 +54,20 @@ here b n k =
 
 -- of the first scorers alone
 own : (b : tie.In-loop Inv-loop μ-loop) → (let a = start (b .before) in
-    Bounding (a .args .file .now) (a .args .lists .now) (terms (a .args .similarity .scoring) (a .args .caches .now) (a .args .floats .now)) (a .args .places .now) (a .args .docs .now) (a .args .freqs .now) (a .args .pivot-doc)
+    Bounding (a .args .file .now) (a .args .lists .now) (terms (a .args .similarity .scoring) (a .args .norms .now) (a .args .floats .now)) (a .args .places .now) (a .args .blocks .now) (a .args .pivot-doc)
     (scorers a (a .args .pivot-len)) (b .before .loop .i) (b .before .loop .places) (b .before .loop .floats) (b .before .loop .sum))
 own b = let a = start (b .before) in b .before .loop .inv .1 (a .args .pivot-len) (omega arith) (a .pre .3)
 
 seat-in : (b : tie.In-loop Inv-loop μ-loop) → (let a = start (b .before) in
-    Seat (a .args .file .now) (a .args .lists .now) (terms (a .args .similarity .scoring) (a .args .caches .now) (b .before .loop .floats)) (held (b .before .loop .places) (a .args .docs .now) (a .args .freqs .now))
+    Seat (a .args .file .now) (a .args .lists .now) (terms (a .args .similarity .scoring) (a .args .norms .now) (b .before .loop .floats)) (held (b .before .loop .places) (a .args .blocks .now))
     (termAt (a .args .file .now) (a .args .lists .now) (a .args .similarity .scoring) (a .args .places .now) (getD (a .args .order .now) (b .before .loop .i) 0)))
 seat-in b =
     let a = start (b .before) in
-    rw (here b (a .args .pivot-len) (omega arith)) at (seat-at (a .args .file .now) (a .args .lists .now) _ _ _ _ (a .args .pivot-doc) _ (own b) (in-scorers b (a .args .pivot-len) (omega arith)))
+    rw (here b (a .args .pivot-len) (omega arith)) at (seat-at (a .args .file .now) (a .args .lists .now) _ _ _ (a .args .pivot-doc) _ (own b) (in-scorers b (a .args .pivot-len) (omega arith)))
 
 loop-holds : tie.Need-loop-holds Inv-loop μ-loop
 unfolding ofBits
-loop-holds c = (omega arith, λ n k S. bounding _ _ _ _ _ _ _ _ (S .seats) (S .rows))
+loop-holds c = (omega arith, λ n k S. bounding _ _ _ _ _ _ _ (S .seats) (S .rows))
 
 mul-q : tie.Need-mul-q Inv-loop μ-loop
 mul-q c = search needs
@@ -87,9 +87,9 @@ block-max-requires c κs =
     let a = start (b .before) in
     let S = seat-in b in
     let q = getD (a .args .order .now) (b .before .loop .i) 0 in
-    let T = terms (a .args .similarity .scoring) (a .args .caches .now) (b .before .loop .floats) in
+    let T = terms (a .args .similarity .scoring) (a .args .norms .now) (b .before .loop .floats) in
     let x = termAt (a .args .file .now) (a .args .lists .now) (a .args .similarity .scoring) (a .args .places .now) q in
-    let Z = shallow-seat (a .args .file .now) (a .args .lists .now) x (a .args .docs .now) (a .args .freqs .now) {to = λ k. seekBlockIn (listAt k (a .args .file .now) (a .args .lists .now) q) 128 (a .args .pivot-doc) (cursorAt (b .before .loop .places) q)} (c .before .before .shallow-seek .ensures) T S in
+    let Z = shallow-seat (a .args .file .now) (a .args .lists .now) x (a .args .blocks .now) {to = λ k. seekBlockIn (listAt k (a .args .file .now) (a .args .lists .now) q) 128 (a .args .pivot-doc) (cursorAt (b .before .loop .places) q)} (c .before .before .shallow-seek .ensures) T S in
     (S .stand .slot-in, a .pre .1, Z .stand .slot, Z .weighed, Z .bound, own b .rows .row 0 (omega arith))
 
 add-i : tie.Need-add-i Inv-loop μ-loop
@@ -105,12 +105,12 @@ loop-again c =
     let z = c .block-max .last .1 .1 .1 .1 .1 in (
       omega arith,
       λ n k S.
-          bounds-next (a .args .file .now) (a .args .lists .now) _ _ (a .args .docs .now) (a .args .freqs .now) (a .args .pivot-doc) (scorers a n) (b .before .loop .inv .1 n k S) (in-scorers b n k) (S .apart)
-          (getD (a .args .order .now) (b .before .loop .i) 0) (ap (λ (t : TermScorer). t .slot) (here b n k)) {places₂ = z .0} {bounds₂ = z .1 .1 .1 .0} (after-shallow-seek c .shallow-seek .ensures) (c .block-max .ensures),
+          bounds-next (a .args .file .now) (a .args .lists .now) _ _ (a .args .blocks .now) (a .args .pivot-doc) (scorers a n) (b .before .loop .inv .1 n k S) (in-scorers b n k) (S .apart)
+          (getD (a .args .order .now) (b .before .loop .i) 0) (ap (λ (t : TermScorer). t .slot) (here b n k)) {places₂ = z .0} {bounds₂ = z .1 .1 .0} (after-shallow-seek c .shallow-seek .ensures) (c .block-max .ensures),
     )
 
 returns : tie.Need-returns Inv-loop μ-loop
-returns c = λ n k S. bounded _ _ _ _ _ _ _ _ (c .before .loop .inv .1 n k S) _ (omega arith)
+returns c = λ n k S. bounded _ _ _ _ _ _ _ (c .before .loop .inv .1 n k S) _ (omega arith)
 
 pub seek-blocks-spec : {M : Type 1} → statement M
 seek-blocks-spec =

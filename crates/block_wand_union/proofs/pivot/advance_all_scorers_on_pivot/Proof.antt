@@ -20,18 +20,18 @@ use Rattle.block_wand_union.proofs.pivot.advance_all_scorers_on_pivot.S
 use Rattle.block_wand_union.proofs.pivot.advance_all_scorers_on_pivot.Tie as tie
 
 abbrev Inv-loop : tie.InvT-loop
-Inv-loop file lists n pivot-len order places₀ docs₀ freqs₀ i₀ places docs freqs i =
-    (i ≤ pivot-len) × ((s : Scoring) → Advancing file lists s (held places₀ docs₀ freqs₀) (take n order) i (held places docs freqs))
+Inv-loop file lists n pivot-len order places₀ blocks₀ i₀ places blocks i =
+    (i ≤ pivot-len) × ((s : Scoring) → Advancing file lists s (held places₀ blocks₀) (take n order) i (held places blocks))
 
 abbrev μ-loop : tie.MeasureT-loop
-μ-loop file lists n pivot-len order places₀ docs₀ freqs₀ i₀ places docs freqs i = pivot-len - i
+μ-loop file lists n pivot-len order places₀ blocks₀ i₀ places blocks i = pivot-len - i
 
 -- the places that the answers look back to
 abbrev loop-of : tie.After-sweep-arg3 Inv-loop μ-loop → tie.At-loop Inv-loop μ-loop
 loop-of c = c .before .before .before .before
 
-abbrev in-loop : tie.After-advance-arg4 Inv-loop μ-loop → tie.In-loop Inv-loop μ-loop
-in-loop c = c .before .before .before .before
+abbrev in-loop : tie.After-step-arg3 Inv-loop μ-loop → tie.In-loop Inv-loop μ-loop
+in-loop c = c .before .before .before
 
 abbrev after-sweep : tie.After-sort-by-doc-arg3 Inv-loop μ-loop → tie.After-sweep Inv-loop μ-loop
 after-sweep c = c .before .before .before
@@ -40,13 +40,13 @@ abbrev start : tie.At-loop Inv-loop μ-loop → tie.Start Inv-loop μ-loop
 start l = l .before .before
 
 abbrev first : tie.Start Inv-loop μ-loop → Held
-first a = held (a .args .places .now) (a .args .docs .now) (a .args .freqs .now)
+first a = held (a .args .places .now) (a .args .blocks .now)
 
 abbrev slots : tie.Start Inv-loop μ-loop → List ℕ
 slots a = take (a .args .n) (a .args .order .now)
 
 abbrev key : tie.At-loop Inv-loop μ-loop → ℕ → ℕ
-key l = docAt (l .loop .places) (l .loop .docs)
+key l = docAt (l .loop .places) (l .loop .blocks)
 
 whole : (a : tie.Start Inv-loop μ-loop) → length (slots a) ≡ a .args .n
 whole a = omega (arith, length-take (a .args .n) (a .args .order .now), a .pre .2)
@@ -64,19 +64,19 @@ inside b =
     all-first (Inside (a .args .lists .now) (first a)) (a .args .order .now) (a .args .pivot-len) (b .before .loop .i) 0 (omega arith) (omega (arith, a .pre .2)) (a .pre .4)
 
 read : (l : tie.At-loop Inv-loop μ-loop) → All (Readable (l .loop .places)) (slots (start l))
-read l = readables (start l .args .file .now) (start l .args .lists .now) Unstepped (held (l .loop .places) (l .loop .docs) (l .loop .freqs)) (slots (start l)) (l .loop .inv .1 Unstepped .carried .stands)
+read l = readables (start l .args .file .now) (start l .args .lists .now) Unstepped (held (l .loop .places) (l .loop .blocks)) (slots (start l)) (l .loop .inv .1 Unstepped .carried .stands)
 
 loop-holds : tie.Need-loop-holds Inv-loop μ-loop
 loop-holds c = let a = c .before in (omega arith, λ s. advancing _ _ s _ _ (a .pre .3))
 
-mul-advance : tie.Need-mul-advance Inv-loop μ-loop
-mul-advance c = search needs
+mul-step : tie.Need-mul-step Inv-loop μ-loop
+mul-step c = search needs
 
-element-copy-out-advance : tie.Need-element-copy-out-advance Inv-loop μ-loop
-element-copy-out-advance c = search needs
+element-copy-out-step : tie.Need-element-copy-out-step Inv-loop μ-loop
+element-copy-out-step c = search needs
 
-advance-requires : tie.Need-advance-requires Inv-loop μ-loop
-advance-requires c κs =
+step-requires : tie.Need-step-requires Inv-loop μ-loop
+step-requires c κs =
     let b = in-loop c in
     let l = b .before in
     let a = start l in
@@ -95,8 +95,8 @@ loop-again c =
     let b = in-loop (c .before) in
     let l = b .before in
     let a = start l in
-    let z = c .advance .last .1 .1 .1 in
-    (omega arith, λ s. advances _ _ s (first a) (slots a) (a .pre .3) (l .loop .inv .1 s) (in-slots b) {h″ = held (z .0) (z .1 .0) (z .1 .1 .0)} _ (here b) (c .advance .ensures))
+    let z = c .step .last .1 .1 .1 in
+    (omega arith, λ s. advances _ _ s (first a) (slots a) (a .pre .3) (l .loop .inv .1 s) (in-slots b) {h″ = held (z .0) (z .1 .0)} _ (here b) (c .step .ensures))
 
 sweep-requires : tie.Need-sweep-requires Inv-loop μ-loop
 sweep-requires c κs =
@@ -130,9 +130,9 @@ advance-all-scorers-on-pivot-spec =
     Inv-loop
     μ-loop
     loop-holds
-    mul-advance
-    element-copy-out-advance
-    advance-requires
+    mul-step
+    element-copy-out-step
+    step-requires
     add-i
     loop-less
     loop-again

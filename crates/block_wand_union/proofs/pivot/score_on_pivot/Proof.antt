@@ -20,41 +20,41 @@ use Rattle.block_wand_union.proofs.pivot.score_on_pivot.Statement.{stat
 use Rattle.block_wand_union.proofs.pivot.score_on_pivot.Tie as tie
 
 abbrev Inv-loop : tie.InvT-loop
-Inv-loop file similarity lists caches pivot-len order places₀ docs freqs floats₀ sum₀ i₀ places floats acc i =
+Inv-loop file lists norms order places₀ blocks floats₀ similarity pivot-len sum₀ i₀ places floats acc i =
     (i ≤ pivot-len) × (acc ≡ sum f32 (map scoreHere (map (slotScorer file lists (similarity .scoring) places₀) (take i order))))
-    × Unmoved file lists (similarity .scoring) caches floats₀ (held places₀ docs freqs) floats (held places docs freqs)
+    × Unmoved file lists (similarity .scoring) norms floats₀ (held places₀ blocks) floats (held places blocks)
 
 abbrev μ-loop : tie.MeasureT-loop
-μ-loop file similarity lists caches pivot-len order places₀ docs freqs floats₀ sum₀ i₀ places floats acc i = pivot-len - i
+μ-loop file lists norms order places₀ blocks floats₀ similarity pivot-len sum₀ i₀ places floats acc i = pivot-len - i
 
 -- the places that the answers look back to
 abbrev in-loop : tie.After-kept-score-arg2 Inv-loop μ-loop → tie.In-loop Inv-loop μ-loop
 in-loop c = c .before .before .before
 
 abbrev start : tie.At-loop Inv-loop μ-loop → tie.Start Inv-loop μ-loop
-start l = l .before .before
+start l = l .before .before .before
 
 abbrev slot : tie.In-loop Inv-loop μ-loop → ℕ
 slot b = getD (start (b .before) .args .order .now) (b .before .loop .i) 0
 
 abbrev terms₀ : tie.Start Inv-loop μ-loop → Terms
-terms₀ a = terms (a .args .similarity .scoring) (a .args .caches .now) (a .args .floats .now)
+terms₀ a = terms (a .args .leg .similarity .scoring) (a .args .norms .now) (a .args .floats .now)
 
 on-document : (b : tie.In-loop Inv-loop μ-loop) → (let a = start (b .before) in
-    OnDocument (a .args .file .now) (a .args .lists .now) (terms₀ a) (held (a .args .places .now) (a .args .docs .now) (a .args .freqs .now)) (slot b))
+    OnDocument (a .args .file .now) (a .args .lists .now) (terms₀ a) (held (a .args .places .now) (a .args .blocks .now)) (slot b))
 on-document b =
     let a = start (b .before) in
-    all-first (OnDocument (a .args .file .now) (a .args .lists .now) (terms₀ a) (held (a .args .places .now) (a .args .docs .now) (a .args .freqs .now))) (a .args .order .now) (a .args .pivot-len) (b .before .loop .i) 0 (omega arith) (omega (arith, a .pre .2)) (a .pre .4)
+    all-first (OnDocument (a .args .file .now) (a .args .lists .now) (terms₀ a) (held (a .args .places .now) (a .args .blocks .now))) (a .args .order .now) (a .args .span .«pivot_len») (b .before .loop .i) 0 (omega arith) (omega (arith, a .pre .2)) (a .pre .4)
 
 -- the scorer at place i, as it is seated now
 seat-in : (b : tie.In-loop Inv-loop μ-loop) → (let a = start (b .before) in
-    Seat (a .args .file .now) (a .args .lists .now) (terms (a .args .similarity .scoring) (a .args .caches .now) (b .before .loop .floats)) (held (b .before .loop .places) (a .args .docs .now) (a .args .freqs .now))
-    (termAt (a .args .file .now) (a .args .lists .now) (a .args .similarity .scoring) (a .args .places .now) (slot b)))
+    Seat (a .args .file .now) (a .args .lists .now) (terms (a .args .leg .similarity .scoring) (a .args .norms .now) (b .before .loop .floats)) (held (b .before .loop .places) (a .args .blocks .now))
+    (termAt (a .args .file .now) (a .args .lists .now) (a .args .leg .similarity .scoring) (a .args .places .now) (slot b)))
 seat-in b = b .before .loop .inv .2 .seats _ (on-document b .seat)
 
 loop-holds : tie.Need-loop-holds Inv-loop μ-loop
 unfolding ofBits
-loop-holds c = (omega arith, refl, unmoved-refl (c .before .pre .3))
+loop-holds c = (omega arith, refl, unmoved-refl (c .before .before .pre .3))
 
 mul-q : tie.Need-mul-q Inv-loop μ-loop
 mul-q c = search needs
@@ -86,18 +86,18 @@ loop-again c =
     let U = l .inv .2 in
     let z = c .kept-score .last .1 .1 .1 .1 .1 in
     let E = c .kept-score .ensures in
-    let list = listAt (a .args .similarity .scoring) (a .args .file .now) (a .args .lists .now) (slot b) in (
+    let list = listAt (a .args .leg .similarity .scoring) (a .args .file .now) (a .args .lists .now) (slot b) in (
       omega arith,
-      scored-next (slotScorer (a .args .file .now) (a .args .lists .now) (a .args .similarity .scoring) (a .args .places .now)) (a .args .order .now) (l .i) (omega (arith, a .pre .2)) (l .inv .1)
+      scored-next (slotScorer (a .args .file .now) (a .args .lists .now) (a .args .leg .similarity .scoring) (a .args .places .now)) (a .args .order .now) (l .i) (omega (arith, a .pre .2)) (l .inv .1)
           (_∙_ {b = list .score (cursorAt (l .places) (slot b) .at)} (E .0) (ap (λ (k : Cursor). list .score (k .at)) (U .cursor-is (slot b)))),
-      unmoved-trans {floats″ = z .1 .1 .1 .0} {h″ = held (z .0) (a .args .docs .now) (a .args .freqs .now)} U (unmoved (a .args .file .now) (a .args .lists .now) (a .args .similarity .scoring) (a .args .caches .now) {floats = l .floats} {floats′ = z .1 .1 .1 .0} (S .stand .slot-in) {places = l .places} {places′ = z .0} (a .args .docs .now) (a .args .freqs .now) (S .stand .slot .sixteen .0) (E .1)),
+      unmoved-trans {floats″ = z .1 .1 .0} {h″ = held (z .0) (a .args .blocks .now)} U (unmoved (a .args .file .now) (a .args .lists .now) (a .args .leg .similarity .scoring) (a .args .norms .now) {floats = l .floats} {floats′ = z .1 .1 .0} (S .stand .slot-in) {places = l .places} {places′ = z .0} (a .args .blocks .now) (S .stand .slot .sixteen .0) (E .1)),
     )
 
 returns : tie.Need-returns Inv-loop μ-loop
 returns c =
     let a = start (c .before) in
-    let f = slotScorer (a .args .file .now) (a .args .lists .now) (a .args .similarity .scoring) (a .args .places .now) in
-    let e : c .before .loop .i ≡ a .args .pivot-len = omega arith in
+    let f = slotScorer (a .args .file .now) (a .args .lists .now) (a .args .leg .similarity .scoring) (a .args .places .now) in
+    let e : c .before .loop .i ≡ a .args .span .«pivot_len» = omega arith in
     (c .before .loop .inv .1 ∙ ap (λ (k : ℕ). sum f32 (map scoreHere (map f (take k (a .args .order .now))))) e, c .before .loop .inv .2)
 
 pub score-on-pivot-spec : {M : Type 1} → statement M

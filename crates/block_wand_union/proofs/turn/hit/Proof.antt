@@ -13,24 +13,24 @@ use Rattle.block_wand_union.proofs.turn.hit.Statement.{statement}
 use Rattle.block_wand_union.proofs.turn.hit.Tie as tie
 
 -- the places that the answers look back to
-abbrev else-of : tie.After-advance-all-scorers-on-pivot-arg4 → tie.Else1
-else-of c = c .before .before .before .before
+abbrev else-of : tie.After-advance-all-scorers-on-pivot-arg3 → tie.Else1
+else-of c = c .before .before .before
 
-abbrev start : tie.After-score-on-pivot-arg5 → tie.Start
-start s = s .before .before .before .before .before .before
+abbrev start : tie.After-score-on-pivot-arg4 → tie.Start
+start s = s .before .before .before .before .before
 
 abbrev now : tie.Start → Held
-now a = held (a .args .places .now) (a .args .docs .now) (a .args .freqs .now)
+now a = held (a .args .places .now) (a .args .blocks .now)
 
 abbrev terms₀ : tie.Start → Terms
-terms₀ a = terms (a .args .bar .similarity .scoring) (a .args .caches .now) (a .args .floats .now)
+terms₀ a = terms (a .args .leg .similarity .scoring) (a .args .norms .now) (a .args .floats .now)
 
 -- the slots and the floats that scoring left
 abbrev scored : tie.After-score-on-pivot → Held
-scored s = let a = start (s .before) in let l = s .score-on-pivot .last .1 .1 .1 .1 .1 .1 in held (l .0) (a .args .docs .now) (a .args .freqs .now)
+scored s = let a = start (s .before) in let l = s .score-on-pivot .last .1 .1 .1 .1 .1 .1 in held (l .0) (a .args .blocks .now)
 
 abbrev floats₁ : tie.After-score-on-pivot → List (List Float)
-floats₁ s = s .score-on-pivot .last .1 .1 .1 .1 .1 .1 .1 .1 .1 .0
+floats₁ s = s .score-on-pivot .last .1 .1 .1 .1 .1 .1 .1 .1 .0
 
 score-on-pivot-requires : tie.Need-score-on-pivot-requires
 score-on-pivot-requires c κs =
@@ -41,7 +41,7 @@ returns c =
     let s = c .before .before in
     let a = start (s .before) in
     let E = s .score-on-pivot .ensures in
-    hit-due (a .args .file .now) (a .args .lists .now) (terms₀ a) (a .args .bar .threshold) (now a) (a .args .order .now) (a .args .n) (a .args .span .«pivot_len») (a .args .span .«pivot_doc») (a .pre .0)
+    hit-due (a .args .file .now) (a .args .lists .now) (terms₀ a) (a .args .leg .threshold) (now a) (a .args .order .now) (a .args .span .len) (a .args .span .«pivot_len») (a .args .span .«pivot_doc») (a .pre .0)
     (E .0) {h₁ = scored s} {floats₁ = floats₁ s} (E .1) (a .pre .4) (c .if1 .taken) (a .pre .1) (a .pre .3)
 
 advance-all-scorers-on-pivot-requires : tie.Need-advance-all-scorers-on-pivot-requires
@@ -49,8 +49,8 @@ advance-all-scorers-on-pivot-requires c κs =
     let s = else-of c .before .before in
     let a = start (s .before) in
     let E = s .score-on-pivot .ensures in
-    let S = seated₁ (a .args .file .now) (a .args .lists .now) (terms₀ a) (a .args .bar .threshold) (now a) (a .args .order .now) (a .args .n) (a .args .span .«pivot_len») (a .args .span .«pivot_doc») (a .pre .0) (E .0) {h₁ = scored s} {floats₁ = floats₁ s} (E .1) (a .pre .4) in
-    (a .pre .0, a .pre .1, a .pre .3, lined (a .args .file .now) (a .args .lists .now) (a .args .bar .similarity .scoring) (scored s) (take (a .args .n) (a .args .order .now)) (stands {h = scored s} S) (S .apart), inside-unmoved {lists = a .args .lists .now} {caches = a .args .caches .now} {floats = a .args .floats .now} {floats′ = floats₁ s} {h = now a} {h′ = scored s} (E .1) (take (a .args .span .«pivot_len») (a .args .order .now)) (a .pre .5))
+    let S = seated₁ (a .args .file .now) (a .args .lists .now) (terms₀ a) (a .args .leg .threshold) (now a) (a .args .order .now) (a .args .span .len) (a .args .span .«pivot_len») (a .args .span .«pivot_doc») (a .pre .0) (E .0) {h₁ = scored s} {floats₁ = floats₁ s} (E .1) (a .pre .4) in
+    (a .pre .0, a .pre .1, a .pre .3, lined (a .args .file .now) (a .args .lists .now) (a .args .leg .similarity .scoring) (scored s) (take (a .args .span .len) (a .args .order .now)) (stands {h = scored s} S) (S .apart), inside-unmoved {lists = a .args .lists .now} {norms = a .args .norms .now} {floats = a .args .floats .now} {floats′ = floats₁ s} {h = now a} {h′ = scored s} (E .1) (take (a .args .span .«pivot_len») (a .args .order .now)) (a .pre .5))
 
 quiet-requires : tie.Need-quiet-requires
 quiet-requires c κs = search needs
@@ -63,8 +63,8 @@ returns-2 c =
     let E = s .score-on-pivot .ensures in
     let l = c .before .advance-all-scorers-on-pivot .last .1 .1 .1 .1 in
     rw (c .quiet .ensures)
-    (hit-quiet (a .args .file .now) (a .args .lists .now) (terms₀ a) (a .args .bar .threshold) (now a) (a .args .order .now) (a .args .n) (a .args .span .«pivot_len») (a .args .span .«pivot_doc») (a .pre .0)
-    (E .0) {h₁ = scored s} {floats₁ = floats₁ s} (E .1) (a .pre .4) (e .if1 .left) {h′ = held (l .1 .0) (l .1 .1 .0) (l .1 .1 .1 .0)} {order′ = l .0} (c .before .advance-all-scorers-on-pivot .ensures))
+    (hit-quiet (a .args .file .now) (a .args .lists .now) (terms₀ a) (a .args .leg .threshold) (now a) (a .args .order .now) (a .args .span .len) (a .args .span .«pivot_len») (a .args .span .«pivot_doc») (a .pre .0)
+    (E .0) {h₁ = scored s} {floats₁ = floats₁ s} (E .1) (a .pre .4) (e .if1 .left) {h′ = held (l .1 .0) (l .1 .1 .0)} {order′ = l .0} (c .before .advance-all-scorers-on-pivot .ensures))
 
 pub hit-spec : {M : Type 1} → statement M
 hit-spec =

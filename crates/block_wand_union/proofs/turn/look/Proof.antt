@@ -7,33 +7,33 @@ use Rattle.block_wand_union.specs.declared.Stage.the-variants.{Looking}
 use Rattle.term_scorer.specs.Inner.Slots.{held, Held}
 use Rattle.block_wand_union.specs.Inner.Seats.{termsOf}
 use Rattle.block_wand_union.proofs.Runs.{place-is}
-use Rattle.block_wand_union.proofs.Slots.{pivot-read, readables}
+use Rattle.block_wand_union.proofs.Slots.{pivot-read, readables, tops-kept, tops-read}
 use Rattle.block_wand_union.proofs.Steps.{nowhere, stands}
 use Rattle.block_wand_union.proofs.turn.look.Statement.{statement}
 use Rattle.block_wand_union.proofs.turn.look.Tie as tie
 
 -- the places that the answers look back to
-abbrev found-of : tie.After-to-pivot-arg5 → tie.After-pivot
-found-of c = c .before .before .before .before .before .before
+abbrev found-of : tie.After-to-pivot-arg4 → tie.After-pivot
+found-of c = c .before .before .before .before .before
 
 abbrev start : tie.After-find-pivot-doc-arg3 → tie.Start
 start p = p .before .before .before .before
 
 abbrev now : tie.Start → Held
-now a = held (a .args .places .now) (a .args .docs .now) (a .args .freqs .now)
+now a = held (a .args .places .now) (a .args .blocks .now)
 
 -- the scorers that were read are those of the slots
 pivot-is : (p : tie.After-find-pivot-doc) → (let a = start (p .before) in
-    p .find-pivot-doc .result ≡ pivotOf (a .args .bar .threshold) (termsOf (a .args .file .now) (a .args .lists .now) (a .args .bar .similarity .scoring) (a .args .places .now) (take (a .args .n) (a .args .order .now))))
+    p .find-pivot-doc .result ≡ pivotOf (a .args .leg .threshold) (termsOf (a .args .file .now) (a .args .lists .now) (a .args .leg .similarity .scoring) (a .args .places .now) (take (a .args .n) (a .args .order .now))))
 pivot-is p =
     let a = start (p .before) in
-    pivot-read (a .args .file .now) (a .args .lists .now) (a .args .bar .threshold) (a .args .bar .similarity .scoring) (now a) (a .args .tops .now) (a .args .n) (a .args .order .now) (stands (a .pre .3 .seated)) (a .pre .2) (p .find-pivot-doc .ensures)
+    pivot-read (a .args .file .now) (a .args .lists .now) (a .args .leg .threshold) (a .args .leg .similarity .scoring) (now a) (a .args .n) (a .args .order .now) (stands (a .pre .1 .seated)) (tops-kept (take (a .args .n) (a .args .order .now)) (a .pre .1 .seated)) (p .find-pivot-doc .ensures)
 
 find-pivot-doc-requires : tie.Need-find-pivot-doc-requires
 find-pivot-doc-requires c κs =
     let a = start c in
-    let S = a .pre .3 in
-    (S .few, S .room, a .pre .1, readables (a .args .file .now) (a .args .lists .now) (a .args .bar .similarity .scoring) (now a) (take (a .args .n) (a .args .order .now)) (stands (S .seated)))
+    let S = a .pre .1 in
+    (S .few, S .room, tops-read (take (a .args .n) (a .args .order .now)) (S .seated), readables (a .args .file .now) (a .args .lists .now) (a .args .leg .similarity .scoring) (now a) (take (a .args .n) (a .args .order .now)) (stands (S .seated)))
 
 enum-told : tie.Need-enum-told
 enum-told c = search needs
@@ -49,16 +49,16 @@ to-pivot-requires c κs =
     let k = found-of c in
     let p = k .before .before in
     let a = start (p .before) in
-    let S = a .pre .3 in
-    (a .pre .0, a .pre .1, record { few = S .few; long = S .room; topped = a .pre .2; found = sym (k .pivot .given .1) ∙ pivot-is p; seated = S .seated; kept = rw (place-is (a .args .file .now) (a .args .lists .now) (a .args .bar .similarity .scoring) (a .args .places .now) (record { len = a .args .n; stage = Looking }) (a .args .order .now)) (S .kept) })
+    let S = a .pre .1 in
+    (a .pre .0, record { few = S .few; long = S .room; found = sym (k .pivot .given .1) ∙ pivot-is p; seated = S .seated; kept = rw (place-is (a .args .file .now) (a .args .lists .now) (a .args .leg .similarity .scoring) (a .args .places .now) (record { len = a .args .n; stage = Looking }) (a .args .order .now)) (S .kept) })
 
 returns : tie.Need-returns
 returns c =
     let e = c .before in
     let p = e .before .before in
     let a = start (p .before) in
-    let S = a .pre .3 in
-    rw (c .quiet .ensures) (nowhere (a .args .bar .threshold) (a .args .order .now) (a .args .n) (S .room) (S .seated) (sym (e .enum-told .given .1) ∙ pivot-is p))
+    let S = a .pre .1 in
+    rw (c .quiet .ensures) (nowhere (a .args .leg .threshold) (a .args .order .now) (a .args .n) (S .room) (S .seated) (sym (e .enum-told .given .1) ∙ pivot-is p))
 
 returns-2 : tie.Need-returns-2
 returns-2 c = c .to-pivot .ensures

@@ -12,14 +12,14 @@ use Rattle.block_wand_union.proofs.turn.turn.Tie as tie
 abbrev start : tie.After-shared-slice-known → tie.Start
 start s = s .before
 
-abbrev looking : tie.After-look-arg5 → tie.After-enum-told
-looking c = c .before .before .before .before .before
+abbrev looking : tie.After-look-arg4 → tie.After-enum-told
+looking c = c .before .before .before .before
 
-abbrev reporting : tie.After-advance-all-scorers-on-pivot-arg4 → tie.After-stage
-reporting c = c .before .before .before .before .before
+abbrev reporting : tie.After-advance-all-scorers-on-pivot-arg3 → tie.After-stage
+reporting c = c .before .before .before .before
 
 abbrev now : tie.Start → Held
-now a = held (a .args .places .now) (a .args .docs .now) (a .args .freqs .now)
+now a = held (a .args .places .now) (a .args .blocks .now)
 
 enum-told : tie.Need-enum-told
 enum-told c = search needs
@@ -28,7 +28,7 @@ look-requires : tie.Need-look-requires
 look-requires c κs =
     let m = looking c in
     let a = start (m .before .before) in
-    (a .pre .0, a .pre .1, a .pre .2, stands-at (a .pre .3) (m .enum-told .given .1))
+    (a .pre .0, stands-at (a .pre .1) (m .enum-told .given .1))
 
 enum-known-stage : tie.Need-enum-known-stage
 enum-known-stage c = search needs
@@ -37,9 +37,9 @@ advance-all-scorers-on-pivot-requires : tie.Need-advance-all-scorers-on-pivot-re
 advance-all-scorers-on-pivot-requires c κs =
     let m = reporting c in
     let a = start (m .before .before) in
-    let S = a .pre .3 in
-    let R = on-report (a .args .file .now) (a .args .lists .now) (a .args .bar .similarity .scoring) (now a) (a .args .order .now) (a .args .union .len) (kept-at S (m .stage .given .1)) in
-    (R .0, S .few, S .room, lined (a .args .file .now) (a .args .lists .now) (a .args .bar .similarity .scoring) (now a) (take (a .args .union .len) (a .args .order .now)) (stands (S .seated)) (S .seated .apart), R .1)
+    let S = a .pre .1 in
+    let R = on-report (a .args .file .now) (a .args .lists .now) (a .args .leg .similarity .scoring) (now a) (a .args .order .now) (a .args .union .len) (kept-at S (m .stage .given .1)) in
+    (R .0, S .few, S .room, lined (a .args .file .now) (a .args .lists .now) (a .args .leg .similarity .scoring) (now a) (take (a .args .union .len) (a .args .order .now)) (stands (S .seated)) (S .seated .apart), R .1)
 
 quiet-requires : tie.Need-quiet-requires
 quiet-requires c κs = search needs
@@ -58,16 +58,16 @@ returns-2 : tie.Need-returns-2
 returns-2 c =
     let m = reporting (c .before .before) in
     let a = start (m .before .before) in
-    let S = a .pre .3 in
+    let S = a .pre .1 in
     let l = c .before .advance-all-scorers-on-pivot .last .1 .1 .1 .1 in
-    rw (m .stage .given .1, c .quiet .ensures) (goes-on (a .args .bar .threshold) (a .args .order .now) (a .args .union .len) (S .room) (S .seated) {h′ = held (l .1 .0) (l .1 .1 .0) (l .1 .1 .1 .0)} {order′ = l .0} (c .before .advance-all-scorers-on-pivot .ensures))
+    rw (m .stage .given .1, c .quiet .ensures) (goes-on (a .args .leg .threshold) (a .args .order .now) (a .args .union .len) (S .room) (S .seated) {h′ = held (l .1 .0) (l .1 .1 .0)} {order′ = l .0} (c .before .advance-all-scorers-on-pivot .ensures))
 
 returns-3 : tie.Need-returns-3
 returns-3 c =
     let m = c .before in
     let a = start (m .before .before) in
-    let S = a .pre .3 in
-    rw (m .enum-told2 .given .1, c .quiet2 .ensures) (stays (a .args .bar .threshold) (a .args .order .now) (a .args .union .len) (S .room) (S .seated))
+    let S = a .pre .1 in
+    rw (m .enum-told2 .given .1, c .quiet2 .ensures) (stays (a .args .leg .threshold) (a .args .order .now) (a .args .union .len) (S .room) (S .seated))
 
 pub turn-spec : {M : Type 1} → statement M
 turn-spec =

@@ -22,11 +22,8 @@ read-norms-below-requires : tie.Need-read-norms-below-requires
 read-norms-below-requires c κs = search needs
 
 -- the places that the answers look back to: the norms are read, the bound is chosen, the call
-abbrev read-small : tie.After-exact-covered → tie.After-read-norms-below
-read-small c = c .before .before .before
-
-abbrev read-any : tie.After-norms-covered → tie.After-read-norms-below
-read-any c = c .before .before .before
+abbrev read : tie.After-norms-covered → tie.After-read-norms-below
+read c = c .before .before
 
 abbrev chosen : tie.After-read-norms-below → tie.Joined1
 chosen c = c .before .before .before .before
@@ -38,22 +35,12 @@ start c = c .before .before .before .before
 choice : (j : tie.Joined1) → let own = j .before .bound-at .result in let max = start j .args .max-score in ((lt own max ≡ true) × (j .if1 .low ≡ own)) ⊎ ((lt own max ≡ false) × (j .if1 .low ≡ max))
 choice j = ⊎-elim (λ w. inl (w .0 .taken, w .1)) (λ w. inr (w .0 .left, w .1)) (j .if1 .came)
 
-exact-covered-requires : tie.Need-exact-covered-requires
-exact-covered-requires c κs = let t = c .before in (omega arith, start (chosen (t .before)) .pre .1 (t .if2 .taken))
-
-returns : tie.Need-returns
-returns c =
-    let m = read-small c in
-    let j = chosen m in
-    let a = start j .args in
-    block-read (a .reader) (a .file .now) (a .t3) (a .docs .now) (a .freqs .now) (m .read-norms-below .ensures) (a .norm-code) (a .freq-code) (j .before .bound-at .ensures) (choice j) (c .exact-covered .ensures)
-
 norms-covered-requires : tie.Need-norms-covered-requires
 norms-covered-requires c κs = search needs
 
-returns-2 : tie.Need-returns-2
-returns-2 c =
-    let m = read-any c in
+returns : tie.Need-returns
+returns c =
+    let m = read c in
     let j = chosen m in
     let a = start j .args in
     block-read (a .reader) (a .file .now) (a .t3) (a .docs .now) (a .freqs .now) (m .read-norms-below .ensures) (a .norm-code) (a .freq-code) (j .before .bound-at .ensures) (choice j) (c .norms-covered .ensures)
@@ -66,7 +53,5 @@ block-covered-spec =
     element-copy-out-bound-at
     bound-at-requires
     read-norms-below-requires
-    exact-covered-requires
-    returns
     norms-covered-requires
-    returns-2)
+    returns)

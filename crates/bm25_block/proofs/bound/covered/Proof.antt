@@ -1,4 +1,6 @@
 -- `bound::covered` meets its contract: the scores at the norms that were read are the postings'.
+use mathlib.Core.Path.{sym}
+use mathlib.Core.Bool.{true≢false}
 use borrow.Author.Needs.{needs}
 use Rattle.bm25_block.proofs.BoundTests.{norms-read}
 use Rattle.bm25_block.proofs.bound.covered.Statement.{statement}
@@ -8,7 +10,7 @@ read-norms-requires : tie.Need-read-norms-requires
 read-norms-requires c κs = search needs
 
 norms-covered-requires : tie.Need-norms-covered-requires
-norms-covered-requires c κs = search needs
+norms-covered-requires c κs = (search needs, λ e. absurd (true≢false (sym e)))
 
 -- the place where the norms are read, and the place of the call
 abbrev read : tie.After-norms-covered → tie.After-read-norms

@@ -11,34 +11,37 @@ use Rattle.intersection_window.proofs.candidate.try_candidate.Statement
 use Rattle.intersection_window.proofs.candidate.try_candidate.Tie as tie
 
 abbrev Inv-loop : tie.InvT-loop
-Inv-loop file similarity lists caches n order rests threshold places₀ docs₀ freqs₀ candidate-doc total-score₀ i₀ places docs freqs total-score i =
-    Trying (query similarity file lists caches n order) candidate-doc total-score₀ threshold rests (held places₀ docs₀ freqs₀) i total-score (held places docs freqs)
+Inv-loop file leg lists norms n order rests places₀ blocks₀ doc total-score₀ i₀ places blocks total-score i =
+    Trying (query (leg .similarity) file lists norms n order) doc total-score₀ (leg .threshold) rests (held places₀ blocks₀) i total-score (held places blocks)
 
 abbrev μ-loop : tie.MeasureT-loop
-μ-loop file similarity lists caches n order rests threshold places₀ docs₀ freqs₀ candidate-doc total-score₀ i₀ places docs freqs total-score i =
+μ-loop file leg lists norms n order rests places₀ blocks₀ doc total-score₀ i₀ places blocks total-score i =
     n - i
 
 -- the places that the answers look back to
 abbrev start : tie.In-loop Inv-loop μ-loop → tie.Start Inv-loop μ-loop
 start c = c .before .before .before
 
-abbrev else-of : tie.After-score-arg3 Inv-loop μ-loop → tie.Else2 Inv-loop μ-loop
-else-of c = c .before .before .before
+abbrev else-of : tie.After-score-arg2 Inv-loop μ-loop → tie.Else2 Inv-loop μ-loop
+else-of c = c .before .before
 
-abbrev after-doc : tie.After-seek-arg3 Inv-loop μ-loop → tie.After-doc Inv-loop μ-loop
-after-doc c = c .before .before .before .before
+abbrev scored : tie.After-struct-known Inv-loop μ-loop → tie.After-score Inv-loop μ-loop
+scored c = c .before .before
+
+abbrev after-doc : tie.After-seek-arg2 Inv-loop μ-loop → tie.After-doc Inv-loop μ-loop
+after-doc c = c .before .before .before
 
 abbrev in-loop : tie.After-doc-arg2 Inv-loop μ-loop → tie.In-loop Inv-loop μ-loop
 in-loop d = d .before .before .before
 
 abbrev not-past : tie.After-seek Inv-loop μ-loop → tie.Else1 Inv-loop μ-loop
-not-past m = m .before .before .before .before
+not-past m = m .before .before .before
 
 -- the slots that a seek left
 abbrev sought : tie.After-seek Inv-loop μ-loop → Held
-sought m = let l = m .seek .last .1 .1 .1 .1 .1 in held (l .0) (l .1 .0) (l .1 .1 .0)
+sought m = let l = m .seek .last .1 .1 .1 .1 .1 in held (l .0) (l .1 .0)
 
-order-in : (l : tie.In-loop Inv-loop μ-loop) → InOrder (query (start l .args .similarity) (start l .args .file .now) (start l .args .lists .now) (start l .args .caches .now) (start l .args .n) (start l .args .order .now))
+order-in : (l : tie.In-loop Inv-loop μ-loop) → InOrder (query (start l .args .leg .similarity) (start l .args .file .now) (start l .args .lists .now) (start l .args .norms .now) (start l .args .n) (start l .args .order .now))
 order-in l = start l .pre .0
 
 small : (l : tie.In-loop Inv-loop μ-loop) → getD (start l .args .order .now) (l .before .loop .i) 0 < 16
@@ -103,7 +106,7 @@ loop-less c = search needs
 
 loop-again : tie.Need-loop-again Inv-loop μ-loop
 loop-again c =
-    let v = c .before .before in
+    let v = scored (c .before) in
     let e = else-of (v .before) in
     let m = e .before in
     let d = not-past m .before in
@@ -112,7 +115,7 @@ loop-again c =
 
 returns-3 : tie.Need-returns-3 Inv-loop μ-loop
 returns-3 c =
-    let v = c .before .before in
+    let v = scored (c .before) in
     let e = else-of (v .before) in
     let m = e .before in
     let d = not-past m .before in
@@ -120,10 +123,16 @@ returns-3 c =
     too-low _ _ _ _ _ _ (order-in l) (l .before .loop .inv) (l .loop-test .taken) (doc-here (l .before .loop .inv .seated) (within l) (d .doc .ensures)) (not-past m .if1 .left) {h′ = sought m} (m .seek .ensures) (e .if2 .left) (v .score .ensures) (c .if3 .left)
 
 returns-4 : tie.Need-returns-4 Inv-loop μ-loop
-returns-4 c = let l = c .before .before in due _ _ _ _ _ _ (l .before .before .pre .0) (l .loop .inv) (c .before .loop-test .left) (c .if4 .taken)
+returns-4 c =
+    let e = c .before .before in
+    let l = e .before in
+    due _ _ _ _ _ _ (l .before .before .pre .0) (l .loop .inv) (e .loop-test .left) (c .if4 .taken)
 
 returns-5 : tie.Need-returns-5 Inv-loop μ-loop
-returns-5 c = let l = c .before .before in not-above _ _ _ _ _ _ (l .before .before .pre .0) (l .loop .inv) (c .before .loop-test .left) (c .if4 .left)
+returns-5 c =
+    let e = c .before .before in
+    let l = e .before in
+    not-above _ _ _ _ _ _ (l .before .before .pre .0) (l .loop .inv) (e .loop-test .left) (c .if4 .left)
 
 pub try-candidate-spec : {M : Type 1} → statement M
 try-candidate-spec =

@@ -11,11 +11,11 @@ use Rattle.intersection_window.proofs.window.gather.Statement.{statemen
 use Rattle.intersection_window.proofs.window.gather.Tie as tie
 
 abbrev Inv-loop : tie.InvT-loop
-Inv-loop file similarity lists caches n order doc leader-end places₀ docs freqs bounds₀ window-end₀ block-max-sum₀ i₀ places bounds window-end block-max-sum i =
-    Gathering (query similarity file lists caches n order) doc leader-end (held places₀ docs freqs) i window-end block-max-sum places bounds
+Inv-loop file similarity lists norms n order doc leader-end places₀ blocks bounds₀ window-end₀ block-max-sum₀ i₀ places bounds window-end block-max-sum i =
+    Gathering (query similarity file lists norms n order) doc leader-end (held places₀ blocks) i window-end block-max-sum places bounds
 
 abbrev μ-loop : tie.MeasureT-loop
-μ-loop file similarity lists caches n order doc leader-end places₀ docs freqs bounds₀ window-end₀ block-max-sum₀ i₀ places bounds window-end block-max-sum i =
+μ-loop file similarity lists norms n order doc leader-end places₀ blocks bounds₀ window-end₀ block-max-sum₀ i₀ places bounds window-end block-max-sum i =
     n - i
 
 -- the places that the answers look back to
@@ -119,7 +119,7 @@ loop-again c =
     let hi = l .loop-test .taken in
     let hq = O .below _ hi in
     let z = c .block-max .last .1 .1 .1 .1 .1 in
-    goes-on _ _ _ _ O G hi (s .shallow-seek .ensures) (h .has-remaining-docs .ensures) (e .if1 .left) (t .last-doc-in-block .ensures) (m .least .ensures) {places₂ = z .0} {bounds₂ = z .1 .1 .1 .0} (c .block-max .ensures)
+    goes-on _ _ _ _ O G hi (s .shallow-seek .ensures) (h .has-remaining-docs .ensures) (e .if1 .left) (t .last-doc-in-block .ensures) (m .least .ensures) {places₂ = z .0} {bounds₂ = z .1 .1 .0} (c .block-max .ensures)
 
 returns-2 : tie.Need-returns-2 Inv-loop μ-loop
 returns-2 c = ended _ _ _ _ (start (c .before) .pre .0) (c .before .loop .inv) (c .loop-test .left)

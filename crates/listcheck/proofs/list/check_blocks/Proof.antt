@@ -9,11 +9,11 @@ use Rattle.listcheck.proofs.list.check_blocks.Statement.{statement}
 use Rattle.listcheck.proofs.list.check_blocks.Tie as tie
 
 abbrev Inv-loop : tie.InvT-loop
-Inv-loop file limit reader x w maxScore blocks docs₀ freqs₀ lowest₀ at₀ b₀ docs freqs lowest at b =
+Inv-loop file limit reader x w maxScore blocks block₀ lowest₀ at₀ b₀ block lowest at b =
     Judging file x lowest at b
 
 abbrev μ-loop : tie.MeasureT-loop
-μ-loop file limit reader x w maxScore blocks docs₀ freqs₀ lowest₀ at₀ b₀ docs freqs lowest at b =
+μ-loop file limit reader x w maxScore blocks block₀ lowest₀ at₀ b₀ block lowest at b =
     blocks - b
 
 -- the places that the answers look back to
@@ -21,10 +21,7 @@ abbrev start : tie.At-loop Inv-loop μ-loop → tie.Start Inv-loop μ-loop
 start c = c .before .before .before
 
 abbrev entered : tie.After-check-packed Inv-loop μ-loop → tie.After-read-skip-entry Inv-loop μ-loop
-entered c = c .before .before .before
-
-abbrev told : tie.After-freqs2 Inv-loop μ-loop → tie.Else1 Inv-loop μ-loop
-told c = c .before .before
+entered c = c .before .before
 
 loop-holds : tie.Need-loop-holds Inv-loop μ-loop
 loop-holds c = let a = c .before .before in judging-begun (a .args .file .now) (a .args .x)
@@ -34,7 +31,7 @@ read-skip-entry-requires c κs = (start (c .before) .pre .1 .skipped, c .loop-te
 
 check-packed-requires : tie.Need-check-packed-requires Inv-loop μ-loop
 check-packed-requires c κs =
-    let e = c .before .before in
+    let e = c .before in
     let t = e .before in
     let l = t .before in
     let a = start l in
@@ -60,7 +57,7 @@ returns c =
 
 check-block-requires : tie.Need-check-block-requires Inv-loop μ-loop
 check-block-requires c κs =
-    let p = told c .before in
+    let p = c .before .before in
     let e = entered p in
     let a = start (e .before .before) in
     (a .pre .0, packed-in (a .args .file .now) (a .args .x) (a .pre .1) (e .before .loop-test .taken) refl, e .read-skip-entry .ensures, p .check-packed .ensures)
@@ -73,7 +70,7 @@ abbrev joined : tie.After-struct-known2 Inv-loop μ-loop → tie.After-check-blo
 joined c = c .before .before
 
 abbrev entry-of : tie.After-struct-known2 Inv-loop μ-loop → tie.After-read-skip-entry Inv-loop μ-loop
-entry-of c = entered (told (joined c .before) .before)
+entry-of c = entered (joined c .before .before .before)
 
 add-at : tie.Need-add-at Inv-loop μ-loop
 add-at c =
@@ -110,7 +107,7 @@ loop-less c = search needs
 loop-again : tie.Need-loop-again Inv-loop μ-loop
 loop-again c =
     let k = joined c in
-    let q = told (k .before) in
+    let q = k .before .before in
     let r = entry-of c in
     let t = r .before in
     let l = t .before in

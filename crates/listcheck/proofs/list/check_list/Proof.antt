@@ -13,7 +13,7 @@ use Rattle.listcheck.proofs.list.check_list.Tie as tie
 
 -- the places that the answers look back to
 abbrev after-check-blocks : tie.After-lower-of → tie.After-check-blocks
-after-check-blocks c = c .before .before .before .before .before
+after-check-blocks c = c .before .before .before .before
 
 tail-place-requires : tie.Need-tail-place-requires
 tail-place-requires c κs = search needs
@@ -28,24 +28,24 @@ returns : tie.Need-returns
 returns c = let p = c .before .before in let a = p .before .before in skips-wrong (a .args .file .now) (a .args .x) (p .tail-place .ensures) (c .enum-told .given .1)
 
 -- where the tail's place is known, and where it was asked for
-abbrev known : tie.After-freqs → tie.After-known-told
-known c = c .before .before
+abbrev known : tie.After-block → tie.After-known-told
+known c = c .before
 
 abbrev placed : tie.After-known-told → tie.After-tail-place
 placed c = c .before .before .before
 
-abbrev start : tie.After-freqs → tie.Start
+abbrev start : tie.After-block → tie.Start
 start c = placed (known c) .before .before
 
 -- the list's skip entries are right, and this is its tail's place
-skips-here : (c : tie.After-freqs) → Skipped (start c .args .file .now) (start c .args .x)
+skips-here : (c : tie.After-block) → Skipped (start c .args .file .now) (start c .args .x)
 skips-here c = let a = start c in let k = known c in skipped (a .args .file .now) (a .args .x) (placed k .tail-place .ensures) (k .before .place .given .1) (a .pre .0)
 
 read-tail-requires : tie.Need-read-tail-requires
 read-tail-requires c κs =
     let a = start c in
     let k = known c in
-    (skips-here c, tail-is (a .args .file .now) (a .args .x) (placed k .tail-place .ensures) (k .before .place .given .1), search needs, search needs)
+    (skips-here c, tail-is (a .args .file .now) (a .args .x) (placed k .tail-place .ensures) (k .before .place .given .1), search needs)
 
 returns-2 : tie.Need-returns-2
 returns-2 c =
@@ -98,7 +98,7 @@ returns-3 c =
 
 check-tail-requires : tie.Need-check-tail-requires
 check-tail-requires c κs =
-    let e2 = c .before .before in
+    let e2 = c .before in
     let m = e2 .before .before in
     let a = begun m in
     let x = a .args .x in

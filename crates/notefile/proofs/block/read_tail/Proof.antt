@@ -1,6 +1,6 @@
 -- `block::read_tail` meets its contract: the tests are those of condition 6, in its order.
 use borrow.Author.Needs.{needs}
-use Rattle.notefile.proofs.Tails.{past-end, docs-broken, freqs-broken, filled}
+use Rattle.notefile.proofs.Tails.{past-end, freqs-fit, docs-broken-in, freqs-broken-in, filled-in}
 use Rattle.notefile.proofs.block.read_tail.Statement.{statement}
 use Rattle.notefile.proofs.block.read_tail.Tie as tie
 
@@ -20,6 +20,9 @@ after-read-vints2 c = c .before .before .before .before
 returns : tie.Need-returns
 returns c = let a = start (c .before) in past-end (a .args .file .now) (a .args .x) (a .pre .1) (c .if1 .taken)
 
+index-1-read-vints : tie.Need-index-1-read-vints
+index-1-read-vints c = search needs
+
 read-vints-requires : tie.Need-read-vints-requires
 read-vints-requires c κs = search needs
 
@@ -30,10 +33,17 @@ enum-told : tie.Need-enum-told
 enum-told c = search needs
 
 returns-2 : tie.Need-returns-2
-returns-2 c = let v = c .before .before in let a = start (else-of v .before) in docs-broken (a .args .file .now) (a .args .x) (a .pre .1) (else-of v .if1 .left) (v .read-vints .ensures) (c .enum-told .given .1)
+returns-2 c = let v = c .before .before in let a = start (else-of v .before) in docs-broken-in (a .args .file .now) (a .args .x) (a .pre .1) (else-of v .if1 .left) (a .pre .2) (v .read-vints .ensures) (c .enum-told .given .1)
+
+index-1-read-vints-2 : tie.Need-index-1-read-vints-2
+index-1-read-vints-2 c = search needs
 
 read-vints-requires-2 : tie.Need-read-vints-requires-2
-read-vints-requires-2 c κs = search needs
+read-vints-requires-2 c κs =
+    let v = c .before .before .before .before in
+    let a = start (else-of v .before) in
+    let fit = freqs-fit (a .args .file .now) (a .args .x) (a .pre .1) (else-of v .if1 .left) (a .pre .2) (v .read-vints .ensures) in
+    search (needs, fit)
 
 enum-known-second : tie.Need-enum-known-second
 enum-known-second c = search needs
@@ -42,20 +52,22 @@ enum-told-2 : tie.Need-enum-told-2
 enum-told-2 c = search needs
 
 returns-3 : tie.Need-returns-3
-returns-3 c = let w = c .before .before in let v = after-first w .before .before in let a = start (else-of v .before) in freqs-broken (a .args .file .now) (a .args .x) (a .pre .1) (else-of v .if1 .left) (v .read-vints .ensures) (after-first w .first .given .1) (w .read-vints2 .ensures) (c .enum-told2 .given .1)
+returns-3 c = let w = c .before .before in let v = after-first w .before .before in let a = start (else-of v .before) in freqs-broken-in (a .args .file .now) (a .args .x) (a .pre .1) (else-of v .if1 .left) (a .pre .2) (v .read-vints .ensures) (after-first w .first .given .1) (w .read-vints2 .ensures) (c .enum-told2 .given .1)
 
 returns-4 : tie.Need-returns-4
-returns-4 c = let w = after-read-vints2 c in let v = after-first w .before .before in let a = start (else-of v .before) in filled (a .args .file .now) (a .args .x) (a .pre .1) (else-of v .if1 .left) (v .read-vints .ensures) (after-first w .first .given .1) (w .read-vints2 .ensures) (c .before .before .second .given .1)
+returns-4 c = let w = after-read-vints2 c in let v = after-first w .before .before in let a = start (else-of v .before) in filled-in (a .args .file .now) (a .args .x) (a .pre .1) (else-of v .if1 .left) (a .pre .2) (v .read-vints .ensures) (after-first w .first .given .1) (w .read-vints2 .ensures) (c .before .before .second .given .1)
 
 pub read-tail-spec : {M : Type 1} → statement M
 read-tail-spec =
     tie.close
     (tie.spec
     returns
+    index-1-read-vints
     read-vints-requires
     enum-known-first
     enum-told
     returns-2
+    index-1-read-vints-2
     read-vints-requires-2
     enum-known-second
     enum-told-2

@@ -33,10 +33,10 @@ abbrev start-of : tie.After-slice-known2 → tie.Start
 start-of h = h .before .before .before .before .before
 
 abbrev begun-of : tie.After-drive-arg2 → tie.After-begin
-begun-of c = c .before .before .before .before .before .before .before .before .before
+begun-of c = c .before .before .before .before .before .before .before .before
 
-abbrev reader-of : tie.After-freqs → tie.After-norm-reader
-reader-of g = g .before .before .before .before .before .before
+abbrev reader-of : tie.After-blocks2 → tie.After-norm-reader
+reader-of g = g .before .before .before .before .before
 
 -- where the run begins, and where it stopped
 abbrev place-of : tie.After-begin → Tables → Machine → Place
@@ -49,12 +49,12 @@ place-of g h m =
 abbrev first-of : tie.After-begin → Place
 first-of g =
     let l = g .begin .last .1 .1 .1 .1 .1 .1 .1 .1 in
-    place-of g (tables (l .0) (l .1 .0) (l .1 .1 .0) (l .1 .1 .1 .0) (replicate 18 (replicate 128 (f32 .nil)))) (g .begin .result)
+    place-of g (tables (l .0) (l .1 .0) (l .1 .1 .0) (replicate 18 (replicate 128 (f32 .nil)))) (g .begin .result)
 
 abbrev last-of : tie.After-drive → Place
 last-of d =
     let l = d .drive .last .1 .1 .1 .1 .1 in
-    place-of (begun-of (d .before)) (tables (l .0) (l .1 .0) (l .1 .1 .0) (l .1 .1 .1 .0) (l .1 .1 .1 .1 .0)) (d .drive .result .machine)
+    place-of (begun-of (d .before)) (tables (l .0) (l .1 .0) (l .1 .1 .0) (l .1 .1 .1 .0)) (d .drive .result .machine)
 
 read-header-requires : tie.Need-read-header-requires
 read-header-requires c κs = let a = start-of c in omega (arith, header-of (a .args .file .now) (through a .accepted) refl .entries)
@@ -71,7 +71,7 @@ begin-requires c κs =
       h .read-header .ensures,
       record { accepted = t .accepted; few = t .few; named = t .named; takes = t .takes },
       search needs,
-      record { lists = search needs; caches = search needs; places = search needs; docs = search needs; freqs = search needs },
+      record { lists = search needs; norms = search needs; places = search needs; blocks = search needs },
     )
 
 drive-requires : tie.Need-drive-requires
@@ -97,7 +97,7 @@ unfolding ofBits
 returns c =
     let d = after-drive c in
     let a = start-of (reader-of (begun-of (d .before) .before) .before .before) in
-    let l = d .drive .last .1 .1 .1 .1 .1 .1 .1 .1 .1 .1 in
+    let l = d .drive .last .1 .1 .1 .1 .1 .1 .1 .1 .1 in
     driven-listed (a .args .way) (request a) (through a) {p = first-of (begun-of (d .before))} {place = last-of d}
     {old = rows (a .args .documents .now) (a .args .scores .now)} {new = rows (l .0) (l .1 .0)} (begun-of (d .before) .begin .ensures _ (made-rows (f32 .nil)) .list-is (a .args .rule) (a .args .script .now)) (d .drive .ensures .ran) (c .finish .ensures)
 

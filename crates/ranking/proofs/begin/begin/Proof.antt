@@ -10,11 +10,11 @@ use Rattle.ranking.proofs.begin.begin.Statement.{statement}
 use Rattle.ranking.proofs.begin.begin.Tie as tie
 
 -- the places that the answers look back to
-abbrev start : tie.After-open-lists-arg5 → tie.Start
-start c = c .before .before .before .before .before .before .before
+abbrev start : tie.After-open-lists-arg4 → tie.Start
+start c = c .before .before .before .before .before .before
 
-abbrev matched : tie.After-begin-skipping-arg6 → tie.After-enum-told
-matched c = c .before .before .before .before .before .before
+abbrev matched : tie.After-begin-skipping-arg5 → tie.After-enum-told
+matched c = c .before .before .before .before .before
 
 open-lists-requires : tie.Need-open-lists-requires
 open-lists-requires c κs =
@@ -50,7 +50,7 @@ returns-2 c floats rows =
     let R = a .pre .2 in
     let l = o .open-lists .last .1 .1 .1 .1 in
     rw (m .enum-told2 .given .1)
-    (plain-begun (a .args .similarity) (a .args .file .now) (a .args .query .now) (a .pre .0) (R .few) (opening.tables (l .0) (l .1 .0) (l .1 .1 .0) (l .1 .1 .1 .0) (l .1 .1 .1 .1 .0)) (o .open-lists .result) (o .open-lists .ensures .0) _ floats rows
+    (plain-begun (a .args .similarity) (a .args .file .now) (a .args .query .now) (a .pre .0) (R .few) (opening.tables (l .0) (l .1 .0) (l .1 .1 .0) (l .1 .1 .1 .0)) (o .open-lists .result) (o .open-lists .ensures .0) _ floats rows
     (omega (arith, few-documents (a .args .file .now) (header-right (a .args .file .now) (R .accepted)))) (a .args .mode) (c .needs-all .ensures))
 
 pub begin-spec : {M : Type 1} → statement M

@@ -19,7 +19,7 @@ start c = c .before .before
 
 -- the tables that were opened
 abbrev opened : tie.Start → opening.Tables
-opened a = opening.tables (a .args .lists .now) (a .args .caches .now) (a .args .places .now) (a .args .docs .now) (a .args .freqs .now)
+opened a = opening.tables (a .args .lists .now) (a .args .norms .now) (a .args .places .now) (a .args .blocks .now)
 
 enum-told : tie.Need-enum-told
 enum-told c = search needs

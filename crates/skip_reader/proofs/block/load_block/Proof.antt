@@ -15,21 +15,24 @@ start-packed c = c .before .before .before
 abbrev start-tail : tie.After-info → tie.Start
 start-tail c = c .before .before .before
 
-abbrev packed-of : tie.After-load-packed-arg2 → tie.After-enum-told
+abbrev packed-of : tie.After-load-packed → tie.After-enum-told
 packed-of c = c .before .before
 
-abbrev rest-of : tie.After-load-tail-arg2 → tie.Else1
+abbrev rest-of : tie.After-load-tail → tie.Else1
 rest-of c = c .before .before
 
 abbrev padded : tie.After-pad2 → tie.After-pad
 padded c = c .before .before
+
+abbrev emptied : tie.After-sized → tie.Then1
+emptied c = c .before .before
 
 enum-told : tie.Need-enum-told
 enum-told c = search needs
 
 load-packed-requires : tie.Need-load-packed-requires
 load-packed-requires c κs =
-    let m = packed-of c in
+    let m = c .before in
     let a = start-packed m in
     let P = packed-info (a .args .file .now) (a .args .x) (a .args .reader) (a .pre .1) (m .enum-told .given .1) in
     (full-here (a .pre .0) (a .args .reader) (a .pre .1) (P .full), right-here (a .pre .0) (a .args .reader) (a .pre .1) (omega (arith, P .full)))
@@ -37,15 +40,24 @@ load-packed-requires c κs =
 enum-known-info : tie.Need-enum-known-info
 enum-known-info c = search needs
 
+sized-requires : tie.Need-sized-requires
+sized-requires c κs = search needs
+
+index-1-pad : tie.Need-index-1-pad
+index-1-pad c = search needs
+
 pad-requires : tie.Need-pad-requires
 pad-requires c κs = search needs
+
+index-1-pad-2 : tie.Need-index-1-pad-2
+index-1-pad-2 c = search needs
 
 pad-requires-2 : tie.Need-pad-requires-2
 pad-requires-2 c κs = search needs
 
 load-tail-requires : tie.Need-load-tail-requires
 load-tail-requires c κs =
-    let t = c .before .before in
+    let t = c .before in
     let m = t .before .before in
     let k = m .before .before in
     let a = k .before in
@@ -55,27 +67,28 @@ load-tail-requires c κs =
 
 returns : tie.Need-returns
 returns c =
-    let m = packed-of (c .before) in
+    let m = packed-of c in
     let a = start-packed m in
     let P = packed-info (a .args .file .now) (a .args .x) (a .args .reader) (a .pre .1) (m .enum-told .given .1) in
-    loaded-is (omega (arith, P .full)) (c .load-packed .ensures)
+    loaded-is _ (omega (arith, P .full)) (c .load-packed .ensures)
 
 returns-2 : tie.Need-returns-2
 returns-2 c =
-    let t = padded c .before .before in
+    let z = padded c .before .before in
+    let t = emptied z in
     let m = t .before .before in
     let a = start-tail m in
     let s = a .args .file .now in let x = a .args .x in let r = a .args .reader in
-    empty-is s x (r .block) (sym (tail-info s x r (a .pre .1) (m .info .given .1) .1) ∙ t .if1 .taken) (padded c .pad .ensures) (c .pad2 .ensures)
+    empty-is s x (r .block) (z .sized .ensures .1) (sym (tail-info s x r (a .pre .1) (m .info .given .1) .1) ∙ t .if1 .taken) (padded c .pad .ensures) (c .pad2 .ensures)
 
 returns-3 : tie.Need-returns-3
 returns-3 c =
-    let t = rest-of (c .before) in
+    let t = rest-of c in
     let m = t .before .before in
     let a = start-tail m in
     let s = a .args .file .now in let x = a .args .x in let r = a .args .reader in
     let e = on-tail x r (tail-info s x r (a .pre .1) (m .info .given .1)) (t .if1 .left) in
-    rw e (loaded-is (le-refl _) (c .load-tail .ensures))
+    rw e (loaded-is _ (le-refl _) (c .load-tail .ensures))
 
 pub load-block-spec : {M : Type 1} → statement M
 load-block-spec =
@@ -84,7 +97,10 @@ load-block-spec =
     enum-told
     load-packed-requires
     enum-known-info
+    sized-requires
+    index-1-pad
     pad-requires
+    index-1-pad-2
     pad-requires-2
     load-tail-requires
     returns

@@ -22,13 +22,13 @@ abbrev else-of : tie.After-doc → tie.Else1
 else-of c = c .before .before
 
 abbrev scorers : tie.Start → List TermScorer
-scorers a = map (termIn (a .args .tops .now) (a .args .places .now) (a .args .docs .now)) (a .args .order .now)
+scorers a = map (termIn (a .args .lists .now) (a .args .places .now) (a .args .blocks .now)) (a .args .order .now)
 
 long : (a : tie.Start) → a .args .n ≤ length (scorers a)
-long a = omega (arith, length-map (a .args .order .now) (termIn (a .args .tops .now) (a .args .places .now) (a .args .docs .now)), a .pre .1)
+long a = omega (arith, length-map (a .args .order .now) (termIn (a .args .lists .now) (a .args .places .now) (a .args .blocks .now)), a .pre .1)
 
 before-is : (b : tie.After-before-pivot) → b .before-pivot .result ≡ beforePivot (b .before .args .threshold) (f32 .nil) (take (b .before .args .n) (scorers (b .before)))
-before-is b = b .before-pivot .ensures (b .before .args .places .now) (b .before .args .docs .now)
+before-is b = b .before-pivot .ensures (b .before .args .places .now) (b .before .args .blocks .now)
 
 read : (e : tie.Else1) → Readable (e .before .before .args .places .now) (getD (e .before .before .args .order .now) (e .before .before-pivot .result) 0)
 read e = let a = e .before .before in read-at (a .pre .0) (reading (a .pre .3) (a .pre .1)) (e .before .before-pivot .result) (e .if1 .left)
@@ -38,11 +38,11 @@ here-is : (d : tie.After-doc) → (let b = else-of d .before in getD (scorers (b
 here-is d =
     let b = else-of d .before in
     let a = b .before in
-    rw (map-at (termIn (a .args .tops .now) (a .args .places .now) (a .args .docs .now)) (a .args .order .now) (b .before-pivot .result) 0 noScorer (omega (arith, a .pre .1))) (sym {b = docAt (a .args .places .now) (a .args .docs .now) (getD (a .args .order .now) (b .before-pivot .result) 0)} (d .doc .ensures))
+    rw (map-at (termIn (a .args .lists .now) (a .args .places .now) (a .args .blocks .now)) (a .args .order .now) (b .before-pivot .result) 0 noScorer (omega (arith, a .pre .1))) (sym {b = docAt (a .args .places .now) (a .args .blocks .now) (getD (a .args .order .now) (b .before-pivot .result) 0)} (d .doc .ensures))
 
 before-pivot-requires : tie.Need-before-pivot-requires
 before-pivot-requires c κs =
-    (c .pre .0, c .pre .1, c .pre .2, all-imp (Readable (c .args .places .now)) (λ (q : ℕ). q < 16) (take (c .args .n) (c .args .order .now)) (λ _ R. R .slot-in) (c .pre .3))
+    (c .pre .0, c .pre .1, c .pre .2)
 
 returns : tie.Need-returns
 returns c =
@@ -80,7 +80,7 @@ returns-3 c =
     let a = b .before in
     let q = here-is d in
     ap (λ (x : ℕ). At (b .before-pivot .result) (c .end-of-pivot .result) x) (sym q)
-    ∙ found (a .args .threshold) (scorers a) _ _ (before-is b) (omega arith) (long a) (λ z. c .before .if2 .left (sym q ∙ z)) (rw q (c .end-of-pivot .ensures (a .args .tops .now)))
+    ∙ found (a .args .threshold) (scorers a) _ _ (before-is b) (omega arith) (long a) (λ z. c .before .if2 .left (sym q ∙ z)) (rw q (c .end-of-pivot .ensures (a .args .lists .now)))
 
 pub find-pivot-doc-spec : {M : Type 1} → statement M
 find-pivot-doc-spec =

@@ -13,8 +13,8 @@ use Rattle.slot_rows.proofs.row.advance.Tie as tie
 abbrev start : tie.Then1 → tie.Start
 start c = c .before .before .before
 
-abbrev start-of-far : tie.After-advance-far-arg3 → tie.Start
-start-of-far c = c .before .before .before .before .before .before
+abbrev start-of-far : tie.After-advance-far-arg2 → tie.Start
+start-of-far c = c .before .before .before .before .before
 
 element-copy-out-cur : tie.Need-element-copy-out-cur
 element-copy-out-cur c = search needs
@@ -40,8 +40,11 @@ add-result c = omega (arith, next-inside c)
 mul-result : tie.Need-mul-result
 mul-result c = omega (arith, next-inside c)
 
-element-copy-out-result : tie.Need-element-copy-out-result
-element-copy-out-result c = next-inside c
+index-1-result : tie.Need-index-1-result
+index-1-result c = search needs
+
+index-2-result : tie.Need-index-2-result
+index-2-result c = next-inside c
 
 returns : tie.Need-returns
 returns c =
@@ -55,4 +58,4 @@ returns-2 : tie.Need-returns-2
 returns-2 c = c .advance-far .ensures
 
 pub advance-spec : {M : Type 1} → statement M
-advance-spec = tie.close (tie.spec element-copy-out-cur add-place element-write-place add-result mul-result element-copy-out-result returns advance-far-requires returns-2)
+advance-spec = tie.close (tie.spec element-copy-out-cur add-place element-write-place add-result mul-result index-1-result index-2-result returns advance-far-requires returns-2)

@@ -11,7 +11,7 @@ abbrev after-advance : tie.After-doc-arg → tie.After-advance
 after-advance c = c .before .before .before
 
 abbrev after-postings-of : tie.After-advance → tie.After-postings-of
-after-postings-of c = c .before .before .before
+after-postings-of c = c .before .before
 
 part-of-requires : tie.Need-part-of-requires
 part-of-requires c κs = c .before .pre .0
@@ -24,7 +24,7 @@ postings-of-requires c κs =
 
 advance-requires : tie.Need-advance-requires
 advance-requires c κs =
-    let q = c .before .before in
+    let q = c .before in
     let e = q .before .before in
     let a = e .before .before in
     let file = a .args .file .now in (

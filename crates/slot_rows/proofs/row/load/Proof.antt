@@ -8,8 +8,8 @@ use Rattle.slot_rows.proofs.row.load.Tie as tie
 abbrev start : tie.After-if12 → tie.Start
 start c = c .before .before
 
-abbrev after-postings-of : tie.After-load-block-arg2 → tie.After-postings-of
-after-postings-of c = c .before .before .before
+abbrev after-postings-of : tie.After-load-block-arg → tie.After-postings-of
+after-postings-of c = c .before .before
 
 element-copy-out-if1 : tie.Need-element-copy-out-if1
 element-copy-out-if1 c = search needs
@@ -17,8 +17,11 @@ element-copy-out-if1 c = search needs
 element-write-place : tie.Need-element-write-place
 element-write-place c = search needs
 
-element-copy-out-result : tie.Need-element-copy-out-result
-element-copy-out-result c = search needs
+index-1-result : tie.Need-index-1-result
+index-1-result c = search needs
+
+index-2-result : tie.Need-index-2-result
+index-2-result c = search needs
 
 returns : tie.Need-returns
 returns c =
@@ -45,8 +48,11 @@ load-block-requires c κs =
 keep-requires : tie.Need-keep-requires
 keep-requires c κs = search needs
 
-element-copy-out-result-2 : tie.Need-element-copy-out-result-2
-element-copy-out-result-2 c = search needs
+index-1-result-2 : tie.Need-index-1-result-2
+index-1-result-2 c = search needs
+
+index-2-result-2 : tie.Need-index-2-result-2
+index-2-result-2 c = search needs
 
 returns-2 : tie.Need-returns-2
 returns-2 c =
@@ -63,11 +69,13 @@ load-spec =
     (tie.spec
     element-copy-out-if1
     element-write-place
-    element-copy-out-result
+    index-1-result
+    index-2-result
     returns
     part-of-requires
     postings-of-requires
     load-block-requires
     keep-requires
-    element-copy-out-result-2
+    index-1-result-2
+    index-2-result-2
     returns-2)

@@ -14,7 +14,7 @@ abbrev after-open : tie.After-doc-arg → tie.After-open
 after-open c = c .before .before .before
 
 abbrev start : tie.After-open → tie.Start
-start c = c .before .before .before .before
+start c = c .before .before .before
 
 open-requires : tie.Need-open-requires
 open-requires c κs = search needs

@@ -14,8 +14,8 @@ start c = c .before .before .before
 abbrev start-of-search : tie.After-search-block-arg → tie.Start
 start-of-search c = c .before .before .before .before .before .before .before .before .before .before .before
 
-abbrev start-of-far : tie.After-seek-far-arg3 → tie.Start
-start-of-far c = c .before .before .before .before .before .before .before .before .before .before .before
+abbrev start-of-far : tie.After-seek-far-arg2 → tie.Start
+start-of-far c = c .before .before .before .before .before .before .before .before .before .before
 
 returns : tie.Need-returns
 returns c =
@@ -33,8 +33,11 @@ next-place-requires c κs =
 mul-next-doc : tie.Need-mul-next-doc
 mul-next-doc c = search needs
 
-element-copy-out-next-doc : tie.Need-element-copy-out-next-doc
-element-copy-out-next-doc c = search needs
+index-1-next-doc : tie.Need-index-1-next-doc
+index-1-next-doc c = search needs
+
+index-2-next-doc : tie.Need-index-2-next-doc
+index-2-next-doc c = search needs
 
 element-write-place : tie.Need-element-write-place
 element-write-place c = search needs
@@ -50,6 +53,9 @@ element-copy-out-if3 c = search needs
 
 element-copy-out-if4 : tie.Need-element-copy-out-if4
 element-copy-out-if4 c = search needs
+
+index-1-search-block : tie.Need-index-1-search-block
+index-1-search-block c = search needs
 
 search-block-requires : tie.Need-search-block-requires
 search-block-requires c κs =
@@ -72,8 +78,11 @@ found-in c =
 mul-result : tie.Need-mul-result
 mul-result c = omega (arith, found-in c)
 
-element-copy-out-result : tie.Need-element-copy-out-result
-element-copy-out-result c = found-in c
+index-1-result : tie.Need-index-1-result
+index-1-result c = search needs
+
+index-2-result : tie.Need-index-2-result
+index-2-result c = found-in c
 
 returns-3 : tie.Need-returns-3
 returns-3 c =
@@ -101,15 +110,18 @@ seek-spec =
     element-copy-out-next-place
     next-place-requires
     mul-next-doc
-    element-copy-out-next-doc
+    index-1-next-doc
+    index-2-next-doc
     element-write-place
     returns-2
     element-copy-out-if3
     element-copy-out-if4
+    index-1-search-block
     search-block-requires
     element-write-place-2
     mul-result
-    element-copy-out-result
+    index-1-result
+    index-2-result
     returns-3
     seek-far-requires
     returns-4)

@@ -10,7 +10,7 @@ abbrev after-seek : tie.After-doc-arg → tie.After-seek
 after-seek c = c .before .before .before
 
 abbrev after-postings-of : tie.After-seek → tie.After-postings-of
-after-postings-of c = c .before .before .before
+after-postings-of c = c .before .before
 
 part-of-requires : tie.Need-part-of-requires
 part-of-requires c κs = c .before .pre .0
@@ -23,7 +23,7 @@ postings-of-requires c κs =
 
 seek-requires : tie.Need-seek-requires
 seek-requires c κs =
-    let q = c .before .before in
+    let q = c .before in
     let e = q .before .before in
     let a = e .before .before in
     let file = a .args .file .now in (

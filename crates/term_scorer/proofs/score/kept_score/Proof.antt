@@ -27,7 +27,7 @@ abbrev places′ : tie.After-make-scores → List (List ℕ)
 places′ m = m .make-scores .last .1 .1 .1 .1 .1 .0
 
 abbrev floats′ : tie.After-make-scores → List (List Float)
-floats′ m = m .make-scores .last .1 .1 .1 .1 .1 .1 .1 .1 .0
+floats′ m = m .make-scores .last .1 .1 .1 .1 .1 .1 .1 .0
 
 cur-in : (a : tie.Start) → getD (getD (a .args .places .now) (a .args .q) []) 6 0 < 128
 cur-in a = cur-inside (a .args .file .now) (getD (a .args .lists .now) (a .args .q) []) (getD (a .args .places .now) (a .args .q) []) (a .pre .2 .list) (a .pre .2 .place)

@@ -32,7 +32,7 @@ index-2-places c = search needs
 returns : tie.Need-returns
 returns c =
     let a = start c in
-    scores-new (a .args .similarity .scoring) (a .args .file .now) (a .args .lists .now) (a .args .q) (a .args .places .now) (a .args .floats .now) (a .pre .4) (a .pre .0) {scores = c .score-block .last .1 .1 .1 .1 .1 .1 .1 .1 .0} (c .score-block .ensures)
+    scores-new (a .args .similarity .scoring) (a .args .file .now) (a .args .lists .now) (a .args .q) (a .args .places .now) (a .args .floats .now) (a .pre .4) (a .pre .0) {scores = c .score-block .last .1 .1 .1 .1 .1 .1 .1 .0} (c .score-block .ensures)
 
 pub make-scores-spec : {M : Type 1} → statement M
 make-scores-spec =

@@ -6,7 +6,7 @@ use Rattle.term_scorer.proofs.score.tail_block_max.Tie as tie
 
 -- the place that the answers look back to
 abbrev start : tie.After-tail-bound → tie.Start
-start c = c .before .before .before .before .before .before .before
+start c = c .before .before .before .before .before .before
 
 mul-tail-bound : tie.Need-mul-tail-bound
 mul-tail-bound c = search needs
@@ -31,12 +31,6 @@ mul-tail-bound-4 c = search needs
 
 index-1-tail-bound-4 : tie.Need-index-1-tail-bound-4
 index-1-tail-bound-4 c = search needs
-
-mul-tail-bound-5 : tie.Need-mul-tail-bound-5
-mul-tail-bound-5 c = search needs
-
-index-1-tail-bound-5 : tie.Need-index-1-tail-bound-5
-index-1-tail-bound-5 c = search needs
 
 tail-bound-requires : tie.Need-tail-bound-requires
 tail-bound-requires c κs = search needs
@@ -82,8 +76,6 @@ tail-block-max-spec =
     index-1-tail-bound-3
     mul-tail-bound-4
     index-1-tail-bound-4
-    mul-tail-bound-5
-    index-1-tail-bound-5
     tail-bound-requires
     mul-bounds
     element-write-bounds

@@ -7,8 +7,8 @@ use Rattle.term_scorer.proofs.slot.advance.Statement.{statement}
 use Rattle.term_scorer.proofs.slot.advance.Tie as tie
 
 -- the place that the answers look back to
-abbrev start : tie.After-advance-arg4 → tie.Start
-start c = c .before .before .before .before .before
+abbrev start : tie.After-advance-arg3 → tie.Start
+start c = c .before .before .before .before
 
 mul-advance : tie.Need-mul-advance
 mul-advance c = search needs
@@ -28,12 +28,6 @@ mul-advance-3 c = search needs
 index-1-advance-3 : tie.Need-index-1-advance-3
 index-1-advance-3 c = search needs
 
-mul-advance-4 : tie.Need-mul-advance-4
-mul-advance-4 c = search needs
-
-index-1-advance-4 : tie.Need-index-1-advance-4
-index-1-advance-4 c = search needs
-
 advance-requires : tie.Need-advance-requires
 advance-requires c κs = let a = start c in (a .pre .1 .part-row, a .pre .1 .list, a .pre .1 .place, block-at (a .args .places .now) (a .args .q) _ (a .pre .2))
 
@@ -52,7 +46,5 @@ advance-spec =
     index-1-advance-2
     mul-advance-3
     index-1-advance-3
-    mul-advance-4
-    index-1-advance-4
     advance-requires
     returns)

@@ -6,7 +6,7 @@ use Rattle.term_scorer.proofs.slot.load.Tie as tie
 
 -- the place that the answers look back to
 abbrev start : tie.After-load → tie.Start
-start c = c .before .before .before .before .before .before
+start c = c .before .before .before .before .before
 
 mul-load : tie.Need-mul-load
 mul-load c = search needs
@@ -26,12 +26,6 @@ mul-load-3 c = search needs
 index-1-load-3 : tie.Need-index-1-load-3
 index-1-load-3 c = search needs
 
-mul-load-4 : tie.Need-mul-load-4
-mul-load-4 c = search needs
-
-index-1-load-4 : tie.Need-index-1-load-4
-index-1-load-4 c = search needs
-
 load-requires : tie.Need-load-requires
 load-requires c κs = search needs
 
@@ -50,7 +44,5 @@ load-spec =
     index-1-load-2
     mul-load-3
     index-1-load-3
-    mul-load-4
-    index-1-load-4
     load-requires
     returns)

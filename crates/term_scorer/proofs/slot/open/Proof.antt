@@ -6,7 +6,7 @@ use Rattle.term_scorer.proofs.slot.open.Tie as tie
 
 -- the places that the answers look back to
 abbrev after-keep-part : tie.After-open → tie.After-keep-part
-after-keep-part c = c .before .before .before .before
+after-keep-part c = c .before .before .before
 
 abbrev start : tie.After-keep-part → tie.Start
 start c = c .before .before .before
@@ -32,12 +32,6 @@ mul-open-2 c = search needs
 index-1-open-2 : tie.Need-index-1-open-2
 index-1-open-2 c = search needs
 
-mul-open-3 : tie.Need-mul-open-3
-mul-open-3 c = search needs
-
-index-1-open-3 : tie.Need-index-1-open-3
-index-1-open-3 c = search needs
-
 open-requires : tie.Need-open-requires
 open-requires c κs = search needs
 
@@ -45,7 +39,7 @@ returns : tie.Need-returns
 returns c =
     let k = after-keep-part c in
     let a = start k in
-    opened (a .args .file .now) (a .args .x) (a .args .max-score) (a .args .q) (a .pre .0) (a .args .lists .now) (a .pre .2) (k .keep-part .ensures) (a .pre .3, a .pre .4, a .pre .5) (c .«open» .ensures)
+    opened (a .args .file .now) (a .args .x) (a .args .max-score) (a .args .q) (a .pre .0) (a .args .lists .now) (a .pre .2) (k .keep-part .ensures) (a .pre .3, a .pre .4) (c .«open» .ensures)
 
 pub open-spec : {M : Type 1} → statement M
 open-spec =
@@ -58,7 +52,5 @@ open-spec =
     index-1-open
     mul-open-2
     index-1-open-2
-    mul-open-3
-    index-1-open-3
     open-requires
     returns)

@@ -8,7 +8,7 @@ use Rattle.term_scorer.proofs.slot.seek.Tie as tie
 
 -- the place that the answers look back to
 abbrev start : tie.After-seek → tie.Start
-start c = c .before .before .before .before .before .before
+start c = c .before .before .before .before .before
 
 mul-seek : tie.Need-mul-seek
 mul-seek c = search needs
@@ -28,12 +28,6 @@ mul-seek-3 c = search needs
 index-1-seek-3 : tie.Need-index-1-seek-3
 index-1-seek-3 c = search needs
 
-mul-seek-4 : tie.Need-mul-seek-4
-mul-seek-4 c = search needs
-
-index-1-seek-4 : tie.Need-index-1-seek-4
-index-1-seek-4 c = search needs
-
 seek-requires : tie.Need-seek-requires
 seek-requires c κs = search needs
 
@@ -52,7 +46,5 @@ seek-spec =
     index-1-seek-2
     mul-seek-3
     index-1-seek-3
-    mul-seek-4
-    index-1-seek-4
     seek-requires
     returns)

@@ -13,7 +13,7 @@ start c = c .before .before
 abbrev ended : tie.After-advance → tie.Else1
 ended c = c .before .before
 
-abbrev advanced : tie.After-load-block-arg2 → tie.After-advance
+abbrev advanced : tie.After-load-block → tie.After-advance
 advanced c = c .before .before
 
 add-p : tie.Need-add-p
@@ -26,11 +26,11 @@ advance-requires : tie.Need-advance-requires
 advance-requires c κs = let a = start (c .before .before) in (a .pre .0 .blocks, a .pre .1 .stands, omega (arith, a .pre .2, a .pre .0 .blocks .skipped .parted .few))
 
 load-block-requires : tie.Need-load-block-requires
-load-block-requires c κs = let v = advanced c in let a = start (ended v .before) in (a .pre .0, stands-on (a .args .file .now) (a .args .x) _ (v .advance .ensures))
+load-block-requires c κs = let v = c .before in let a = start (ended v .before) in (a .pre .0, stands-on (a .args .file .now) (a .args .x) _ (v .advance .ensures))
 
 returns-2 : tie.Need-returns-2
 returns-2 c =
-    let v = advanced (c .before) in
+    let v = advanced c in
     let a = start (ended v .before) in
     advanced-on (a .pre .0) (a .args .self) (a .pre .1) (ended v .if1 .left) (a .pre .2) (v .advance .ensures) (c .load-block .ensures)
 

@@ -3,8 +3,8 @@ use Rattle.postings.proofs.cursor.SegmentPostings.load.Statement.{state
 use Rattle.postings.proofs.cursor.SegmentPostings.load.Tie as tie
 
 -- the place that the answers look back to
-abbrev start : tie.After-load-block-arg2 → tie.Start
-start c = c .before .before .before .before .before
+abbrev start : tie.After-load-block-arg → tie.Start
+start c = c .before .before .before .before
 
 returns : tie.Need-returns
 returns c = let a = c .before .before in rw (a .pre .1 .loaded-is (c .if1 .taken)) at (a .pre .1 .holds)
