@@ -1,6 +1,5 @@
 -- A run begins at its route's first place: the lists that a query names are open in their slots, and the machine of each mode stands there.
 use mathlib.Core.Path.{_≡_, refl, sym, ap, _∙_, subst}
-use mathlib.Core.Bool.{Bool}
 use mathlib.Core.List.{List, [], _∷_, map}
 use Prim.Native.Nat.{ℕ, zero, suc, _+_, _≤_, _<_}
 use native.Mathlib.Nat.{zero-add}
@@ -68,7 +67,7 @@ use Rattle.machine.proofs.Embeds.{ends-in, runs-intersection, runs-plain, runs-
 use Rattle.request.specs.Request.{modeOf}
 use Rattle.request.specs.declared.Mode.{Mode}
 use Rattle.request.specs.declared.Mode.the-variants as modes
-use Rattle.ranking.specs.Inner.Begins.{begunTables, singleFrom, BeganWith, one-left, some-left, UnionBegun}
+use Rattle.ranking.specs.Inner.Begins.{begunTables, plainFrom, singleFrom, BeganWith, one-left, some-left, UnionBegun}
 use Rattle.ranking.specs.declared.begin.Way.the-variants.{Plain, Skipping}
 
 -- what holds of each of the first n
@@ -298,9 +297,9 @@ module _ (similarity : Similarity) (file query : List ℕ) (norms-are : similari
 
   -- ---- a plain scan
 
-  pub plain-begun : documents file ≤ 2147483647 → (m : Mode) {all : Bool} → all ≡ needsAll (modeOf m)
-      → BeganWith Plain similarity file query m a (begunTables a order floats) (mode.Plain (record { len = n; all = all; doc = 0 }))
-  plain-begun small m {all} e =
+  pub plain-begun : documents file ≤ 2147483647 → (m : Mode) → BeganWith Plain similarity file query m a (begunTables a order floats) (plainFrom m n)
+  plain-begun small m =
+      let all = needsAll (modeOf m) in
       let H = hitsOf scoring file (a .lists) n all in
       record {
         stands = scan-begins scoring file query a scorers Q few all;
@@ -310,6 +309,6 @@ module _ (similarity : Similarity) (file query : List ℕ) (norms-are : similari
             let K = callbackOf rule script in
             ends-in (runs-plain H) K [] list
             (subst (Ends K (scanRoute H) []) (scan-ext f32 K H (plain.hit f32 (modeOf m) (queried scoring file query))
-            (λ d. ap (λ (b : Bool). hitsOf scoring file (a .lists) n b d) e ∙ same-hits scoring file query a scorers Q (modeOf m) d) (documents file) 0 [] ∙ sym l)
+            (same-hits scoring file query a scorers Q (modeOf m)) (documents file) 0 [] ∙ sym l)
             (scan-ends H K (documents file) small (none-behind scoring file (a .lists) n all (λ q h. Q .open-slots q h .fresh .slot)) []));
       }

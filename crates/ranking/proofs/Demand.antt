@@ -1,6 +1,6 @@
 -- Demand 3 over the rows that any two runs wrote, from their contracts alone.
 use mathlib.Core.Path.{_≡_, refl, sym, ap, _∙_, subst}
-use mathlib.Core.Bool.{true, false, cond}
+use mathlib.Core.Bool.{true}
 use mathlib.Core.List.{List, [], _∷_, _++_}
 use mathlib.Core.Logic.{_↔_}
 use Prim.Native.Nat.{ℕ, zero, suc, _<_}
@@ -34,7 +34,7 @@ use Rattle.request.specs.Request.{Request, asked, modeOf, refusalOf}
 use Rattle.request.specs.declared.Mode.{Mode}
 use Rattle.request.proofs.Requests.{let-through}
 use Rattle.ranking.specs.Answers.{numberOf, countOf, outcomeFor, answer, answerOf, plainList, SkippingList, Answered, RunIs, PlainIs}
-use Rattle.ranking.specs.Demand.{Result, resultOf, Given, rowsIn, listOf, OneRule, Alike, startAt, from, Demand3}
+use Rattle.ranking.specs.Demand.{Result, resultOf, Given, rowsIn, listOf, OneRule, startAt, from, Demand3}
 use Rattle.ranking.specs.declared.outcome.Outcome.{Outcome}
 
 -- ---- an outcome's number, count and rows

@@ -1,5 +1,5 @@
 -- A run that has returned is what 01's table says.
-use mathlib.Core.Path.{_≡_, refl, ap, _∙_, subst}
+use mathlib.Core.Path.{_≡_, refl, sym, ap, _∙_, subst}
 use mathlib.Core.Bool.{Bool, true, false, cond}
 use mathlib.Core.List.{List, [], _∷_}
 use Prim.Native.Nat.{ℕ, suc, _≤_, _<_}
@@ -21,19 +21,28 @@ use Rattle.notefile.specs.Parts.{partOf}
 use Rattle.notefile.specs.Refusal.{fileRefusal}
 use Rattle.notefile.proofs.Accepted.{list-accepted, header-right}
 use Rattle.notefile.proofs.Headers.{few-documents}
+use Rattle.rule.specs.declared.Rule.{Rule}
 use Rattle.reports.specs.Rows.{Rows}
 use Rattle.reports.specs.Inner.Runs.{callbackOf, runAfter, Ran}
 use Rattle.reports.proofs.RunLaws.{ran-limited}
 use Rattle.decoded.specs.Lists.{queried}
 use Rattle.decoded.proofs.AcceptedLists.{list-ok}
+use Rattle.term_scorer.specs.Inner.Weights.{FloatRows}
+use Rattle.query.specs.Inner.Openings as opening
+use Rattle.machine.specs.Inner.Drives.{Drives}
 use Rattle.machine.specs.Inner.Places.{Place, machineFrom}
+use Rattle.machine.specs.Inner.Stands.{placeIn, Tables}
+use Rattle.machine.specs.declared.Driven.{Driven}
+use Rattle.machine.specs.declared.Task.{Task}
 use Rattle.machine.proofs.Embeds.{machine-stays}
-use Rattle.request.specs.Request.{Request, modeOf}
+use Rattle.request.specs.Request.{Request, asked, modeOf}
 use Rattle.request.specs.declared.Mode.{Mode}
 use Rattle.request.specs.declared.Mode.the-variants.{Intersection, Single}
 use Rattle.request.proofs.Requests.{Let}
 use Rattle.ranking.specs.Answers.{outcomeFor, plainList, Answered}
+use Rattle.ranking.specs.Inner.Begins.{begunTables, TaskBegun}
 use Rattle.ranking.specs.Inner.Runs.{finished, ListFor, Listed}
+use Rattle.ranking.specs.declared.begin.Settings.{Settings}
 use Rattle.ranking.specs.declared.begin.Way.{Way}
 use Rattle.ranking.specs.declared.begin.Way.the-variants.{Plain, Skipping}
 use Rattle.ranking.specs.declared.outcome.Outcome.{Outcome}
@@ -75,6 +84,23 @@ driven-listed way q t {p} {full = full} {count} {old} {new} lists R {r} e =
             written = R .written;
           });
     }
+
+-- and the run of a task as it was begun
+pub begun-listed : (settings : Settings) (file query : List ℕ) (script : List Float)
+    → Let (asked file query (settings .mode) (settings .scoring) (settings .rule) script) → {opened : opening.Tables} {order : List ℕ} {task : Task} → TaskBegun settings file query opened order task
+    → {floats : List (List Float)} → FloatRows floats → {old new : Rows} {after : Tables} {d : Driven}
+    → Drives file script (opened .lists) (opened .norms) task (begunTables opened order floats) (old .documents) (old .scores) after (new .documents) (new .scores) d
+    → {r : Outcome} → r ≡ finished (d .full) (d .count) → Listed (settings .way) (asked file query (settings .mode) (settings .scoring) (settings .rule) script) old r new
+begun-listed settings file query script t {opened} {order} {task} T {floats} rows {old} {new} {after} {d} D e =
+    let at = placeIn file (task .similarity) (opened .lists) (opened .norms) in
+    let p : Place = at (begunTables opened order floats) (task .machine) in
+    let place : Place = at after (d .machine) in
+    let way = settings .way in
+    let rule = settings .rule in
+    driven-listed way (asked file query (settings .mode) (settings .scoring) rule script) t {p = p} {place = place} {full = d .full} {count = d .count} {old = old} {new = new}
+    (λ list l. T .began floats rows .list-is rule script list
+    (subst (λ (s : Scoring). ListFor way (asked file query (settings .mode) s rule script) list) (sym (T .scoring-is)) l))
+    (subst (λ (z : Rule). Ran (machineFrom p) z script (old .documents) (old .scores) (d .full) (d .count) (new .documents) (new .scores) place) (T .rule-is) (D .ran)) e
 
 -- how many numbers a query has, by its mode
 pub two-numbers : {mode : Mode} {n : ℕ} → mode ≡ Intersection → Takes (modeOf mode) n → 2 ≤ n

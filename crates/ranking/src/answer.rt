@@ -1,16 +1,9 @@
 // The run of a request that is not refused. Its tables stand here.
-use crate::begin::Way;
+use crate::begin::Settings;
 use crate::begin::begin;
 use crate::outcome::Outcome;
 use crate::outcome::finish;
-use bm25::Scoring;
-use machine::Task;
 use machine::drive;
-use notefile::header::norm_reader;
-use notefile::header::read_header;
-use request::Mode;
-use rule::Rule;
-use term_scorer::score::Similarity;
 ghost use mathlib.Core.Path.{_≡_};
 ghost use Rattle.arrays.specs.Lent.{before, after};
 ghost use Rattle.reports.specs.Rows.{rows};
@@ -21,49 +14,32 @@ ghost use Rattle.ranking.specs.Inner.Runs.{Listed};
 pub fn answer(
     file: &[u8],
     query: &[u32],
-    mode: Mode,
-    scoring: Scoring,
-    way: Way,
-    rule: Rule,
+    settings: Settings,
     script: &[f32],
     documents: &mut [u32],
     scores: &mut [f32],
 ) -> Outcome
-    requires { ⌜ refusalOf (asked (now file) (now query) mode scoring rule (now script)) ≡ 0 ⌝ }
+    requires { ⌜ refusalOf (asked (now file) (now query) (settings .mode) (settings .scoring) (settings .rule) (now script)) ≡ 0 ⌝ }
     ensures { λ r.
-        let q = asked (before file) (before query) mode scoring rule (before script) in
-        ⌜ Listed way q (rows (before documents) (before scores)) r (rows (after documents) (after scores)) ⌝ }
+        let q = asked (before file) (before query) (settings .mode) (settings .scoring) (settings .rule) (before script) in
+        ⌜ Listed (settings .way) q (rows (before documents) (before scores)) r (rows (after documents) (after scores)) ⌝ }
 {
-    let h = read_header(file);
-    let reader = norm_reader(file, h);
-    let similarity = Similarity {
-        norms: reader,
-        scoring,
-    };
     let mut lists = [[0usize; 8]; 16];
     let mut norms = [[0.0f32; 256]; 16];
     let mut order = [0usize; 16];
     let mut places = [[0usize; 10]; 16];
     let mut blocks = [[[0u32; 128]; 2]; 16];
     let mut floats = [[0.0f32; 128]; 18];
-    let machine = begin(
+    let task = begin(
         file,
-        similarity,
-        h,
         query,
-        mode,
-        way,
+        settings,
         &mut lists,
         &mut norms,
         &mut order,
         &mut places,
         &mut blocks,
     );
-    let task = Task {
-        similarity,
-        machine,
-        rule,
-    };
     let r = drive(
         file,
         script,

@@ -1,12 +1,17 @@
 // A run as it begins: its lists opened in slots of their own, and its machine at the route's first place.
+use block_wand_intersection::begin::begin as begin_all;
 use block_wand_single::Phase;
 use block_wand_single::Single;
+use bm25::Scoring;
 use machine::Machine;
-use notefile::header::Header;
+use machine::Task;
+use notefile::header::norm_reader;
+use notefile::header::read_header;
 use ordering::retain;
 use plain_scan::Plain;
 use query::open_lists;
 use request::Mode;
+use rule::Rule;
 use slot_rows::place::Blocks;
 use slot_rows::place::Places;
 use term_scorer::TermScorer;
@@ -15,12 +20,10 @@ ghost use mathlib.Core.Path.{_≡_};
 ghost use Prim.Native.Nat.{_≤_};
 ghost use Rattle.arrays.specs.Lent.{before, after};
 ghost use Rattle.notefile.specs.Header.{normReader};
-ghost use Rattle.notefile.specs.Inner.Structs.{headerOf};
 ghost use Rattle.term_scorer.specs.Inner.Slots.{Sixteen};
 ghost use Rattle.query.specs.Inner.Openings as opening;
 ghost use Rattle.query.specs.Inner.Openings.{Room};
-ghost use Rattle.ranking.specs.declared.begin.Way.the-variants.{Skipping};
-ghost use Rattle.ranking.specs.Inner.Begins.{needsAllOf, singleFrom, Began, Opens, Right, UnionBegun};
+ghost use Rattle.ranking.specs.Inner.Begins.{plainFrom, singleFrom, Began, Opens, Right, TaskBegun, UnionBegun};
 
 // The skipping run of its mode, or the plain scan.
 pub enum Way {
@@ -28,15 +31,29 @@ pub enum Way {
     Plain,
 }
 
-// Whether a document must be in every list.
-fn needs_all(mode: Mode) -> bool
-    ensures { λ r. ⌜ r ≡ needsAllOf mode ⌝ }
+// How a query is run.
+pub struct Settings {
+    pub mode: Mode,
+    pub scoring: Scoring,
+    pub way: Way,
+    pub rule: Rule,
+}
+
+// The plain scan, from document 0. In an intersection a document must be in every list.
+fn begin_plain(mode: Mode, n: usize) -> Machine
+    ensures { λ r. ⌜ r ≡ plainFrom mode n ⌝ }
 {
-    match mode {
+    let all = match mode {
         Mode::Union => false,
         Mode::Intersection => true,
         Mode::Single => false,
-    }
+    };
+    let plain = Plain {
+        len: n,
+        all,
+        doc: 0,
+    };
+    Machine::Plain(plain)
 }
 
 // The single scan goes on with the scorer that is open.
@@ -66,12 +83,12 @@ fn begin_union(scorers: [TermScorer; 16], n: usize, order: &mut [usize; 16]) -> 
     Machine::Union(union)
 }
 
-// The machine of a skipping run, over lists that are open.
-fn begin_skipping(
+// The machine of the run that is asked for, over lists that are open.
+fn begin_machine(
     file: &[u8],
     similarity: Similarity,
     query: &[u32],
-    mode: Mode,
+    settings: Settings,
     scorers: [TermScorer; 16],
     lists: &[[usize; 8]; 16],
     norms: &[[f32; 256]; 16],
@@ -80,78 +97,72 @@ fn begin_skipping(
     blocks: &Blocks,
 ) -> Machine
     requires { let opened = opening.tables (now lists) (now norms) (now places) (now blocks) in
-        ⌜ (similarity .norms ≡ normReader (now file)) × Right (now file) (now query) mode × Sixteen (now order)
+        ⌜ (similarity .norms ≡ normReader (now file)) × Right (now file) (now query) (settings .mode) × Sixteen (now order)
         × Opens similarity (now file) (now query) opened scorers ⌝ }
     ensures { λ r.
         let opened = opening.tables (before lists) (before norms) (before places) (before blocks) in
-        ⌜ Began Skipping similarity (before file) (before query) mode opened (after order) r ⌝ }
+        ⌜ Began (settings .way) similarity (before file) (before query) (settings .mode) opened (after order) r ⌝ }
 {
     let n = query.len();
-    match mode {
-        Mode::Union => begin_union(scorers, n, order),
-        Mode::Intersection => {
-            let intersection = block_wand_intersection::begin::begin(
-                file,
-                similarity,
-                lists,
-                norms,
-                n,
-                order,
-                places,
-                blocks,
-            );
-            Machine::Intersection(intersection)
-        }
-        Mode::Single => {
-            let only = scorers[0];
-            begin_single(only)
-        }
+    let mode = settings.mode;
+    let way = settings.way;
+    match way {
+        Way::Skipping => match mode {
+            Mode::Union => begin_union(scorers, n, order),
+            Mode::Intersection => {
+                let begun = begin_all(file, similarity, lists, norms, n, order, places, blocks);
+                Machine::Intersection(begun)
+            }
+            Mode::Single => {
+                let only = scorers[0];
+                begin_single(only)
+            }
+        },
+        Way::Plain => begin_plain(mode, n),
     }
 }
 
-// The query's lists opened, and the machine of the run that is asked for.
+// The query's lists opened, and what is driven over them.
 pub fn begin(
     file: &[u8],
-    similarity: Similarity,
-    h: Header,
     query: &[u32],
-    mode: Mode,
-    way: Way,
+    settings: Settings,
     lists: &mut [[usize; 8]; 16],
     norms: &mut [[f32; 256]; 16],
     order: &mut [usize; 16],
     places: &mut Places,
     blocks: &mut Blocks,
-) -> Machine
+) -> Task
     requires { let room = opening.tables (now lists) (now norms) (now places) (now blocks) in
-        ⌜ (similarity .norms ≡ normReader (now file)) × (h ≡ headerOf (now file)) × Right (now file) (now query) mode
-        × Sixteen (now order) × Room room ⌝ }
+        ⌜ Right (now file) (now query) (settings .mode) × Sixteen (now order) × Room room ⌝ }
     ensures { λ r.
         let opened = opening.tables (after lists) (after norms) (after places) (after blocks) in
-        ⌜ Began way similarity (before file) (before query) mode opened (after order) r ⌝ }
+        ⌜ TaskBegun settings (before file) (before query) opened (after order) r ⌝ }
 {
-    let scoring = similarity.scoring;
+    let h = read_header(file);
+    let reader = norm_reader(file, h);
+    let scoring = settings.scoring;
+    let similarity = Similarity {
+        norms: reader,
+        scoring,
+    };
     let scorers = open_lists(file, h, scoring, query, lists, norms, places, blocks);
-    match way {
-        Way::Skipping => begin_skipping(
-            file,
-            similarity,
-            query,
-            mode,
-            scorers,
-            lists,
-            norms,
-            order,
-            places,
-            blocks,
-        ),
-        Way::Plain => {
-            let plain = Plain {
-                len: query.len(),
-                all: needs_all(mode),
-                doc: 0,
-            };
-            Machine::Plain(plain)
-        }
+    let machine = begin_machine(
+        file,
+        similarity,
+        query,
+        settings,
+        scorers,
+        lists,
+        norms,
+        order,
+        places,
+        blocks,
+    );
+    let rule = settings.rule;
+    Task {
+        similarity,
+        machine,
+        rule,
     }
 }

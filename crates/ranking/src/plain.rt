@@ -1,5 +1,6 @@
 // The plain run: every matching document upward.
 use crate::answer::answer;
+use crate::begin::Settings;
 use crate::begin::Way;
 use crate::outcome::Outcome;
 use bm25::Scoring;
@@ -30,15 +31,11 @@ pub fn plain(
     if number != 0 {
         return Outcome::Refused(number);
     }
-    answer(
-        file,
-        query,
+    let settings = Settings {
         mode,
         scoring,
-        Way::Plain,
+        way: Way::Plain,
         rule,
-        script,
-        documents,
-        scores,
-    )
+    };
+    answer(file, query, settings, script, documents, scores)
 }

@@ -1,5 +1,6 @@
 // The skipping run of each mode.
 use crate::answer::answer;
+use crate::begin::Settings;
 use crate::begin::Way;
 use crate::outcome::Outcome;
 use bm25::Scoring;
@@ -31,15 +32,11 @@ pub fn run(
     if number != 0 {
         return Outcome::Refused(number);
     }
-    answer(
-        file,
-        query,
+    let settings = Settings {
         mode,
         scoring,
-        Way::Skipping,
+        way: Way::Skipping,
         rule,
-        script,
-        documents,
-        scores,
-    )
+    };
+    answer(file, query, settings, script, documents, scores)
 }

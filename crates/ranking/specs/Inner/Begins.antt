@@ -1,6 +1,5 @@
 -- Where a run begins.
 use mathlib.Core.Path.{_≡_}
-use mathlib.Core.Bool.{Bool}
 use mathlib.Core.List.{List, []}
 use Prim.Native.Nat.{ℕ, _≤_}
 use lib.ListN.{length, getD, take}
@@ -15,7 +14,7 @@ use Rattle.rule.specs.declared.Rule.{Rule}
 use Rattle.ordering.specs.Inner.Scorers.{byDoc, noScorer, Left}
 use Rattle.ordering.specs.declared.Scorers.{Scorers}
 use Rattle.term_scorer.specs.declared.TermScorer.{TermScorer}
-use Rattle.notefile.specs.Header.{documents}
+use Rattle.notefile.specs.Header.{documents, normReader}
 use Rattle.notefile.specs.Refusal.{fileRefusal}
 use Rattle.decoded.specs.Lists.{queried}
 use Rattle.reports.specs.Inner.Runs.{callbackOf}
@@ -33,15 +32,17 @@ use Rattle.machine.specs.Inner.Kept.{KeptIn}
 use Rattle.machine.specs.Inner.Stands.{Tables, placeIn, StandsIn}
 use Rattle.machine.specs.declared.Machine.{Machine}
 use Rattle.machine.specs.declared.Machine.the-variants as mode
+use Rattle.machine.specs.declared.Task.{Task}
 use Rattle.request.specs.Request.{asked, modeOf}
 use Rattle.request.specs.declared.Mode.{Mode}
 use Rattle.ranking.specs.Inner.Runs.{ListFor}
+use Rattle.ranking.specs.declared.begin.Settings.{Settings}
 use Rattle.ranking.specs.declared.begin.Way.{Way}
 use Rattle.ranking.specs.declared.begin.Way.the-variants.{Plain, Skipping}
 
--- in an intersection a document must be in every list
-abbrev pub needsAllOf : Mode → Bool
-needsAllOf m = needsAll (modeOf m)
+-- the plain scan of the first n slots, from document 0
+abbrev pub plainFrom : Mode → ℕ → Machine
+plainFrom m n = mode.Plain (record { len = n; all = needsAll (modeOf m); doc = 0 })
 
 -- the single scan over a scorer's list, from where it stands
 abbrev pub singleFrom : TermScorer → Machine
@@ -86,3 +87,10 @@ pub record BeganWith (way : Way) (similarity : Similarity) (file query : List �
 abbrev pub Began : Way → Similarity → List ℕ → List ℕ → Mode → opening.Tables → List ℕ → Machine → Type 0
 Began way similarity file query m opened order r =
     (floats : List (List Float)) → FloatRows floats → BeganWith way similarity file query m opened (begunTables opened order floats) r
+
+-- the task of a run by its settings: the file's norms, the scoring and the rule that are asked for, and the machine as it begins
+pub record TaskBegun (settings : Settings) (file query : List ℕ) (opened : opening.Tables) (order : List ℕ) (r : Task) : Type 0 where
+  pub norms-are : r .similarity .norms ≡ normReader file
+  pub scoring-is : r .similarity .scoring ≡ settings .scoring
+  pub rule-is : r .rule ≡ settings .rule
+  pub began : Began (settings .way) (r .similarity) file query (settings .mode) opened order (r .machine)

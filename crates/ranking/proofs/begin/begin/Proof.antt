@@ -1,57 +1,46 @@
--- `begin::begin` meets its contract: the query's lists are opened, and the machine is the one of the run that is asked for.
-use mathlib.Core.Path.{_≡_, sym}
-use borrow.Author.Needs.{needs}
-use Rattle.notefile.proofs.Accepted.{header-right}
-use Rattle.notefile.proofs.Headers.{few-documents}
+-- `begin::begin` meets its contract: the query's lists are opened, and the task has the machine of the run that is asked for.
+use mathlib.Core.Path.{refl}
 use native.Mathlib.Omega.{arith}
-use Rattle.query.specs.Inner.Openings as opening
-use Rattle.ranking.proofs.Beginning.{plain-begun}
+use Rattle.ranking.proofs.Answering.{header-of}
 use Rattle.ranking.proofs.begin.begin.Statement.{statement}
 use Rattle.ranking.proofs.begin.begin.Tie as tie
 
 -- the places that the answers look back to
-abbrev start : tie.After-open-lists-arg4 → tie.Start
-start c = c .before .before .before .before .before .before
+abbrev start : tie.After-read-header → tie.Start
+start c = c .before .before .before
 
-abbrev matched : tie.After-begin-skipping-arg5 → tie.After-enum-told
-matched c = c .before .before .before .before .before
+abbrev reader-of : tie.After-open-lists-arg4 → tie.After-norm-reader
+reader-of c = c .before .before .before .before
+
+abbrev after-open : tie.After-begin-machine-arg5 → tie.After-open-lists
+after-open c = c .before .before .before .before .before
+
+read-header-requires : tie.Need-read-header-requires
+read-header-requires c κs =
+    let a = c .before .before in
+    omega (arith, header-of (a .args .file .now) (a .pre .0 .accepted) refl .entries)
+
+norm-reader-requires : tie.Need-norm-reader-requires
+norm-reader-requires c κs = let a = start c in header-of (a .args .file .now) (a .pre .0 .accepted) (c .read-header .ensures)
 
 open-lists-requires : tie.Need-open-lists-requires
 open-lists-requires c κs =
-    let a = start c in
-    let R = a .pre .2 in
-    (R .accepted, a .pre .1, R .few, R .named, a .pre .4)
+    let h = reader-of c .before in
+    let a = start h in
+    let R = a .pre .0 in
+    (R .accepted, h .read-header .ensures, R .few, R .named, a .pre .2)
 
-enum-told : tie.Need-enum-told
-enum-told c = search needs
-
-begin-skipping-requires : tie.Need-begin-skipping-requires
-begin-skipping-requires c κs =
-    let o = matched c .before .before in
-    let a = start (o .before) in
-    (a .pre .0, a .pre .2, a .pre .3, o .open-lists .ensures .0)
-
-enum-told-2 : tie.Need-enum-told-2
-enum-told-2 c = search needs
-
-needs-all-requires : tie.Need-needs-all-requires
-needs-all-requires c κs = search needs
+begin-machine-requires : tie.Need-begin-machine-requires
+begin-machine-requires c κs =
+    let o = after-open c in
+    let n = reader-of (o .before) in
+    let a = start (n .before) in
+    (n .norm-reader .ensures, a .pre .0, a .pre .1, o .open-lists .ensures .0)
 
 returns : tie.Need-returns
-returns c floats rows =
-    let m = matched (c .before) in
-    rw (m .enum-told .given .1) (c .begin-skipping .ensures floats rows)
-
-returns-2 : tie.Need-returns-2
-returns-2 c floats rows =
-    let m = c .before in
-    let o = m .before .before in
-    let a = start (o .before) in
-    let R = a .pre .2 in
-    let l = o .open-lists .last .1 .1 .1 .1 in
-    rw (m .enum-told2 .given .1)
-    (plain-begun (a .args .similarity) (a .args .file .now) (a .args .query .now) (a .pre .0) (R .few) (opening.tables (l .0) (l .1 .0) (l .1 .1 .0) (l .1 .1 .1 .0)) (o .open-lists .result) (o .open-lists .ensures .0) _ floats rows
-    (omega (arith, few-documents (a .args .file .now) (header-right (a .args .file .now) (R .accepted)))) (a .args .mode) (c .needs-all .ensures))
+returns c =
+    let n = reader-of (after-open (c .before) .before) in
+    record { norms-are = n .norm-reader .ensures; scoring-is = refl; rule-is = refl; began = c .begin-machine .ensures }
 
 pub begin-spec : {M : Type 1} → statement M
-begin-spec = tie.close (tie.spec open-lists-requires enum-told begin-skipping-requires enum-told-2 needs-all-requires returns returns-2)
+begin-spec = tie.close (tie.spec read-header-requires norm-reader-requires open-lists-requires begin-machine-requires returns)

@@ -1,11 +1,9 @@
 -- `begin::begin_union` meets its contract: one scorer that is left, or a union of those that are.
 use mathlib.Core.Path.{sym, subst}
 use native.Mathlib.Omega.{arith}
-use lib.ListN.{getD}
 use borrow.Author.Needs.{needs}
-use Rattle.ordering.specs.Inner.Scorers.{noScorer}
 use Rattle.machine.specs.declared.Machine.{Machine}
-use Rattle.ranking.specs.Inner.Begins.{singleFrom, one-left, some-left, UnionBegun}
+use Rattle.ranking.specs.Inner.Begins.{one-left, some-left, UnionBegun}
 use Rattle.ranking.proofs.begin.begin_union.Statement.{statement}
 use Rattle.ranking.proofs.begin.begin_union.Tie as tie
 

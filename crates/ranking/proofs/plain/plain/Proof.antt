@@ -47,7 +47,7 @@ returns-2 c =
     let e = else-of p in
     let r = e .before in
     let a = start r in
-    let l = p .answer .last .1 .1 .1 .1 .1 .1 .1 in
+    let l = p .answer .last .1 .1 .1 .1 in
     let-plain (request a) (let-in (request a) (r .refusal .ensures) (e .if1 .left)) {old = rows (a .args .documents .now) (a .args .scores .now)} {new = rows (l .0) (l .1 .0)} (p .answer .ensures)
 
 pub plain-spec : {M : Type 1} → statement M
