@@ -24,7 +24,7 @@ use Rattle.notefile.specs.Inner.Reads.{docsOf}
 use Rattle.decoded.specs.Lists.{listOf}
 use Rattle.skip_reader.specs.Inner.Decoded.{doc-is}
 use Rattle.slot_rows.specs.Inner.Rows.{partIn}
-use Rattle.term_scorer.proofs.Bounds.{kept-none}
+use Rattle.term_scorer.proofs.Kept.{kept-none}
 use Rattle.term_scorer.specs.Inner.Slots.{Held, cursorAt, listsFrom, partAt, slotsFrom}
 use Rattle.term_scorer.specs.Inner.Weights.{TopKept, topAt, TopRead}
 use Rattle.intersection_window.specs.Inner.Scorers.{InOrder, Query, SlotsIn, leaderIn, listIn, placeAt, scorerAt, secondariesIn, slotAt}

@@ -23,9 +23,10 @@ use Rattle.route.proofs.Cases.{on-test}
 use Rattle.slot_rows.specs.Inner.Rows.{cursorIn}
 use Rattle.notefile.specs.Inner.Reads.{docsOf}
 use Rattle.term_scorer.specs.Inner.Slots.{Held, Sixteen, SlotIn, cursorAt, held}
-use Rattle.term_scorer.specs.Inner.Weights.{BlockScores, FloatRows, ScoresMade}
+use Rattle.term_scorer.specs.Inner.Weights.{BlockScores, FloatRows}
+use Rattle.slot_scores.specs.Inner.Made.{ScoresMade}
 use Rattle.term_scorer.proofs.Floats.{rows-set}
-use Rattle.term_scorer.proofs.Made.{made-cursor, made-kept, made-scores, made-slot}
+use Rattle.slot_scores.proofs.Made.{made-cursor, made-kept, made-scores, made-slot}
 use Rattle.intersection_window.specs.Inner.Scorers.{BoundsKept, Query, Ready, ScoredIn, leaderIn, listIn, placeAt, scorerAt, secondariesIn, slotAt}
 use Rattle.intersection_window.specs.Inner.Candidates.{BlockRows, Finds, FindsBy, Rests, Tries, behind, candidateOf, leftIn}
 use Rattle.intersection_window.specs.Inner.Windows.{Sums, Turns, Windowed, boundsOf, boundsRow, restsRow, scoresRow}

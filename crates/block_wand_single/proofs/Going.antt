@@ -21,14 +21,16 @@ use Rattle.skip_reader.specs.Inner.Decoded.{doc-is, docIn}
 use Rattle.term_scorer.specs.Inner.Slots.{Held, cursorAt, listAt, partAt}
 use Rattle.term_scorer.specs.Inner.Weights.{FloatRows, FreshSlot}
 use Rattle.term_scorer.specs.declared.score.Similarity.{Similarity}
-use Rattle.block_wand_single.specs.Inner.Places.{isDone, isReport, onWalk, phaseOf, placeOf, singleRoute}
-use Rattle.block_wand_single.specs.Inner.Stands.{Goes, Hunted, Stands, Steps, Strode}
-use Rattle.block_wand_single.specs.declared.Gone.{Gone}
-use Rattle.block_wand_single.specs.declared.Phase.{Phase}
-use Rattle.block_wand_single.specs.declared.Phase.the-variants.{Called, Hunt, Over as Done, Walk}
-use Rattle.block_wand_single.specs.declared.Single.{Single}
-use Rattle.block_wand_single.proofs.Kept.{kept-fresh}
-use Rattle.block_wand_single.proofs.Scorers.{right}
+use Rattle.single_hunt.specs.Inner.Places.{isDone, onWalk, phaseOf, placeOf, singleRoute}
+use Rattle.single_hunt.specs.Inner.Stands.{Hunted, Stands}
+use Rattle.block_wand_single.specs.Inner.Runs.{Goes, isReport}
+use Rattle.single_walk.specs.Inner.Strides.{Steps, Strode}
+use Rattle.single_walk.specs.declared.Gone.{Gone}
+use Rattle.single_hunt.specs.declared.Phase.{Phase}
+use Rattle.single_hunt.specs.declared.Phase.the-variants.{Called, Hunt, Over as Done, Walk}
+use Rattle.single_hunt.specs.declared.Single.{Single}
+use Rattle.term_scorer.proofs.Kept.{kept-fresh}
+use Rattle.single_hunt.proofs.Scorers.{right}
 use Rattle.term_scorer.proofs.Slots.{standing-in}
 
 -- a scan that has not returned and is on no walk hunts

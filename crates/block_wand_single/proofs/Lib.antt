@@ -1,8 +1,2 @@
--- Laws of the single run that belong to no one function.
-pub mod Kept
-pub mod Scorers
-pub mod Hunting
-pub mod Seeking
-pub mod BlockTurns
-pub mod Walking
+-- Laws of the single run by turns.
 pub mod Going

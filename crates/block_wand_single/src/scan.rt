@@ -1,10 +1,10 @@
 // The scan by turns: to the next report, to its end, or as far as the turns lead.
-use crate::Gone;
-use crate::Phase;
-use crate::Single;
-use crate::hunt::hunt;
-use crate::walk::walk;
 use reports::Event;
+use single_hunt::Phase;
+use single_hunt::Single;
+use single_hunt::hunt;
+use single_walk::Gone;
+use single_walk::walk;
 use slot_rows::place::Blocks;
 use slot_rows::place::Places;
 use term_scorer::Floats;
@@ -15,8 +15,10 @@ ghost use mathlib.Core.Bool.{false};
 ghost use Prim.Native.Nat.{_<_};
 ghost use Rattle.arrays.specs.Lent.{before, after};
 ghost use Rattle.term_scorer.specs.Inner.Slots.{held};
-ghost use Rattle.block_wand_single.specs.Inner.Places.{isDone, isReport, onWalk};
-ghost use Rattle.block_wand_single.specs.Inner.Stands.{Goes, Stands, Steps};
+ghost use Rattle.single_hunt.specs.Inner.Places.{isDone, onWalk};
+ghost use Rattle.single_hunt.specs.Inner.Stands.{Stands};
+ghost use Rattle.block_wand_single.specs.Inner.Runs.{Goes, isReport};
+ghost use Rattle.single_walk.specs.Inner.Strides.{Steps};
 
 // Whether a block is walked.
 fn on_walk(phase: Phase) -> bool

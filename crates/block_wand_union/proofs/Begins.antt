@@ -22,13 +22,15 @@ use Rattle.notefile.specs.Header.{documents}
 use Rattle.decoded.proofs.AcceptedLists.{list-ok}
 use Rattle.term_scorer.specs.Inner.Slots.{Held, listAt, partAt}
 use Rattle.term_scorer.specs.Inner.Weights.{FloatRows, FreshSlot}
-use Rattle.block_wand_union.specs.Inner.Seats.{Seat, Seated, Terms, onRoute, placeIn, scorerAt, termAt}
-use Rattle.term_scorer.proofs.Bounds.{kept-none}
-use Rattle.block_wand_union.specs.Inner.Runs.{Begins, Stands, placeOf}
-use Rattle.block_wand_union.specs.declared.Stage.the-variants.{Looking}
-use Rattle.block_wand_union.specs.declared.Union.{Union}
-use Rattle.block_wand_union.proofs.Seats.{same-doc}
-use Rattle.block_wand_union.proofs.Runs.{place-kept, stands-kept}
+use Rattle.union_moves.specs.Inner.Seats.{Seat, Seated, Terms, onRoute, scorerAt, termAt}
+use Rattle.union_turn.specs.Inner.Turns.{placeIn}
+use Rattle.term_scorer.proofs.Kept.{kept-fresh}
+use Rattle.block_wand_union.specs.Inner.Runs.{Begins}
+use Rattle.union_turn.specs.Inner.Runs.{Stands, placeOf}
+use Rattle.union_turn.specs.declared.Stage.the-variants.{Looking}
+use Rattle.union_turn.specs.declared.Union.{Union}
+use Rattle.union_moves.proofs.Seats.{same-doc, seat-stand}
+use Rattle.union_turn.proofs.Standing.{place-kept, stands-kept}
 
 module _ (file : List ℕ) (lists : List (List ℕ)) (T : Terms) (h : Held) where
   -- a scorer as its slot was opened
@@ -41,12 +43,9 @@ module _ (file : List ℕ) (lists : List (List ℕ)) (T : Terms) (h : Held) wher
 
   fresh-seat : (s : TermScorer) → Fresh s → Seat file lists T h s
   fresh-seat s F = record {
-    stand = record { slot-in = F .opened .slot-in; slot = F .opened .slot; doc-is = ap (λ (z : TermScorer). z .doc) (F .scorer-is) };
-    weighed = F .opened .weighed;
-    bound = kept-none (listAt (T .scoring) file lists (s .slot)) (s .slot) (F .opened .unkept);
-    scores = λ k. absurd (omega (arith, k, F .opened .unkept .scores));
+    kept = kept-fresh (F .opened);
+    doc-is = ap (λ (z : TermScorer). z .doc) (F .scorer-is);
     max-is = sym (ap (λ (z : TermScorer). z .«max_score») (F .scorer-is));
-    top = F .opened .top;
   }
 
   fresh-safe : (s : TermScorer) → Fresh s → SafeS 128 (documents file) (f s)
@@ -66,7 +65,7 @@ module _ (file : List ℕ) (lists : List (List ℕ)) (T : Terms) (h : Held) wher
 
     -- the order is the route's
     first-is : placeIn file lists (T .scoring) (h .places) Looking (sortBy byDoc l) ≡ pivotRoute 128 f32 (onRoute file lists (T .scoring) h l) .first
-    first-is = ap (λ ss. goOn ss) (sorted-on-route f l (all-imp (Seat file lists T h) (SameDoc f) l (λ s S. same-doc file lists (T .scoring) h s (S .stand)) seats))
+    first-is = ap (λ ss. goOn ss) (sorted-on-route f l (all-imp (Seat file lists T h) (SameDoc f) l (λ s S. same-doc file lists (T .scoring) h s (seat-stand _ _ S)) seats))
 
     first-kept : UnionKept 128 (documents file) f32 (pivotRoute 128 f32 (onRoute file lists (T .scoring) h l) .first)
     first-kept =

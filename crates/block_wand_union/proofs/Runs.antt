@@ -1,37 +1,26 @@
 -- Turns in a row: where a run stands after each, and its three ends.
 use mathlib.Core.Bool.{Bool, false, not, true}
-use mathlib.Core.List.{List, [], _∷_, map}
-use mathlib.Core.Path.{ap, refl, subst, sym, _∙_, _≡_}
+use mathlib.Core.List.{List, []}
+use mathlib.Core.Path.{ap, refl, sym, _∙_, _≡_}
 use Prim.Native.Nat.{ℕ, _+_, _≤_, _<_}
 use native.Mathlib.Numerals.{add-one}
 use native.Mathlib.Omega.{arith}
-use lib.Dec.{eqb}
-use lib.ListN.{getD, length, set, take}
-use lib.Seq.{getD-set-other, getD-set-same, take-suc}
-use lib.Ieee.{Float, nan}
-use borrow.Author.Tests.{eqb-false, eqb-true}
+use lib.Ieee.{Float}
 use Rattle.route.specs.F32.{f32}
-use Rattle.arrays.specs.Every.{All}
 use Rattle.route.specs.Union.{UnionPlace, isOver, unionTurn}
-use Rattle.route.specs.Inner.Unions.{UnionKept}
-use Rattle.route.proofs.Cases.{on-test}
-use Rattle.route.proofs.Lists.{all-append, all-imp, all-zip}
 use Rattle.route.proofs.Union.Ends.{union-nears}
 use Rattle.bm25.specs.declared.Scoring.{Scoring}
-use Rattle.ordering.specs.Inner.Scorers.{slotOf}
-use Rattle.term_scorer.specs.declared.TermScorer.{TermScorer}
 use Rattle.notefile.specs.Header.{documents}
 use Rattle.reports.specs.Inner.Turns.{Went}
 use Rattle.reports.specs.declared.Event.the-variants as event
 use Rattle.reports.proofs.TurnLaws.{Quietly, at-end, at-pause, at-report, none-yet, one-more}
-use Rattle.term_scorer.specs.Inner.Slots.{Held, Sixteen}
-use Rattle.block_wand_union.specs.Inner.Seats.{Seat, Seated, Terms, placeIn, scorerAt, slotScorer, stageOf, termAt, terms, termsOf}
-use Rattle.block_wand_union.specs.Inner.Turns.{Turned, dueOf}
-use Rattle.block_wand_union.specs.Inner.Runs.{Stands, goneTo, placeOf, unionEnded}
-use Rattle.block_wand_union.specs.declared.Stage.{Stage}
-use Rattle.block_wand_union.specs.declared.Union.{Union}
-use Rattle.block_wand_union.specs.declared.turn.Step.{Step}
-use Rattle.block_wand_union.proofs.Slots.{all-unmap, map-map, same-terms}
+use Rattle.term_scorer.specs.Inner.Slots.{Held}
+use Rattle.union_moves.specs.Inner.Seats.{terms}
+use Rattle.union_turn.specs.Inner.Turns.{Turned, dueOf, stageOf}
+use Rattle.union_turn.specs.Inner.Runs.{Stands, placeOf, unionEnded}
+use Rattle.union_turn.specs.declared.Union.{Union}
+use Rattle.union_turn.specs.declared.Step.{Step}
+use Rattle.union_turn.proofs.Standing.{place-is}
 
 -- a negated test
 pub not-true : (b : Bool) → not b ≡ true → b ≡ false
@@ -41,35 +30,6 @@ not-true false e = refl
 pub not-false : (b : Bool) → not b ≡ false → b ≡ true
 not-false true e = refl
 not-false false e = sym e
-
--- ---- the scorers in the tables
-
-module _ (file : List ℕ) (lists : List (List ℕ)) where
-  -- the place of the scorers of slots
-  pub place-is : (s : Scoring) (places : List (List ℕ)) (u : Union) (order : List ℕ)
-      → placeIn file lists s places (u .stage) (termsOf file lists s places (take (u .len) order)) ≡ placeOf file lists s u order places
-  place-is s places u order =
-      ap (λ z. record { stage = stageOf (u .stage); scorers = z }) (map-map (scorerAt file lists s places) (termAt file lists s places) (take (u .len) order))
-
--- a run at a stage
-module _ {file : List ℕ} {lists : List (List ℕ)} {T : Terms} {u : Union} {order : List ℕ} {h : Held} (S : Stands file lists T u order h) {stage : Stage} (e : u .stage ≡ stage) where
-  pub stands-at : Stands file lists T (record { len = u .len; stage = stage }) order h
-  stands-at =
-      record { few = S .few; room = S .room; seated = S .seated; kept = subst (λ (z : Stage). UnionKept 128 (documents file) f32 (placeOf file lists (T .scoring) (record { len = u .len; stage = z }) order (h .places))) e (S .kept) }
-
-  pub kept-at : UnionKept 128 (documents file) f32 (placeIn file lists (T .scoring) (h .places) stage (termsOf file lists (T .scoring) (h .places) (take (u .len) order)))
-  kept-at = rw (place-is file lists (T .scoring) (h .places) (record { len = u .len; stage = stage }) order) (stands-at .kept)
-
--- seated scorers, whose slots are written back in their order
-module _ {file : List ℕ} {lists : List (List ℕ)} {T : Terms} {h : Held} {l : List TermScorer} (S : Seated file lists T h l) (stage : Stage) (n : ℕ) (order : List ℕ) (e : take n order ≡ map slotOf l) where
-  pub place-kept : placeIn file lists (T .scoring) (h .places) stage l ≡ placeOf file lists (T .scoring) (record { len = n; stage = stage }) order (h .places)
-  place-kept =
-      ap (λ z. record { stage = stageOf stage; scorers = z })
-      (sym (map-map (slotScorer file lists (T .scoring) (h .places)) slotOf l) ∙ ap (map (slotScorer file lists (T .scoring) (h .places))) (sym e))
-
-  pub stands-kept : n ≤ 16 → Sixteen order → UnionKept 128 (documents file) f32 (placeIn file lists (T .scoring) (h .places) stage l)
-      → Stands file lists T (record { len = n; stage = stage }) order h
-  stands-kept few room k = record { few = few; room = room; seated = rw (e, same-terms file lists T h l (S .seats)) S; kept = rw place-kept at k }
 
 -- ---- the loop of `go`
 

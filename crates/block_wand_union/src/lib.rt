@@ -1,33 +1,17 @@
 // The union's skipping run: `block_wand` over two or more scorers. Their slots stand in a lent row, in their order.
-pub mod align;
-pub mod blocks;
-pub mod low;
-pub mod pivot;
-pub mod turn;
 pub mod walk;
 
 use ordering::Scorers;
 use ordering::sort_by_doc;
 use reports::Event;
 use slot_order::structs::keep_order;
+use union_turn::Stage;
+use union_turn::Union;
 ghost use Prim.Native.Nat.{_≤_};
 ghost use Rattle.arrays.specs.Lent.{after};
 ghost use Rattle.term_scorer.specs.Inner.Slots.{Sixteen};
-ghost use Rattle.block_wand_union.specs.Inner.Seats.{alive};
+ghost use Rattle.union_moves.specs.Inner.Seats.{alive};
 ghost use Rattle.block_wand_union.specs.Inner.Runs.{Begins};
-
-// Before a pivot is looked for; behind a report, with so many scorers on its document that have still to go on; returned.
-pub enum Stage {
-    Looking,
-    Called(usize),
-    Over,
-}
-
-// What of a union's run stands in no table: how many scorers are left, and its stage.
-pub struct Union {
-    pub len: usize,
-    pub stage: Stage,
-}
 
 // Where a run stands after `taken` turns, and why it took no more.
 pub struct Gone {

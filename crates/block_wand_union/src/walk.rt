@@ -1,13 +1,13 @@
 // Turns in a row, under one threshold.
 use crate::Gone;
-use crate::Stage;
-use crate::Union;
-use crate::turn::turn;
 use reports::Event;
 use slot_rows::place::Blocks;
 use slot_rows::place::Places;
 use term_scorer::Floats;
 use term_scorer::score::Leg;
+use union_turn::Stage;
+use union_turn::Union;
+use union_turn::turn;
 ghost use mathlib.Core.Path.{_≡_};
 ghost use Rattle.arrays.specs.Lent.{before, after};
 ghost use Rattle.route.specs.F32.{f32};
@@ -15,8 +15,10 @@ ghost use Rattle.route.specs.Union.{isOver, unionTurn};
 ghost use Rattle.notefile.specs.Header.{normReader};
 ghost use Rattle.reports.specs.Inner.Turns.{Went};
 ghost use Rattle.term_scorer.specs.Inner.Slots.{held};
-ghost use Rattle.block_wand_union.specs.Inner.Seats.{stageOf, terms};
-ghost use Rattle.block_wand_union.specs.Inner.Runs.{Stands, goneTo, placeOf, unionEnded};
+ghost use Rattle.union_moves.specs.Inner.Seats.{terms};
+ghost use Rattle.union_turn.specs.Inner.Turns.{stageOf};
+ghost use Rattle.block_wand_union.specs.Inner.Runs.{goneTo};
+ghost use Rattle.union_turn.specs.Inner.Runs.{Stands, placeOf, unionEnded};
 
 fn stopped(union: Union, taken: usize, event: Event) -> Gone
     ensures { λ r. ⌜ r ≡ goneTo union taken event ⌝ }

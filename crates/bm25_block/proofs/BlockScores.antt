@@ -11,7 +11,8 @@ use Rattle.bm25.specs.Inner.Weight.{scoreIn}
 use Rattle.bm25.specs.declared.Bm25Weight.{Bm25Weight}
 use Rattle.bm25.specs.declared.Scoring.{Scoring}
 use Rattle.bm25.specs.declared.Scoring.the-variants.{Unstepped as unstepped, Stepped as stepped}
-use Rattle.bm25_block.specs.Inner.Block.{Gathered, Weighed, CutDown, ScoredBy, Scored}
+use Rattle.block_norms.specs.Inner.Block.{Gathered}
+use Rattle.bm25_block.specs.Inner.Block.{Weighed, CutDown, ScoredBy, Scored}
 
 -- one score, of a frequency made f32, in place of a norm that no earlier turn has touched
 pub weighed-one : (weight : Float) {norm at tf r : Float} (freq : ℕ) → tf ≡ wholeF32 freq → at ≡ norm → r ≡ mul binary32 weight (div binary32 tf (add binary32 tf at))

@@ -1,5 +1,2 @@
--- Laws of a block that belong to no one function.
-pub mod AtMost
+-- Laws of a block's scores that belong to no one function.
 pub mod BlockScores
-pub mod BoundTests
-pub mod Codes

@@ -1,9 +1,6 @@
 // The scores of a block's postings: each posting's norm is read first, and the float work is a loop of its own.
-pub mod bound;
-mod norms;
-
-use crate::norms::all_at_most;
-use crate::norms::read_norms_below;
+use block_norms::all_at_most;
+use block_norms::read_norms_below;
 use bm25::Bm25Weight;
 use bm25::Scoring;
 use fieldnorm::FieldNormReader;
@@ -13,11 +10,11 @@ ghost use Prim.Native.Nat.{_≤_};
 ghost use Rattle.arrays.specs.Lent.{before, after};
 ghost use Rattle.floats.specs.Whole.{wholeF32};
 ghost use Rattle.bm25.specs.declared.Scoring.the-variants.{Unstepped, Stepped};
+ghost use Rattle.block_norms.specs.Inner.Codes.{Below};
 ghost use Rattle.bm25_block.specs.Inner.Block.{Weighed, CutDown, ScoredBy, Scored, ExactWhere, allExact};
-ghost use Rattle.bm25_block.specs.Inner.Codes.{Below};
 
 // Whether every frequency is a whole number that f32 holds. Where `small` says so, they are not looked at.
-fn all_exact(small: bool, term_freqs: &[u32; 128]) -> bool
+pub fn all_exact(small: bool, term_freqs: &[u32; 128]) -> bool
     requires { ⌜ ExactWhere small (now «term_freqs») ⌝ }
     ensures { λ r. ⌜ r ≡ allExact (before «term_freqs») ⌝ }
 {
@@ -28,7 +25,7 @@ fn all_exact(small: bool, term_freqs: &[u32; 128]) -> bool
 }
 
 // A whole number that f32 holds. By the remainder the compiler sees that it is small, and converts it as a signed one, four at a time.
-fn exact(n: u32) -> f32
+pub fn exact(n: u32) -> f32
     requires { ⌜ n ≤ 16777216 ⌝ }
     ensures { λ r. ⌜ r ≡ wholeF32 n ⌝ }
 {

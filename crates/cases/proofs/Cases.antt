@@ -29,8 +29,9 @@ use Rattle.notefile.specs.Refusal.{fileRefusal}
 use Rattle.decoded.specs.Lists.{listOf, queried}
 use Rattle.decoded.specs.Inner.Bytes.{Bytes}
 use Rattle.request.specs.Request.{asked, refusalOf}
+use Rattle.request.specs.Lists.{plainList}
 use Rattle.request.specs.declared.Mode.{Mode}
-use Rattle.ranking.specs.Answers.{answer, plainList, Answered}
+use Rattle.ranking.specs.Answers.{answer, Answered}
 use Rattle.ranking.proofs.Demand.{run-plain}
 use Rattle.cases.specs.Table.{small, Runs, Holds, cases}
 

@@ -21,8 +21,8 @@ use Rattle.reports.specs.Rows.{Rows, rowsOf}
 use Rattle.request.specs.Request.{Request, asked}
 use Rattle.request.specs.declared.Mode.{Mode}
 use Rattle.request.specs.declared.Mode.the-variants.{Union, Intersection}
+use Rattle.outcome.specs.declared.Outcome.{Outcome}
 use Rattle.ranking.specs.Answers.{Answered, RunIs, PlainIs}
-use Rattle.ranking.specs.declared.outcome.Outcome.{Outcome}
 
 -- the small file, part by part
 abbrev pub small : List ℕ

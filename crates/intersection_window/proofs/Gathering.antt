@@ -22,7 +22,7 @@ use Rattle.bm25.specs.declared.Scoring.{Scoring}
 use Rattle.skip_reader.specs.Inner.Decoded.{docIn}
 use Rattle.slot_rows.specs.Inner.Rows.{cursorIn}
 use Rattle.term_scorer.specs.Inner.Slots.{Held, MovedSlot, Shallowed, cursorAt, held, lastAt, listAt, partAt}
-use Rattle.term_scorer.specs.Inner.Weights.{Bounded}
+use Rattle.slot_bounds.specs.Inner.Bounds.{Bounded}
 use Rattle.intersection_window.specs.Inner.Scorers.{BoundsKept, InOrder, Query, Ready, SlotsIn, listIn, scorerAt, scorersBetween, secondariesIn, slotAt}
 use Rattle.intersection_window.specs.Inner.Windows.{Gathers, RunOut, boundsOf}
 use Rattle.intersection_window.proofs.Parts.{part-first, part-none, part-same}

@@ -22,10 +22,12 @@ use Rattle.skip_reader.specs.Inner.Decoded.{docIn}
 use Rattle.skip_reader.proofs.Readers.{end-is}
 use Rattle.slot_rows.specs.Inner.Rows.{PlaceIn, cursorIn}
 use Rattle.slot_rows.proofs.Rows.{cur-inside, doc-in-array, last-is, last-small}
-use Rattle.term_scorer.specs.Inner.Slots.{Held, MovedSlot, Shallowed, Sixteen, SlotIn, cursorAt, held, lastAt, partAt}
-use Rattle.term_scorer.specs.Inner.Weights.{BlockScores, Bounded, BoundKept, FloatRow}
-use Rattle.term_scorer.proofs.Bounds.{bounded-kept, bounded-off, bounded-place, bounded-scores, bounded-sixteen, kept-moved, others-kept}
-use Rattle.intersection_window.specs.Inner.Scorers.{InOrder, Query, Ready, SlotsIn, StillKept, StillScored, BoundsKept, Unmoved, listIn, scorerAt, scorersBetween, slotAt}
+use Rattle.term_scorer.specs.Inner.Slots.{Held, MovedSlot, SameRows, Shallowed, Sixteen, SlotIn, cursorAt, held, lastAt, partAt}
+use Rattle.term_scorer.specs.Inner.Weights.{BlockScores, BoundKept, FloatRow}
+use Rattle.slot_bounds.specs.Inner.Bounds.{Bounded}
+use Rattle.term_scorer.proofs.Kept.{kept-moved}
+use Rattle.slot_bounds.proofs.Bounds.{bounded-kept, bounded-off, bounded-place, bounded-scores, bounded-sixteen, others-kept}
+use Rattle.intersection_window.specs.Inner.Scorers.{InOrder, Query, Ready, SlotsIn, StillKept, StillScored, BoundsKept, listIn, scorerAt, scorersBetween, slotAt}
 use Rattle.intersection_window.proofs.Parts.{part-same}
 
 -- what holds of slot q, and of every other
@@ -34,12 +36,12 @@ at-slot P q p o r = on-test (eqb r q) (λ t. subst P (sym (eqb-true r q t)) p) (
 
 -- only slot q has changed
 abbrev pub Only : ℕ → Held → Held → Type 0
-Only q h h′ = (r : ℕ) → (r ≡ q → ⊥) → Unmoved r h h′
+Only q h h′ = (r : ℕ) → (r ≡ q → ⊥) → SameRows h h′ r
 
-pub unmoved : (q : ℕ) (h : Held) → Unmoved q h h
+pub unmoved : (q : ℕ) (h : Held) → SameRows h h q
 unmoved q h = record { place = refl; block = refl }
 
-pub unmoved-trans : {q : ℕ} {h h′ h″ : Held} → Unmoved q h h′ → Unmoved q h′ h″ → Unmoved q h h″
+pub unmoved-trans : {q : ℕ} {h h′ h″ : Held} → SameRows h h′ q → SameRows h′ h″ q → SameRows h h″ q
 unmoved-trans u v = record { place = v .place ∙ u .place; block = v .block ∙ u .block }
 
 other : {A : Type 0} (xss yss : List (List A)) (q r : ℕ) (row : List A) → yss ≡ set xss q row → (r ≡ q → ⊥) → getD yss r [] ≡ getD xss r []
@@ -114,7 +116,7 @@ module _ (x : Query) (O : InOrder x) {i : ℕ} (hi : i < x .len) {h h′ : Held}
       part-same (x .order) (scorerAt x (h .places)) (scorerAt x (h′ .places)) a b (let e = O .long in let f = O .few in omega arith)
       (λ k u v. let w = o (slotAt x k) (λ e. n k u v (O .apart k i (omega arith) hi e)) .place in rw w)
 
-  pub leader-stays : 1 ≤ i → Unmoved (slotAt x 0) h h′
+  pub leader-stays : 1 ≤ i → SameRows h h′ (slotAt x 0)
   leader-stays l = o (slotAt x 0) (λ e. absurd (let z = O .apart 0 i (O .leader) hi e in omega arith))
 
 -- what functions by slot ask of the scorer at place i

@@ -17,8 +17,8 @@ use Rattle.route.specs.Cursor.{seekIn}
 use Rattle.route.specs.Scorer.{Scorer, docOf, scoreHere, seek}
 use Rattle.route.specs.Intersection.{Tried, dropped, pushSec, tailOf, tryCandidate}
 use Rattle.skip_reader.specs.Inner.Decoded.{doc-is, docIn}
-use Rattle.term_scorer.specs.Inner.Slots.{Held, MovedSlot, cursorAt, listAt, partAt}
-use Rattle.intersection_window.specs.Inner.Scorers.{InOrder, Query, SlotsIn, StillKept, Unmoved, scorerAt, scorersBetween, secondariesIn, slotAt}
+use Rattle.term_scorer.specs.Inner.Slots.{Held, MovedSlot, SameRows, cursorAt, listAt, partAt}
+use Rattle.intersection_window.specs.Inner.Scorers.{InOrder, Query, SlotsIn, StillKept, scorerAt, scorersBetween, secondariesIn, slotAt}
 use Rattle.intersection_window.specs.Inner.Candidates.{Rests, Tries, candidateOf}
 use Rattle.intersection_window.specs.declared.candidate.Candidate.{Candidate}
 use Rattle.intersection_window.specs.declared.candidate.Candidate.the-variants.{Due, Passed}
@@ -62,7 +62,7 @@ module _ (x : Query) (c : ℕ) (score t : Float) (rests : List Float) (h₀ : He
 
   pub record Trying (i : ℕ) (total : Float) (h : Held) : Type 0 where
     pub seated : SlotsIn x h
-    pub leader : Unmoved (slotAt x 0) h₀ h
+    pub leader : SameRows h₀ h (slotAt x 0)
     pub bounds : StillKept x (h₀ .places) (h .places)
     pub low : 1 ≤ i
     pub high : i ≤ x .len
@@ -85,7 +85,7 @@ module _ (x : Query) (c : ℕ) (score t : Float) (rests : List Float) (h₀ : He
 
     module _ {i : ℕ} {total : Float} {h : Held} (T : Trying i total h) where
       -- what is left has answered: the secondaries before place i are those of h still
-      answers : {h′ : Held} → SlotsIn x h′ → Unmoved (slotAt x 0) h h′ → StillKept x (h .places) (h′ .places)
+      answers : {h′ : Held} → SlotsIn x h′ → SameRows h h′ (slotAt x 0) → StillKept x (h .places) (h′ .places)
           → scorersBetween x (h′ .places) 1 i ≡ scorersBetween x (h .places) 1 i → {r : Candidate} (o : Option Float) → r ≡ candidateOf t o
           → ((bs : List Float) → Rests (x .len) bs rests → left i total h bs ≡ record { secs = scorersBetween x (h′ .places) i (x .len); found = o }) → Tries x c score t rests h₀ h′ r
       answers {h′} S u k p {r} o e a = record {
@@ -166,7 +166,7 @@ module _ (x : Query) (c : ℕ) (score t : Float) (rests : List Float) (h₀ : He
             rest-stays : scorersBetween x (h′ .places) (suc i) (x .len) ≡ rest
             rest-stays = others-stay x O hi (moved-only x (T .seated) hq M) (suc i) (x .len) (omega arith) (λ k u v e. omega arith)
 
-            leader-there : Unmoved (slotAt x 0) h h′
+            leader-there : SameRows h h′ (slotAt x 0)
             leader-there = leader-stays x O hi (moved-only x (T .seated) hq M) (T .low)
 
             there : scorersBetween x (h′ .places) i (x .len) ≡ seek 128 c s ∷ rest

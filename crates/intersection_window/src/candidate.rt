@@ -1,7 +1,6 @@
 // A candidate of the leader against the secondaries, one after the other.
 use slot_rows::place::Blocks;
 use slot_rows::place::Places;
-use term_scorer::score;
 use term_scorer::score::Leg;
 use term_scorer::slot;
 ghost use Prim.Native.Nat.{_<_};
@@ -56,7 +55,7 @@ pub fn try_candidate(
         if slot::seek(file, lists, q, at, doc, places, blocks) != doc {
             return Candidate::Passed;
         }
-        let score = score::score(file, leg.similarity, lists, norms, q, doc, places, blocks);
+        let score = slot_scores::score(file, leg.similarity, lists, norms, q, doc, places, blocks);
         total_score = total_score + score;
         if total_score + rests[i] > leg.threshold {
             i += 1;

@@ -1,13 +1,12 @@
 // A window: all skip readers on the blocks that may hold a document, and the bounds of these blocks against the threshold.
+use slot_bounds::new_block_max;
 use slot_rows::place::Blocks;
 use slot_rows::place::Places;
 use term_scorer::BOUNDS;
 use term_scorer::Floats;
 use term_scorer::RESTS;
-use term_scorer::score;
 use term_scorer::score::Leg;
 use term_scorer::score::Similarity;
-use term_scorer::score::new_block_max;
 use term_scorer::slot;
 ghost use mathlib.Core.Path.{_≡_};
 ghost use Prim.Native.Nat.{min, _≤_, _<_};
@@ -75,7 +74,16 @@ fn gather(
             };
         }
         window_end = least(window_end, slot::last_doc_in_block(q, places));
-        let bound = score::block_max(file, similarity, lists, norms, q, places, blocks, bounds);
+        let bound = slot_bounds::block_max(
+            file,
+            similarity,
+            lists,
+            norms,
+            q,
+            places,
+            blocks,
+            bounds,
+        );
         block_max_sum = block_max_sum + bound;
         i += 1;
     }

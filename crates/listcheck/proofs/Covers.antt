@@ -12,10 +12,11 @@ use Rattle.floats.proofs.Order.{not-above, below-le, lower-below}
 use Rattle.fieldnorm.specs.declared.FieldNormReader.{FieldNormReader}
 use Rattle.bm25.specs.Inner.Bound.{allCovered}
 use Rattle.bm25.specs.declared.Bm25Weight.{Bm25Weight}
-use Rattle.bm25_block.specs.Inner.Block.{allExact, lowerBound, postingScore}
-use Rattle.bm25_block.specs.Inner.Codes.{Below}
-use Rattle.bm25_block.proofs.AtMost.{all-at-most}
-use Rattle.bm25_block.proofs.BoundTests.{covered-same}
+use Rattle.block_norms.specs.Inner.Codes.{Below}
+use Rattle.block_norms.proofs.AtMost.{all-at-most}
+use Rattle.bm25_block.specs.Inner.Block.{allExact, postingScore}
+use Rattle.block_cover.specs.Inner.Cover.{lowerBound}
+use Rattle.block_cover.proofs.BoundTests.{covered-same}
 use Rattle.notefile.specs.Header.{documents, normReader}
 use Rattle.notefile.specs.Lists.{blockSize}
 use Rattle.notefile.specs.Inner.Structs.{skipEntryOf}

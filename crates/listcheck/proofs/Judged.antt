@@ -15,7 +15,7 @@ use Rattle.floats.specs.Step.{within}
 use Rattle.fieldnorm.specs.declared.FieldNormReader.{FieldNormReader}
 use Rattle.bm25.specs.Inner.Bound.{allCovered, blockBoundIn}
 use Rattle.bm25.specs.declared.Bm25Weight.{Bm25Weight}
-use Rattle.bm25_block.specs.Inner.Block.{lowerBound, blockCovered}
+use Rattle.block_cover.specs.Inner.Cover.{lowerBound, blockCovered}
 use Rattle.notefile.specs.Header.{normReader}
 use Rattle.notefile.specs.Lists.{fullBlocks, blockSize, blockAt, blockScore, blockBound, listBound}
 use Rattle.notefile.specs.Conditions.{blockDocsRight, blockFreqsRight, covers, boundsRight}

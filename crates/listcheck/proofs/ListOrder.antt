@@ -14,9 +14,9 @@ use Rattle.notefile.specs.Inner.Order.{firstOf, blocksRefusal, listRefusal}
 use Rattle.notefile.specs.Inner.Given.{Parted, Skipped, BlocksIn}
 use Rattle.notefile.specs.Inner.Reads.{TailRead, blockRefusal, lower}
 use Rattle.notefile.specs.declared.part.Part.{Part}
-use Rattle.listcheck.specs.Inner.Answers.{tailOr}
-use Rattle.listcheck.specs.declared.skip.TailPlace.{TailPlace}
-use Rattle.listcheck.specs.declared.skip.TailPlace.the-variants.{At, Wrong}
+use Rattle.skipcheck.specs.Inner.Answers.{tailOr}
+use Rattle.skipcheck.specs.declared.TailPlace.{TailPlace}
+use Rattle.skipcheck.specs.declared.TailPlace.the-variants.{At, Wrong}
 use Rattle.listcheck.proofs.Judged.{docs-right-unless, docs-wrong-if, one-block-more}
 
 -- what an answer about the tail's place says

@@ -26,5 +26,5 @@ pub fn scores_covered(
     requires { ⌜ (reader ≡ normReader (now file)) × WeightIn x w × (n ≤ 128) ⌝ }
     ensures { λ r. ⌜ r ≡ allCovered bound n (scoreAmong (before file) x (docsOf (before block)) (freqsOf (before block))) ⌝ }
 {
-    bm25_block::bound::covered(file, reader, w, &block[DOCS], &block[FREQS], n, bound)
+    block_cover::covered(file, reader, w, &block[DOCS], &block[FREQS], n, bound)
 }

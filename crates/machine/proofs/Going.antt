@@ -11,13 +11,13 @@ use Rattle.route.specs.Union.{unionTurn}
 use Rattle.reports.specs.Inner.Turns.{Went}
 use Rattle.term_scorer.specs.Inner.Slots.{Held}
 use Rattle.term_scorer.specs.declared.score.Similarity.{Similarity}
-use Rattle.block_wand_single.specs.Inner.Places as places
-use Rattle.block_wand_single.specs.Inner.Stands.{Goes}
-use Rattle.block_wand_single.specs.declared.Single.{Single}
-use Rattle.block_wand_single.specs.declared.Gone as one
-use Rattle.block_wand_union.specs.Inner.Seats.{terms}
-use Rattle.block_wand_union.specs.Inner.Runs as any
-use Rattle.block_wand_union.specs.declared.Union.{Union}
+use Rattle.single_hunt.specs.Inner.Places as places
+use Rattle.single_hunt.specs.declared.Single.{Single}
+use Rattle.single_walk.specs.declared.Gone as one
+use Rattle.block_wand_single.specs.Inner.Runs.{Goes}
+use Rattle.union_moves.specs.Inner.Seats.{terms}
+use Rattle.union_turn.specs.Inner.Runs as any
+use Rattle.union_turn.specs.declared.Union.{Union}
 use Rattle.block_wand_union.specs.declared.Gone as many
 use Rattle.intersection_window.specs.Inner.Scorers.{query}
 use Rattle.block_wand_intersection.specs.Inner.Stands as stands
@@ -29,7 +29,7 @@ use Rattle.plain_scan.specs.declared.Plain.{Plain}
 use Rattle.plain_scan.specs.declared.Gone as scan
 use Rattle.machine.specs.Inner.Places.{intersection, overIn, single, turnIn}
 use Rattle.machine.specs.Inner.Stands.{Tables, onlyScorer}
-use Rattle.machine.specs.Inner.Drives.{GoesOn}
+use Rattle.machine.specs.Inner.Goes.{GoesOn}
 use Rattle.machine.specs.declared.Machine.the-variants as mode
 use Rattle.machine.proofs.Embeds.{runs-intersection, runs-plain, runs-single, runs-union, went-in}
 

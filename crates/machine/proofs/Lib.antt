@@ -2,5 +2,4 @@
 pub mod Embeds
 pub mod Nearing
 pub mod Going
-pub mod Driving
 pub mod Resting

@@ -8,7 +8,7 @@ use Rattle.arrays.specs.Every.{All}
 use Rattle.reports.specs.Inner.Runs.{AtRest}
 use Rattle.term_scorer.specs.Inner.Slots.{cursorAt}
 use Rattle.term_scorer.specs.declared.score.Similarity.{Similarity}
-use Rattle.block_wand_union.specs.Inner.Seats.{slotScorer}
+use Rattle.union_moves.specs.Inner.Seats.{slotScorer}
 use Rattle.intersection_window.specs.Inner.Scorers.{query}
 use Rattle.block_wand_intersection.proofs.Going as all
 use Rattle.machine.specs.Inner.Places.{scorersIn}

@@ -2,4 +2,4 @@
 pub mod Places
 pub mod Kept
 pub mod Stands
-pub mod Drives
+pub mod Goes

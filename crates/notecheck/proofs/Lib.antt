@@ -1,3 +1,2 @@
--- What the tests of a file find, and the order of what is found.
-pub mod Entries
+-- The order of what the tests of a file find.
 pub mod FileOrder

@@ -1,8 +1,8 @@
 // Whether a file is accepted: the table's conditions 1 to 9 in its order.
-use crate::entry::entries_right;
-use crate::header::header_right;
 use bm25::compute_tf_cache;
 use bm25::renew_tf_cache;
+use headcheck::entry::entries_right;
+use headcheck::header::header_right;
 use listcheck::list::check_list;
 use notefile::header::ENTRY_LENGTH;
 use notefile::header::HEADER_LENGTH;

@@ -1,4 +1,2 @@
 // Whether a note file is accepted: the table's conditions 1 to 4, then the lists.
 pub mod check;
-pub mod entry;
-pub mod header;

@@ -4,13 +4,10 @@ pub mod Headers
 pub mod Scores
 pub mod Entries
 pub mod SkipEntries
-pub mod Padding
 pub mod Decoded
 pub mod NarrowBlocks
 pub mod FullBlocks
 pub mod Pairs
-pub mod TailBlocks
-pub mod Tails
 pub mod Order
 pub mod Accepted
 pub mod ListLaws

@@ -1,4 +1,4 @@
--- What each number stands for, the table's order over them, and answers as numbers.
+-- The table's order over the numbers of a call, and answers as numbers.
 use mathlib.Core.Path.{_≡_, refl, sym, ap, _∙_, subst}
 use mathlib.Core.Bool.{Bool, true, false, cond, _&&_}
 use mathlib.Core.List.{List, [], _∷_}
@@ -9,10 +9,8 @@ use lib.Ieee.{Float}
 use borrow.Author.Tests.{le-leb, lt-leb}
 use Rattle.route.specs.Report.{Report}
 use Rattle.bm25.specs.declared.Scoring.{Scoring}
-use Rattle.bm25.specs.declared.Scoring.the-variants.{Stepped}
 use Rattle.rule.specs.Right.{ruleRight}
 use Rattle.rule.specs.declared.Rule.{Rule}
-use Rattle.rule.specs.declared.Rule.the-variants.{BestK}
 use Rattle.notefile.specs.Header.{listCount}
 use Rattle.notefile.specs.Refusal.{test, unless, firstRefusal, fileTests, fileRefusal}
 use Rattle.notefile.specs.Inner.Order.{orElse}
@@ -24,29 +22,18 @@ use Rattle.notecheck.specs.Answers.{answerOf}
 use Rattle.notecheck.specs.declared.check.Checked.{Checked}
 use Rattle.notecheck.specs.declared.check.Checked.the-variants.{Accepted, Refused}
 use Rattle.request.specs.Request.{Request, asked, queryRight, queryTests, refusalOf}
+use Rattle.request.specs.Lists.{plainList}
 use Rattle.request.specs.declared.Mode.{Mode}
-use Rattle.request.specs.declared.Mode.the-variants.{Single}
 use Rattle.request.proofs.Requests.{query-or, request-or}
-use Rattle.ranking.specs.Answers.{answer, countOf, numberOf, plainList, Answered, PlainIs, RunIs}
+use Rattle.arguments.specs.Numbers.{modeAt, scoringAt, ruleAt}
+use Rattle.outcome.specs.Outcomes.{countOf, numberOf}
+use Rattle.outcome.specs.declared.Outcome.{Outcome}
+use Rattle.ranking.specs.Answers.{answer, Answered, PlainIs, RunIs}
 use Rattle.ranking.specs.Demand.{Given, result, Demand3}
-use Rattle.ranking.specs.declared.outcome.Outcome.{Outcome}
 use Rattle.ranking.proofs.Demand.{demand-3, given-of}
 use Rattle.ranking.proofs.Counts.{run-few, plain-few}
-use Rattle.noterank.specs.Interface.{modeAt, scoringAt, ruleAt, Call, requestOf, callRefusal, ListBy, Ranked}
+use Rattle.noterank.specs.Interface.{Call, requestOf, callRefusal, ListBy, Ranked}
 use Rattle.noterank.specs.Inner.Calls.{numbersRefusal, OutcomeBy}
-
-pub past-one : (n : ℕ) → (n ≡ 0 → ⊥) → (n ≡ 1 → ⊥) → Single ≡ modeAt n
-past-one zero a b = absurd (a refl)
-past-one (suc zero) a b = absurd (b refl)
-past-one (suc (suc n)) a b = refl
-
-pub stepped-at : (n : ℕ) → (n ≡ 0 → ⊥) → Stepped ≡ scoringAt n
-stepped-at zero a = absurd (a refl)
-stepped-at (suc n) a = refl
-
-pub best-at : (n : ℕ) (start : Float) (k : ℕ) → (n ≡ 0 → ⊥) → BestK start k ≡ ruleAt n start k
-best-at zero start k a = absurd (a refl)
-best-at (suc n) start k a = refl
 
 -- ---- the judge's answer as a number
 

@@ -1,4 +1,4 @@
--- The C interface: what each argument's numbers stand for, and an answer as a number, a count and rows.
+-- The C interface: the refusals of a call, and an answer as a number, a count and rows.
 use mathlib.Core.Path.{_≡_}
 use mathlib.Core.Bool.{_&&_}
 use mathlib.Core.List.{List, [], _∷_, _++_}
@@ -6,33 +6,15 @@ use Prim.Native.Nat.{ℕ, zero, suc}
 use lib.Dec.{leb}
 use lib.Ieee.{Float}
 use Rattle.route.specs.Report.{Report}
-use Rattle.bm25.specs.declared.Scoring.{Scoring}
-use Rattle.bm25.specs.declared.Scoring.the-variants.{Unstepped, Stepped}
 use Rattle.rule.specs.Right.{ruleRight}
-use Rattle.rule.specs.declared.Rule.{Rule}
-use Rattle.rule.specs.declared.Rule.the-variants.{Script, BestK}
 use Rattle.notefile.specs.Header.{listCount}
 use Rattle.notefile.specs.Refusal.{Test, test, firstRefusal, fileTests}
 use Rattle.reports.specs.Rows.{Rows, rowsOf}
 use Rattle.request.specs.Request.{Request, asked, queryRight}
-use Rattle.request.specs.declared.Mode.{Mode}
-use Rattle.request.specs.declared.Mode.the-variants.{Union, Intersection, Single}
-use Rattle.ranking.specs.Answers.{answer, plainList, SkippingList}
+use Rattle.request.specs.Lists.{plainList, SkippingList}
+use Rattle.arguments.specs.Numbers.{modeAt, scoringAt, ruleAt}
+use Rattle.ranking.specs.Answers.{answer}
 use Rattle.ranking.specs.Demand.{Given, Result}
-
--- the numbers of modes, scorings and rules; those past the last stand for it, and are refused
-abbrev pub modeAt : ℕ → Mode
-modeAt zero = Union
-modeAt (suc zero) = Intersection
-modeAt (suc (suc n)) = Single
-
-abbrev pub scoringAt : ℕ → Scoring
-scoringAt zero = Unstepped
-scoringAt (suc n) = Stepped
-
-abbrev pub ruleAt : ℕ → Float → ℕ → Rule
-ruleAt zero start k = Script start
-ruleAt (suc n) start k = BestK start k
 
 -- the arguments of `noterank_run` but for its buffers
 pub record Call : Type 0 where

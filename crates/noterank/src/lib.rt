@@ -1,24 +1,27 @@
 // The C interface: the entry points with numbers and slices alone.
+use arguments::mode_at;
+use arguments::rule_at;
+use arguments::scoring_at;
+use arguments::short;
 use bm25::Scoring;
 use notecheck::check::Checked;
 use notecheck::check::check;
-use ranking::outcome::Outcome;
-use ranking::outcome::count_of;
-use ranking::outcome::number_of;
+use outcome::Outcome;
+use outcome::count_of;
+use outcome::number_of;
 use ranking::plain::plain;
 use ranking::skipping::run;
 use request::Mode;
 use request::query_refusal;
 use rule::Rule;
 ghost use mathlib.Core.Path.{_≡_};
-ghost use Prim.Native.Nat.{_<_};
 ghost use Rattle.arrays.specs.Lent.{before, after};
 ghost use Rattle.notefile.specs.Refusal.{fileRefusal};
 ghost use Rattle.notefile.specs.Inner.Order.{orElse};
 ghost use Rattle.reports.specs.Rows.{rows};
 ghost use Rattle.request.specs.Request.{asked};
 ghost use Rattle.ranking.specs.Demand.{result};
-ghost use Rattle.noterank.specs.Interface.{modeAt, ruleAt, scoringAt, Ranked};
+ghost use Rattle.noterank.specs.Interface.{Ranked};
 ghost use Rattle.noterank.specs.Inner.Calls.{numbersRefusal, OutcomeBy};
 
 // 0 for an accepted file, or the number of its refusal.
@@ -30,37 +33,6 @@ pub extern "C" fn noterank_check(file: &[u8]) -> u32
         Checked::Accepted => 0,
         Checked::Refused(n) => n,
     }
-}
-
-// The mode, the scoring and the rule of a number.
-fn mode_at(mode: u32) -> Mode
-    ensures { λ r. ⌜ r ≡ modeAt mode ⌝ }
-{
-    if mode == 0 {
-        return Mode::Union;
-    }
-    if mode == 1 {
-        return Mode::Intersection;
-    }
-    Mode::Single
-}
-
-fn scoring_at(scoring: u32) -> Scoring
-    ensures { λ r. ⌜ r ≡ scoringAt scoring ⌝ }
-{
-    if scoring == 0 {
-        return Scoring::Unstepped;
-    }
-    Scoring::Stepped
-}
-
-fn rule_at(rule: u32, start: f32, k: u32) -> Rule
-    ensures { λ r. ⌜ r ≡ ruleAt rule start k ⌝ }
-{
-    if rule == 0 {
-        return Rule::Script(start);
-    }
-    Rule::BestK(start, k)
 }
 
 // The first of two refusals, 0 being none.
@@ -110,14 +82,6 @@ fn by_walk(
         return run(file, query, mode, scoring, rule, script, documents, scores);
     }
     plain(file, query, mode, scoring, rule, script, documents, scores)
-}
-
-// A list has at most a file's 1,048,576 documents, so its count fits 32 bits.
-fn short(count: usize) -> u32
-    requires { ⌜ count < 4294967296 ⌝ }
-    ensures { λ r. ⌜ r ≡ count ⌝ }
-{
-    count as u32
 }
 
 // One run; the header says what each number stands for.

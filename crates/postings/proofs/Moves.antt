@@ -24,7 +24,7 @@ use Rattle.notefile.proofs.ListLaws.{last-is}
 use Rattle.decoded.specs.Lists.{listOf}
 use Rattle.skip_reader.specs.Inner.Decoded.{docIn, doc-is, Decoded, ListIn}
 use Rattle.skip_reader.specs.Inner.Reader.{lastIn, readerAt, Stands, Sought}
-use Rattle.postings.specs.Inner.Places.{cursorOf, Placed, Moved, Shallow, Here}
+use Rattle.postings.specs.Inner.Places.{cursorOf, Behind, Placed, Moved, Shallow, Here}
 use Rattle.skip_reader.specs.declared.skip.SkipReader.{SkipReader}
 use Rattle.postings.specs.declared.cursor.SegmentPostings.{SegmentPostings}
 use Rattle.skip_reader.proofs.Readers.{block-is, stands-on, last-here, end-is}
@@ -163,20 +163,25 @@ module _ {file : List ℕ} {x : Part} (L : ListIn file x) (p : SegmentPostings) 
     unfolding cursorOf
     sought-here h = record { cursor-is = λ s. sym (rw (doc-at (P .holds) s (p .cur) (P .inside), le-leb t (getD (docsOf block) (p .cur) 0) h)); placed = P }
 
-    module _ (h : getD (docsOf block) (p .cur) 0 < t) {next : ℕ} (e : next ≡ min (suc (p .cur)) 127) (i : next < 128) where
-      next-is : min (suc (start 128 (p .decoded) + p .cur)) (start 128 (p .decoded) + 127) ≡ start 128 (p .decoded) + next
-      next-is = omega arith
+    next-is : {next : ℕ} → next ≡ min (suc (p .cur)) 127 → min (suc (start 128 (p .decoded) + p .cur)) (start 128 (p .decoded) + 127) ≡ start 128 (p .decoded) + next
+    next-is e = omega arith
 
-      pub sought-next : t ≤ getD (docsOf block) next 0 → Moved file x sought (record { «skip_reader» = p .«skip_reader»; «block_loaded» = p .«block_loaded»; decoded = p .decoded; cur = next }) block
-      unfolding cursorOf
-      sought-next k = record {
-        cursor-is = λ s. sym (rw (doc-at (P .holds) s (p .cur) (P .inside), lt-leb t (getD (docsOf block) (p .cur) 0) h, next-is, doc-at (P .holds) s next i, le-leb t (getD (docsOf block) next 0) k));
-        placed = record { stands = P .stands; low = P .low; holds = P .holds; inside = i; loaded-is = P .loaded-is };
-      }
+    pub sought-next : getD (docsOf block) (p .cur) 0 < t → {next : ℕ} → next ≡ min (suc (p .cur)) 127 → next < 128 → t ≤ getD (docsOf block) next 0
+        → Moved file x sought (record { «skip_reader» = p .«skip_reader»; «block_loaded» = p .«block_loaded»; decoded = p .decoded; cur = next }) block
+    unfolding cursorOf
+    sought-next h {next} e i k = record {
+      cursor-is = λ s. sym (rw (doc-at (P .holds) s (p .cur) (P .inside), lt-leb t (getD (docsOf block) (p .cur) 0) h, next-is e, doc-at (P .holds) s next i, le-leb t (getD (docsOf block) next 0) k));
+      placed = record { stands = P .stands; low = P .low; holds = P .holds; inside = i; loaded-is = P .loaded-is };
+    }
 
-      far : getD (docsOf block) next 0 < t → (s : Scoring) → sought s ≡ loadAt (listOf s file x) 128 t (shallow s .blk)
+    -- by blocks
+    module _ (h : Behind p block t) where
+      abbrev next : ℕ
+      next = min (suc (p .cur)) 127
+
+      far : (s : Scoring) → sought s ≡ loadAt (listOf s file x) 128 t (shallow s .blk)
       unfolding cursorOf
-      far k s = rw (doc-at (P .holds) s (p .cur) (P .inside), lt-leb t (getD (docsOf block) (p .cur) 0) h, next-is, doc-at (P .holds) s next i, lt-leb t (getD (docsOf block) next 0) k)
+      far s = rw (doc-at (P .holds) s (p .cur) (P .inside), lt-leb t (getD (docsOf block) (p .cur) 0) (h .here), next-is refl, doc-at (P .holds) s next (omega arith), lt-leb t (getD (docsOf block) next 0) (h .next))
 
       module _ {q : SegmentPostings} (Q : Moved file x shallow q block) where
         block-found : (s : Scoring) → q .«skip_reader» .block ≡ shallow s .blk
@@ -186,22 +191,27 @@ module _ {file : List ℕ} {x : Part} (L : ListIn file x) (p : SegmentPostings) 
         pub reaches : t ≤ 2147483647 → t ≤ q .«skip_reader» .«last_doc_in_block»
         reaches k = subst (λ (z : ℕ). t ≤ z) (ap (endOf (listOf Unstepped file x) 128) (sym (block-found Unstepped)) ∙ end-here file x L q (Q .placed .stands) Unstepped) (seek-covers (listOf Unstepped file x) t k (cursorOf p))
 
-        pub sought-far : getD (docsOf block) next 0 < t → {r : SegmentPostings} {block′ : List (List ℕ)} → Moved file x (λ s. loadAt (listOf s file x) 128 t (q .«skip_reader» .block)) r block′ → Moved file x sought r block′
-        sought-far k M = record {
-          cursor-is = λ s. M .cursor-is s ∙ ap (loadAt (listOf s file x) 128 t) (block-found s) ∙ sym (far k s);
+        pub sought-far : {r : SegmentPostings} {block′ : List (List ℕ)} → Moved file x (λ s. loadAt (listOf s file x) 128 t (q .«skip_reader» .block)) r block′ → Moved file x sought r block′
+        sought-far M = record {
+          cursor-is = λ s. M .cursor-is s ∙ ap (loadAt (listOf s file x) 128 t) (block-found s) ∙ sym (far s);
           placed = M .placed;
         }
 
-      -- the target is in the block, which is loaded
-      pub sought-within : p .«block_loaded» ≡ true → getD (docsOf block) next 0 < t → t ≤ p .«skip_reader» .«last_doc_in_block» → {cur : ℕ} → cur ≡ countBelow 128 (docsOf block) t
-          → Moved file x sought (record { «skip_reader» = p .«skip_reader»; «block_loaded» = p .«block_loaded»; decoded = p .decoded; cur = cur }) block
-      sought-within on k r {cur} c =
-          let d = P .loaded-is on in
-          let D : Decoded file x (p .«skip_reader» .block) block = subst (λ (b : ℕ). Decoded file x b block) d (P .holds) in
-          subst (λ (q : SegmentPostings). Moved file x sought q block)
-          (ap (λ (z : Bool). record { «skip_reader» = p .«skip_reader»; «block_loaded» = z; decoded = p .«skip_reader» .block; cur = cur }) (sym on)
-          ∙ ap (λ (z : ℕ). record { «skip_reader» = p .«skip_reader»; «block_loaded» = p .«block_loaded»; decoded = z; cur = cur }) (sym d))
-          (sought-far (stays file x L p (P .stands) t r block P) k (lands L p P D t r c))
+      -- the skip reader's block may hold the target
+      module _ (r : t ≤ p .«skip_reader» .«last_doc_in_block») where
+        pub sought-loading : {q : SegmentPostings} {block′ : List (List ℕ)} → Moved file x (λ s. loadAt (listOf s file x) 128 t (p .«skip_reader» .block)) q block′ → Moved file x sought q block′
+        sought-loading M = sought-far (stays file x L p (P .stands) t r block P) M
+
+        -- and is loaded
+        pub sought-within : p .«block_loaded» ≡ true → {cur : ℕ} → cur ≡ countBelow 128 (docsOf block) t
+            → Moved file x sought (record { «skip_reader» = p .«skip_reader»; «block_loaded» = p .«block_loaded»; decoded = p .decoded; cur = cur }) block
+        sought-within on {cur} c =
+            let d = P .loaded-is on in
+            let D : Decoded file x (p .«skip_reader» .block) block = subst (λ (b : ℕ). Decoded file x b block) d (P .holds) in
+            subst (λ (q : SegmentPostings). Moved file x sought q block)
+            (ap (λ (z : Bool). record { «skip_reader» = p .«skip_reader»; «block_loaded» = z; decoded = p .«skip_reader» .block; cur = cur }) (sym on)
+            ∙ ap (λ (z : ℕ). record { «skip_reader» = p .«skip_reader»; «block_loaded» = p .«block_loaded»; decoded = z; cur = cur }) (sym d))
+            (sought-loading (lands L p P D t r c))
 
   -- the next posting
   abbrev advanced : Scoring → Cursor

@@ -18,7 +18,7 @@ ghost use Rattle.arrays.specs.Lent.{before, after};
 ghost use Rattle.route.specs.Cursor.{blockMax};
 ghost use Rattle.route.specs.F32.{f32};
 ghost use Rattle.bm25.specs.Scoring.{scored};
-ghost use Rattle.bm25_block.specs.Inner.Codes.{Below};
+ghost use Rattle.block_norms.specs.Inner.Codes.{Below};
 ghost use Rattle.notefile.specs.Header.{normReader};
 ghost use Rattle.notefile.specs.Lists.{fullBlocks};
 ghost use Rattle.notefile.specs.Inner.Given.{WeightIn};

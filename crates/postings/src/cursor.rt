@@ -12,9 +12,9 @@ ghost use Rattle.route.specs.Cursor.{Cursor, advanceIn, fresh, loadAt, seekBloc
 ghost use Rattle.bm25.specs.declared.Scoring.{Scoring};
 ghost use Rattle.notefile.specs.Lists.{fullBlocks};
 ghost use Rattle.decoded.specs.Lists.{listOf};
-ghost use Rattle.skip_reader.specs.Inner.Decoded.{Decoded, ListIn};
+ghost use Rattle.skip_reader.specs.Inner.Decoded.{ListIn};
 ghost use Rattle.skip_reader.specs.Inner.Reader.{Stands};
-ghost use Rattle.postings.specs.Inner.Places.{Here, Moved, Placed, Shallow, cursorOf};
+ghost use Rattle.postings.specs.Inner.Places.{Behind, Here, Moved, Placed, Shallow, cursorOf};
 
 // The Rust's block cursor and its `cur`. The decoded block stands in two arrays beside it, and `decoded` is its number.
 pub struct SegmentPostings {
@@ -57,18 +57,16 @@ impl SegmentPostings {
         block[DOCS][cur]
     }
 
-    // Moves the skip reader only: the document and its frequency stay those of the block decoded last.
+    // The skip reader leaves a block that ends before the target. The document and its frequency stay those of the block decoded last.
     pub fn seek_block(self, file: &[u8], x: Part, target: u32) -> SegmentPostings
         requires { let reader = self .«skip_reader» in
-            ⌜ ListIn (now file) x × Stands (now file) x reader × (reader .block ≤ suc (fullBlocks x)) ⌝ }
+            ⌜ ListIn (now file) x × Stands (now file) x reader × (reader .block ≤ suc (fullBlocks x))
+            × (reader .«last_doc_in_block» < target) ⌝ }
         ensures { λ r.
             let to : Scoring → Cursor = λ scoring. seekBlockIn (listOf scoring (before file) x) 128 target (cursorOf self) in
             ⌜ Shallow (before file) x to self r ⌝ }
     {
         let reader = self.skip_reader;
-        if target <= reader.last_doc_in_block {
-            return self;
-        }
         let skip_reader = reader.seek(file, x, target);
         SegmentPostings {
             skip_reader,
@@ -78,28 +76,16 @@ impl SegmentPostings {
         }
     }
 
-    // The skip reader's block, loaded if it is not.
-    fn load(self, file: &[u8], x: Part, block: &mut Block)
-        requires { ⌜ ListIn (now file) x × Placed (now file) x self (now block) ⌝ }
-        ensures { λ _. ⌜ Decoded (before file) x (self .«skip_reader» .block) (after block) ⌝ }
-    {
-        if self.block_loaded {
-            return;
-        }
-        let skip_reader = self.skip_reader;
-        load_block(file, x, skip_reader, block);
-    }
-
     // The skip reader's block, loaded, and the first posting in it from the target on.
-    fn load_at(self, file: &[u8], x: Part, target: u32, block: &mut Block) -> SegmentPostings
+    pub fn load_at(self, file: &[u8], x: Part, target: u32, block: &mut Block) -> SegmentPostings
         requires { ⌜ ListIn (now file) x × Placed (now file) x self (now block)
             × (target ≤ self .«skip_reader» .«last_doc_in_block») ⌝ }
         ensures { λ r.
             let to : Scoring → Cursor = λ scoring. loadAt (listOf scoring (before file) x) 128 target (self .«skip_reader» .block) in
             ⌜ Moved (before file) x to r (after block) ⌝ }
     {
-        self.load(file, x, block);
         let skip_reader = self.skip_reader;
+        load_block(file, x, skip_reader, block);
         let cur = search_block(&block[DOCS], target);
         SegmentPostings {
             skip_reader,
@@ -109,25 +95,14 @@ impl SegmentPostings {
         }
     }
 
-    // On to the first posting from the target on. The next one is tried before any block is.
-    pub fn seek(self, file: &[u8], x: Part, target: u32, block: &mut Block) -> SegmentPostings
-        requires { ⌜ ListIn (now file) x × Placed (now file) x self (now block) × (target ≤ 2147483647) ⌝ }
+    // From a block that ends before the target to the first posting from the target on.
+    pub fn seek_far(self, file: &[u8], x: Part, target: u32, block: &mut Block) -> SegmentPostings
+        requires { ⌜ ListIn (now file) x × Placed (now file) x self (now block) × Behind self (now block) target
+            × (self .«skip_reader» .«last_doc_in_block» < target) × (target ≤ 2147483647) ⌝ }
         ensures { λ r.
             let to : Scoring → Cursor = λ scoring. seekIn (listOf scoring (before file) x) 128 target (cursorOf self) in
             ⌜ Moved (before file) x to r (after block) ⌝ }
     {
-        let cur = self.cur;
-        let doc = block[DOCS][cur];
-        if target <= doc {
-            return self;
-        }
-        let next = next_place(cur);
-        let next_doc = block[DOCS][next];
-        if target <= next_doc {
-            let mut p = self;
-            p.cur = next;
-            return p;
-        }
         let p = self.seek_block(file, x, target);
         p.load_at(file, x, target, block)
     }

@@ -22,11 +22,13 @@ use Rattle.notefile.specs.Inner.Order.{orElse}
 use Rattle.reports.specs.Rows.{Rows, rowsOf, docs}
 use Rattle.decoded.specs.Inner.Bytes.{Bytes}
 use Rattle.request.specs.Request.{Request, asked, refusalOf}
+use Rattle.request.specs.Lists.{plainList}
 use Rattle.request.specs.declared.Mode.the-variants.{Union}
 use Rattle.request.proofs.Requests.{query-or, first-refused}
-use Rattle.ranking.specs.Answers.{answer, numberOf, countOf, plainList, Answered, RunIs}
+use Rattle.outcome.specs.Outcomes.{numberOf, countOf}
+use Rattle.outcome.specs.declared.Outcome.{Outcome}
+use Rattle.ranking.specs.Answers.{answer, Answered, RunIs}
 use Rattle.ranking.specs.Demand.{rowsIn, resultOf, Given}
-use Rattle.ranking.specs.declared.outcome.Outcome.{Outcome}
 use Rattle.ranking.proofs.Demand.{run-plain, given-of, rows-are}
 use Rattle.print.specs.Text.{text, numbersFrom, stepped, allLists, printed, firstLine, reportsWord, refusedWord, lines}
 use Rattle.print.specs.Inner.Putting.{Put, Ready, textOf}

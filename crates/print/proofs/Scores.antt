@@ -25,9 +25,10 @@ use Rattle.decoded.specs.Lists.{queried}
 use Rattle.decoded.specs.Inner.Bytes.{Bytes}
 use Rattle.decoded.proofs.AcceptedLists.{accepted-list, queried-all}
 use Rattle.request.specs.Request.{asked, modeOf, refusalOf}
+use Rattle.request.specs.Lists.{plainList}
 use Rattle.request.specs.declared.Mode.{Mode}
 use Rattle.request.proofs.Requests.{let-through}
-use Rattle.ranking.specs.Answers.{answer, plainList}
+use Rattle.ranking.specs.Answers.{answer}
 use Rattle.ranking.proofs.Demand.{all-named}
 
 abbrev pub OnGrid : Report Float → Type 0

@@ -12,8 +12,9 @@ use Rattle.bm25.specs.declared.Scoring.the-variants.{Stepped}
 use Rattle.rule.specs.declared.Rule.the-variants.{Script}
 use Rattle.notefile.specs.Header.{listCount}
 use Rattle.request.specs.Request.{Request, asked, refusalOf}
+use Rattle.request.specs.Lists.{plainList}
 use Rattle.request.specs.declared.Mode.the-variants.{Union}
-use Rattle.ranking.specs.Answers.{answer, plainList}
+use Rattle.ranking.specs.Answers.{answer}
 
 -- a number's last digit in decimal; 48 is ASCII's 0
 abbrev pub digit : ℕ → ℕ

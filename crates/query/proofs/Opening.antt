@@ -38,7 +38,7 @@ use Rattle.slot_rows.specs.Inner.Rows.{partIn, partRow, PartRow}
 use Rattle.slot_rows.proofs.Rows.{part-back}
 use Rattle.term_scorer.specs.Inner.Slots.{Held, Sixteen, Opened, partAt, listAt, cursorAt, listsFrom}
 use Rattle.term_scorer.specs.Inner.Weights.{Weighed}
-use Rattle.term_scorer.proofs.Scores.{top-kept}
+use Rattle.term_scorer.proofs.Tops.{top-kept}
 use Rattle.query.specs.Inner.Openings.{Tables, Room, openedScorer, unopened, OpenSlot, OnlySlot, OneOpened, QueryOpened, Untouched}
 
 -- a list's number is below the header's

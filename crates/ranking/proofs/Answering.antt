@@ -2,29 +2,20 @@
 use mathlib.Core.Path.{_≡_, sym, ap, _∙_, subst}
 use mathlib.Core.List.{List, []}
 use Prim.Native.Nat.{ℕ, zero, suc, _≤_}
-use native.Mathlib.Omega.{arith}
 use lib.Ieee.{Float}
-use borrow.Author.Tests.{ne-eqb}
 use Rattle.route.specs.Report.{Report}
 use Rattle.route.specs.Rule.{limited}
-use Rattle.notefile.specs.Refusal.{fileRefusal}
-use Rattle.notefile.specs.Inner.Structs.{headerOf}
-use Rattle.notefile.specs.Inner.Given.{HeaderIn}
-use Rattle.notefile.specs.declared.header.Header.{Header}
-use Rattle.notefile.proofs.Accepted.{header-inside}
 use Rattle.reports.specs.Rows.{Rows, rowsOf}
 use Rattle.reports.proofs.RowLaws.{none-written}
 use Rattle.request.specs.Request.{Request, refusalOf}
+use Rattle.request.specs.Lists.{plainList}
 use Rattle.request.proofs.Requests.{refusal-below}
-use Rattle.ranking.specs.Answers.{outcomeFor, answer, plainList, Answered, RunIs, PlainIs}
+use Rattle.beginning.specs.declared.Way.the-variants.{Plain, Skipping}
+use Rattle.outcome.specs.declared.Outcome.{Outcome}
+use Rattle.outcome.specs.declared.Outcome.the-variants.{Refused}
+use Rattle.outcome.proofs.ByNumber.{refused-for}
+use Rattle.ranking.specs.Answers.{answer, Answered, RunIs, PlainIs}
 use Rattle.ranking.specs.Inner.Runs.{Listed}
-use Rattle.ranking.specs.declared.begin.Way.the-variants.{Plain, Skipping}
-use Rattle.ranking.specs.declared.outcome.Outcome.{Outcome}
-use Rattle.ranking.specs.declared.outcome.Outcome.the-variants.{Refused}
-
--- a refusal's number, as an outcome
-refused-for : (n : ℕ) → (n ≡ 0 → ⊥) → n ≤ 11 → Refused n ≡ outcomeFor n 0
-refused-for n ne h = sym (rw (ne-eqb n 0 ne, ne-eqb n 12 (λ e. omega (arith, e, h))))
 
 -- a refusal has its number and touches no row
 pub refused : (old : Rows) (n : ℕ) (list : List (Report Float)) (r : ℕ) {number : ℕ} → r ≤ 11 → number ≡ r → (number ≡ 0 → ⊥) → Answered (answer r n list) old (Refused number) old
@@ -37,10 +28,6 @@ refused old n list (suc r) h e ne = record {
 -- a run that was let through has its list
 let-answered : (r n : ℕ) (list : List (Report Float)) → r ≡ 0 → {old : Rows} {o : Outcome} {new : Rows} → Answered (limited n list) old o new → Answered (answer r n list) old o new
 let-answered r n list e {old} {o} {new} A = subst (λ (z : ℕ). Answered (answer z n list) old o new) (sym e) A
-
--- the header read is the file's
-pub header-of : (file : List ℕ) → fileRefusal file ≡ 0 → {h : Header} → h ≡ headerOf file → HeaderIn file h
-header-of file accepted e = subst (HeaderIn file) (sym e) (header-inside file accepted)
 
 module _ (q : Request) where
   -- a run that is refused, of either kind

@@ -18,10 +18,12 @@ use Rattle.reports.specs.Rows.{Rows, rowsOf}
 use Rattle.decoded.specs.Inner.Bytes.{Bytes}
 use Rattle.decoded.proofs.Reported.{Number, file-few, file-numbers, file-plain-few, file-plain-numbers}
 use Rattle.request.specs.Request.{Request, modeOf, refusalOf}
+use Rattle.request.specs.Lists.{plainList, SkippingList}
 use Rattle.request.proofs.Requests.{let-through}
-use Rattle.ranking.specs.Answers.{countOf, answer, plainList, SkippingList, RunIs, PlainIs}
+use Rattle.outcome.specs.Outcomes.{countOf}
+use Rattle.outcome.specs.declared.Outcome.{Outcome}
+use Rattle.ranking.specs.Answers.{answer, RunIs, PlainIs}
 use Rattle.ranking.specs.Demand.{resultOf, listOf, bitsOf}
-use Rattle.ranking.specs.declared.outcome.Outcome.{Outcome}
 use Rattle.ranking.proofs.Demand.{all-named, given-of, rows-are}
 
 all-take : {A : Type 0} (P : A → Type 0) (n : ℕ) (xs : List A) → All P xs → All P (take n xs)

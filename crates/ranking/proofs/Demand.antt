@@ -31,11 +31,13 @@ use Rattle.decoded.specs.Lists.{queried}
 use Rattle.decoded.specs.Inner.Bytes.{Bytes}
 use Rattle.decoded.proofs.Files.{file-plain, file-demand-3}
 use Rattle.request.specs.Request.{Request, asked, modeOf, refusalOf}
+use Rattle.request.specs.Lists.{plainList, SkippingList}
 use Rattle.request.specs.declared.Mode.{Mode}
 use Rattle.request.proofs.Requests.{let-through}
-use Rattle.ranking.specs.Answers.{numberOf, countOf, outcomeFor, answer, answerOf, plainList, SkippingList, Answered, RunIs, PlainIs}
+use Rattle.outcome.specs.Outcomes.{numberOf, countOf, outcomeFor}
+use Rattle.outcome.specs.declared.Outcome.{Outcome}
+use Rattle.ranking.specs.Answers.{answer, answerOf, Answered, RunIs, PlainIs}
 use Rattle.ranking.specs.Demand.{Result, resultOf, Given, rowsIn, listOf, OneRule, startAt, from, Demand3}
-use Rattle.ranking.specs.declared.outcome.Outcome.{Outcome}
 
 -- ---- an outcome's number, count and rows
 

@@ -1,63 +1,43 @@
 -- A run that has returned is what 01's table says.
 use mathlib.Core.Path.{_≡_, refl, sym, ap, _∙_, subst}
-use mathlib.Core.Bool.{Bool, true, false, cond}
-use mathlib.Core.List.{List, [], _∷_}
-use Prim.Native.Nat.{ℕ, suc, _≤_, _<_}
-use native.Mathlib.Omega.{arith}
-use lib.ListN.{length, getD}
+use mathlib.Core.Bool.{Bool, cond}
+use mathlib.Core.List.{List, []}
+use Prim.Native.Nat.{ℕ}
 use lib.Ieee.{Float}
-use Rattle.arrays.specs.Every.{All}
 use Rattle.route.specs.F32.{f32}
 use Rattle.route.specs.Report.{Report}
 use Rattle.route.specs.Rule as rules
 use Rattle.route.specs.Route.{Ends}
-use Rattle.route.specs.Skipping.{route}
-use Rattle.route.specs.Inner.Rules.{Takes}
-use Rattle.route.specs.Inner.Lists.{ListOk}
 use Rattle.route.proofs.Agree.{has-list}
 use Rattle.bm25.specs.declared.Scoring.{Scoring}
-use Rattle.notefile.specs.Header.{listCount, documents}
-use Rattle.notefile.specs.Parts.{partOf}
-use Rattle.notefile.specs.Refusal.{fileRefusal}
-use Rattle.notefile.proofs.Accepted.{list-accepted, header-right}
-use Rattle.notefile.proofs.Headers.{few-documents}
+use Rattle.notefile.specs.Header.{documents}
 use Rattle.rule.specs.declared.Rule.{Rule}
 use Rattle.reports.specs.Rows.{Rows}
 use Rattle.reports.specs.Inner.Runs.{callbackOf, runAfter, Ran}
 use Rattle.reports.proofs.RunLaws.{ran-limited}
 use Rattle.decoded.specs.Lists.{queried}
-use Rattle.decoded.proofs.AcceptedLists.{list-ok}
 use Rattle.term_scorer.specs.Inner.Weights.{FloatRows}
 use Rattle.query.specs.Inner.Openings as opening
-use Rattle.machine.specs.Inner.Drives.{Drives}
+use Rattle.driver.specs.Inner.Drives.{Drives}
 use Rattle.machine.specs.Inner.Places.{Place, machineFrom}
 use Rattle.machine.specs.Inner.Stands.{placeIn, Tables}
-use Rattle.machine.specs.declared.Driven.{Driven}
-use Rattle.machine.specs.declared.Task.{Task}
+use Rattle.driver.specs.declared.Driven.{Driven}
+use Rattle.driver.specs.declared.Task.{Task}
 use Rattle.machine.proofs.Embeds.{machine-stays}
 use Rattle.request.specs.Request.{Request, asked, modeOf}
-use Rattle.request.specs.declared.Mode.{Mode}
-use Rattle.request.specs.declared.Mode.the-variants.{Intersection, Single}
 use Rattle.request.proofs.Requests.{Let}
-use Rattle.ranking.specs.Answers.{outcomeFor, plainList, Answered}
-use Rattle.ranking.specs.Inner.Begins.{begunTables, TaskBegun}
-use Rattle.ranking.specs.Inner.Runs.{finished, ListFor, Listed}
-use Rattle.ranking.specs.declared.begin.Settings.{Settings}
-use Rattle.ranking.specs.declared.begin.Way.{Way}
-use Rattle.ranking.specs.declared.begin.Way.the-variants.{Plain, Skipping}
-use Rattle.ranking.specs.declared.outcome.Outcome.{Outcome}
-
--- a run that was let through, as the table's outcome
-pub finished-for : (full : Bool) (count : ℕ) → finished full count ≡ outcomeFor (cond full 12 0) count
-finished-for true count = refl
-finished-for false count = refl
-
--- every list that a query names has the laws that the route's end asks
-pub all-ok : (scoring : Scoring) (file : List ℕ) → fileRefusal file ≡ 0 → (query : List ℕ) → ((q : ℕ) → q < length query → getD query q 0 < listCount file) → All (ListOk 128 (documents file)) (queried scoring file query)
-unfolding queried
-all-ok scoring file accepted [] named = tt
-all-ok scoring file accepted (l ∷ ls) named =
-    (list-ok scoring file (partOf file l) (list-accepted file accepted l (named 0 (omega arith))) (few-documents file (header-right file accepted)), all-ok scoring file accepted ls (λ q h. named (suc q) (omega arith)))
+use Rattle.request.specs.Lists.{plainList}
+use Rattle.beginning.specs.Inner.Begins.{begunTables, ListFor, TaskBegun}
+use Rattle.beginning.specs.declared.Settings.{Settings}
+use Rattle.beginning.specs.declared.Way.{Way}
+use Rattle.beginning.specs.declared.Way.the-variants.{Plain, Skipping}
+use Rattle.beginning.proofs.Queries.{all-ok}
+use Rattle.outcome.specs.Outcomes.{outcomeFor}
+use Rattle.outcome.specs.Inner.Finished.{finished}
+use Rattle.outcome.specs.declared.Outcome.{Outcome}
+use Rattle.outcome.proofs.ByNumber.{finished-for}
+use Rattle.ranking.specs.Answers.{Answered}
+use Rattle.ranking.specs.Inner.Runs.{Listed}
 
 -- the list of a request that was let through
 has-one : (way : Way) (q : Request) → Let q → (list : List (Report Float)) × ListFor way q list
@@ -101,10 +81,3 @@ begun-listed settings file query script t {opened} {order} {task} T {floats} row
     (λ list l. T .began floats rows .list-is rule script list
     (subst (λ (s : Scoring). ListFor way (asked file query (settings .mode) s rule script) list) (sym (T .scoring-is)) l))
     (subst (λ (z : Rule). Ran (machineFrom p) z script (old .documents) (old .scores) (d .full) (d .count) (new .documents) (new .scores) place) (T .rule-is) (D .ran)) e
-
--- how many numbers a query has, by its mode
-pub two-numbers : {mode : Mode} {n : ℕ} → mode ≡ Intersection → Takes (modeOf mode) n → 2 ≤ n
-two-numbers {mode} {n} e t = subst (λ (z : Mode). Takes (modeOf z) n) e t
-
-pub one-number : {mode : Mode} {n : ℕ} → mode ≡ Single → Takes (modeOf mode) n → n ≡ 1
-one-number {mode} {n} e t = subst (λ (z : Mode). Takes (modeOf z) n) e t

@@ -1,6 +1,5 @@
 -- Laws of the entry points.
 pub mod Finishing
-pub mod Beginning
 pub mod Answering
 pub mod Demand
 pub mod Counts

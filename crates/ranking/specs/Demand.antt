@@ -17,8 +17,10 @@ use Rattle.rule.specs.declared.Rule.{Rule}
 use Rattle.rule.specs.declared.Rule.the-variants.{Script, BestK}
 use Rattle.reports.specs.Rows.{Rows}
 use Rattle.request.specs.Request.{Request, asked}
-use Rattle.ranking.specs.Answers.{numberOf, countOf, plainList, WrittenIn}
-use Rattle.ranking.specs.declared.outcome.Outcome.{Outcome}
+use Rattle.request.specs.Lists.{plainList}
+use Rattle.outcome.specs.Outcomes.{numberOf, countOf}
+use Rattle.outcome.specs.declared.Outcome.{Outcome}
+use Rattle.ranking.specs.Answers.{WrittenIn}
 
 -- what a run returned, and its rows as they stand then
 pub record Result : Type 0 where

@@ -1,9 +1,9 @@
 // The run of a request that is not refused. Its tables stand here.
-use crate::begin::Settings;
-use crate::begin::begin;
-use crate::outcome::Outcome;
-use crate::outcome::finish;
-use machine::drive;
+use beginning::Settings;
+use beginning::begin;
+use driver::drive;
+use outcome::Outcome;
+use outcome::finish;
 ghost use mathlib.Core.Path.{_≡_};
 ghost use Rattle.arrays.specs.Lent.{before, after};
 ghost use Rattle.reports.specs.Rows.{rows};

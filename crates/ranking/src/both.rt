@@ -1,8 +1,8 @@
 // Both runs side by side: the function whose contract is demand 3.
-use crate::outcome::Outcome;
 use crate::plain::plain;
 use crate::skipping::run;
 use bm25::Scoring;
+use outcome::Outcome;
 use request::Mode;
 use rule::Rule;
 ghost use mathlib.Core.Path.{_≡_};

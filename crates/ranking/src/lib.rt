@@ -1,7 +1,5 @@
 // The public entry points: a skipping run, a plain run, and both side by side. None asks anything of its arguments.
 mod answer;
-mod begin;
 pub mod both;
-pub mod outcome;
 pub mod plain;
 pub mod skipping;

@@ -1,9 +1,9 @@
 // The skipping run of each mode.
 use crate::answer::answer;
-use crate::begin::Settings;
-use crate::begin::Way;
-use crate::outcome::Outcome;
+use beginning::Settings;
+use beginning::Way;
 use bm25::Scoring;
+use outcome::Outcome;
 use request::Mode;
 use request::refusal;
 use rule::Rule;

@@ -1,2 +1,3 @@
 -- What the contracts of `request` cite.
 pub mod Request
+pub mod Lists

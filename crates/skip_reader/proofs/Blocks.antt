@@ -1,5 +1,5 @@
 -- A loaded block is the list's, from its first place on, and its documents never fall.
-use mathlib.Core.Path.{_≡_, sym, subst, _∙_}
+use mathlib.Core.Path.{_≡_, sym, ap, subst, _∙_}
 use mathlib.Core.List.{List}
 use mathlib.Core.Logic.{inl, inr}
 use Prim.Native.Nat.{ℕ, zero, suc, _+_, _-_, _*_, _/_, _%_, _≤_, _<_}
@@ -12,7 +12,7 @@ use Rattle.arrays.proofs.Order.{lt-or-ge}
 use Rattle.arrays.proofs.Every.{all}
 use Rattle.block_search.specs.Inner.Segments.{Sorted}
 use Rattle.route.specs.Postings.{start}
-use Rattle.notefile.specs.Lists.{fullBlocks, blockSize, blockAt}
+use Rattle.notefile.specs.Lists.{fullBlocks, blockSize, blockAt, tailAt}
 use Rattle.notefile.specs.Skips.{freqWidth}
 use Rattle.notefile.specs.Conditions.{blockDocsRight}
 use Rattle.notefile.specs.Inner.Structs.{lastBefore}
@@ -42,8 +42,14 @@ module _ {file : List ℕ} {x : Part} (L : ListIn file x) where
     pub right-here : BlockRight file x (r .block) (r .«last_doc_in_previous_block»)
     right-here = rw (previous-is file x r S, le-leb (r .block) (fullBlocks x) h) (right-block (r .block) h)
 
-    pub place-here : r .«byte_offset» ≡ blockAt file x (r .block)
+    place-here : r .«byte_offset» ≡ blockAt file x (r .block)
     place-here = place-is file x r S ∙ rw (le-leb (r .block) (fullBlocks x) h)
+
+  -- the reader on the tail
+  pub tail-here : (r : SkipReader) → Stands file x r → r .block ≡ fullBlocks x → (r .«byte_offset» ≡ tailAt file x) × BlockRight file x (fullBlocks x) (r .«last_doc_in_previous_block»)
+  tail-here r S e =
+      let h : r .block ≤ fullBlocks x = omega (arith, e) in
+      (place-here r S h ∙ ap (blockAt file x) e, subst (λ (b : ℕ). BlockRight file x b (r .«last_doc_in_previous_block»)) e (right-here r S h))
 
   pub full-here : (r : SkipReader) → Stands file x r → r .block < fullBlocks x → PackedIn file x (r .block) (r .«byte_offset»)
   full-here r S h = packed-in file x (L .blocks) h (place-here r S (omega arith))

@@ -58,6 +58,7 @@ first-left x = omega arith
 pub record Packed (file : List ℕ) (x : Part) (b width : ℕ) (strict : Bool) (freqs norm freq : ℕ) : Type 0 where
   pub full : b < fullBlocks x
   pub width-is : width ≡ docWidth file x b
+  pub strict-is : strict ≡ strictBlock file x b
   pub freqs-is : freqs ≡ freqWidth file x b
   pub norm-is : norm ≡ maxNormCode file x b
   pub freq-is : freq ≡ maxFreqCode file x b
@@ -89,7 +90,7 @@ module _ (file : List ℕ) (x : Part) (r : SkipReader) (S : Stands file x r) whe
       go : (r .block < fullBlocks x) ⊎ (fullBlocks x ≤ r .block) → Packed file x (r .block) w s f n m
       go (inl h) =
           let i : BitPacked w s f n m ≡ BitPacked (docWidth file x (r .block)) (strictBlock file x (r .block)) (freqWidth file x (r .block)) (maxNormCode file x (r .block)) (maxFreqCode file x (r .block)) = sym e ∙ info-is ∙ rw (lt-ltb (r .block) (fullBlocks x) h) in
-          record { full = h; width-is = cc; freqs-is = cc; norm-is = cc; freq-is = cc }
+          record { full = h; width-is = cc; strict-is = cc; freqs-is = cc; norm-is = cc; freq-is = cc }
       go (inr h) =
           let i : BitPacked w s f n m ≡ VInt (remaining x (r .block)) = sym e ∙ info-is ∙ rw (le-ltb (r .block) (fullBlocks x) h) in
           let z : _≡_ {A = ℕ} 0 1 = cc in
@@ -133,6 +134,12 @@ module _ (file : List ℕ) (x : Part) (r : SkipReader) (S : Stands file x r) whe
 
     pub left-full : 128 ≤ r .«remaining_docs»
     left-full = omega (arith, left-is, P .full)
+
+  -- a reader on a full block has its skip entry
+  pub entry-here : {w f n m : ℕ} {s : Bool} → Packed file x (r .block) w s f n m
+      → record { last = r .«last_doc_in_block»; «doc_bits» = w; strict = s; «freq_bits» = f; «norm_code» = n; «freq_code» = m } ≡ skipEntryOf file x (r .block)
+  unfolding skipEntryOf
+  entry-here P = rw (last-here, lt-ltb (r .block) (fullBlocks x) (P .full), P .width-is, P .strict-is, P .freqs-is, P .norm-is, P .freq-is)
 
   -- behind the tail
   module _ (h : fullBlocks x ≤ r .block) where
@@ -186,23 +193,26 @@ module _ (file : List ℕ) (x : Part) (target : ℕ) where
         let e : fullBlocks x - r .block ≡ 0 = omega arith in
         K .stands ∙ sym (ap (readerAt file x) (K .same s ∙ rw e))
 
-    module _ (L : ListIn file x) (h : r .block < fullBlocks x) where
+    module _ (L : ListIn file x) where
       here-is : (s : Scoring) → endOf (listOf s file x) 128 (r .block) ≡ r .«last_doc_in_block»
       here-is s = end-is file x L s (r .block) ∙ sym (last-here file x r (K .stands))
 
-      steps : (s : Scoring) → skipTo (listOf s file x) 128 target (fullBlocks x - r .block) (r .block) ≡ cond (ltb (r .«last_doc_in_block») target) (skipTo (listOf s file x) 128 target (fullBlocks x - suc (r .block)) (suc (r .block))) (r .block)
-      steps s =
+      steps : r .block < fullBlocks x → (s : Scoring) → skipTo (listOf s file x) 128 target (fullBlocks x - r .block) (r .block) ≡ cond (ltb (r .«last_doc_in_block») target) (skipTo (listOf s file x) 128 target (fullBlocks x - suc (r .block)) (suc (r .block))) (r .block)
+      steps h s =
           let e : fullBlocks x - r .block ≡ suc (fullBlocks x - suc (r .block)) = omega arith in
           rw (e, here-is s)
 
       pub found : target ≤ r .«last_doc_in_block» → Sought file x target from r
-      found t s = K .stands ∙ sym (ap (readerAt file x) (K .same s ∙ steps s ∙ rw (le-ltb (r .«last_doc_in_block») target t)))
+      found t = elim (lt-or-ge (r .block) (fullBlocks x)) [
+        | inl h ↦ λ s. K .stands ∙ sym (ap (readerAt file x) (K .same s ∙ steps h s ∙ rw (le-ltb (r .«last_doc_in_block») target t)))
+        | inr h ↦ at-tail h
+      ]
 
-      pub goes-on : r .«last_doc_in_block» < target → (r′ : SkipReader) → r′ ≡ readerAt file x (suc (r .block)) → Seeking file x target from r′
-      goes-on t r′ e =
+      pub goes-on : r .block < fullBlocks x → r .«last_doc_in_block» < target → (r′ : SkipReader) → r′ ≡ readerAt file x (suc (r .block)) → Seeking file x target from r′
+      goes-on h t r′ e =
           let n : r′ .block ≡ suc (r .block) = block-is file x (suc (r .block)) e in
           record {
             stands = stands-on file x (suc (r .block)) e;
             low = omega (arith, L .blocks .skipped .parted .few);
-            same = λ s. rw n (K .same s ∙ steps s ∙ rw (lt-ltb (r .«last_doc_in_block») target t));
+            same = λ s. rw n (K .same s ∙ steps h s ∙ rw (lt-ltb (r .«last_doc_in_block») target t));
           }

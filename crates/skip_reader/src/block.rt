@@ -1,14 +1,15 @@
 // Block loads: the skip reader's block decoded into two lent arrays.
 use crate::skip::BlockInfo;
 use crate::skip::SkipReader;
+use note_blocks::load_packed;
+use note_blocks::load_tail;
+use note_blocks::pad;
 use notefile::block::Block;
 use notefile::block::DOCS;
 use notefile::block::FREQS;
-use notefile::block::load_packed;
-use notefile::block::load_tail;
-use notefile::block::pad;
 use notefile::block::sized;
 use notefile::part::Part;
+use notefile::skip::SkipEntry;
 ghost use Rattle.arrays.specs.Lent.{before, after};
 ghost use Rattle.skip_reader.specs.Inner.Decoded.{Decoded, ListIn};
 ghost use Rattle.skip_reader.specs.Inner.Reader.{Stands};
@@ -23,12 +24,22 @@ pub fn load_block(file: &[u8], x: Part, reader: SkipReader, block: &mut Block)
     let previous = reader.last_doc_in_previous_block;
     match info {
         BlockInfo::BitPacked {
-            doc_bits: _,
-            strict: _,
-            freq_bits: _,
-            norm_code: _,
-            freq_code: _,
-        } => load_packed(file, x, reader.block, at, previous, block),
+            doc_bits,
+            strict,
+            freq_bits,
+            norm_code,
+            freq_code,
+        } => {
+            let e = SkipEntry {
+                last: reader.last_doc_in_block,
+                doc_bits,
+                strict,
+                freq_bits,
+                norm_code,
+                freq_code,
+            };
+            load_packed(file, x, reader.block, at, e, previous, block);
+        }
         BlockInfo::VInt { num_docs } => {
             if num_docs == 0 {
                 sized(block);

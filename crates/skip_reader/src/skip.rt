@@ -120,18 +120,19 @@ impl SkipReader {
         }
     }
 
-    // On to the first block that ends at the target or after it, and no further than the tail.
+    // From a block that ends before the target on to the first that does not, and no further than the tail.
     pub fn seek(self, file: &[u8], x: Part, target: u32) -> SkipReader
-        requires { ⌜ ListIn (now file) x × Stands (now file) x self × (self .block < 4294967296) ⌝ }
+        requires { ⌜ ListIn (now file) x × Stands (now file) x self × (self .block < 4294967296)
+            × (self .«last_doc_in_block» < target) ⌝ }
         ensures { λ r. ⌜ Sought (before file) x target (self .block) r ⌝ }
     {
         let blocks = x.count / 128;
         let mut reader = self;
         while reader.block < blocks {
+            reader = reader.advance(file, x);
             if target <= reader.last_doc_in_block {
                 return reader;
             }
-            reader = reader.advance(file, x);
         }
         reader
     }

@@ -1,3 +1,2 @@
-// A scorer's two rows of numbers, its list's part and its place in the list, and its moves over them.
+// A scorer's two rows of numbers: its list's part, and its place in the list.
 pub mod place;
-pub mod row;

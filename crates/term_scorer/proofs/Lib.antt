@@ -1,6 +1,5 @@
--- Laws of slots: a scorer's moves, scores and bounds, seen from all of them.
+-- Laws of slots: a scorer's moves, its list bound and what is kept of its block bounds, seen from all of them.
 pub mod Slots
-pub mod Scores
-pub mod Made
-pub mod Bounds
+pub mod Tops
+pub mod Kept
 pub mod Floats

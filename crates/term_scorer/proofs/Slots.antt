@@ -9,7 +9,8 @@ use Rattle.route.specs.Cursor.{Cursor, fresh, seekBlockIn}
 use Rattle.bm25.specs.declared.Scoring.{Scoring}
 use Rattle.notefile.specs.declared.part.Part.{Part}
 use Rattle.slot_rows.specs.Inner.Rows.{cursorIn, partIn, partRow, PartRow, MovedRow, ShallowRow, Unkept}
-use Rattle.slot_rows.proofs.Rows.{part-back, stays-shallow}
+use Rattle.slot_rows.proofs.Rows.{part-back}
+use Rattle.slot_moves.proofs.Moves.{stays-shallow}
 use Rattle.term_scorer.specs.Inner.Slots.{Held, Sixteen, SlotIn, StandingIn, cursorAt, held, listAt, partAt, MovedSlot, Shallowed, Opened}
 
 -- the row that was put into a slot

@@ -8,7 +8,6 @@ use slot_rows::place::CUR;
 use slot_rows::place::LAST;
 use slot_rows::place::Places;
 use slot_rows::place::keep_part;
-use slot_rows::row;
 ghost use mathlib.Core.Path.{_≡_};
 ghost use mathlib.Core.List.{[]};
 ghost use Prim.Native.Nat.{_≤_, _<_};
@@ -43,7 +42,7 @@ pub fn open(
         ⌜ Opened (before file) x «max_score» q (before lists) (after lists) old new r ⌝ }
 {
     keep_part(x, max_score, &mut lists[q]);
-    row::open(file, x, &mut places[q], &mut blocks[q])
+    slot_moves::open(file, x, &mut places[q], &mut blocks[q])
 }
 
 // The document that slot q's scorer stands on.
@@ -79,7 +78,7 @@ pub fn seek_block(file: &[u8], lists: &[[usize; 8]; 16], q: usize, target: u32, 
         (λ s. seekBlockIn (listAt s (before file) (before lists) q) 128 target (cursorAt (before places) q))
         (before places) (after places) ⌝ }
 {
-    row::seek_block(file, &lists[q], target, &mut places[q]);
+    slot_moves::seek_block(file, &lists[q], target, &mut places[q]);
 }
 
 // `seek_block` for a loop over scorers: most stay in their block, and this much can stand in the loop.
@@ -123,7 +122,7 @@ pub fn seek(
         (λ s. seekIn (listAt s (before file) (before lists) q) 128 target (cursorAt (before places) q))
         old new r ⌝ }
 {
-    row::seek(file, &lists[q], doc, target, &mut places[q], &mut blocks[q])
+    slot_moves::seek(file, &lists[q], doc, target, &mut places[q], &mut blocks[q])
 }
 
 // On to the next posting.
@@ -143,7 +142,7 @@ pub fn advance(
         (λ s. advanceIn (listAt s (before file) (before lists) q) 128 (cursorAt (before places) q))
         old new r ⌝ }
 {
-    row::advance(file, &lists[q], &mut places[q], &mut blocks[q])
+    slot_moves::advance(file, &lists[q], &mut places[q], &mut blocks[q])
 }
 
 // `advance` for a loop over scorers: most stay in their block, and this much can stand in the loop.
@@ -185,5 +184,5 @@ pub fn load(
         let new = held (after places) (after blocks) in
         ⌜ MovedSlot (before file) (before lists) q (λ _. firstOf (cursorAt (before places) q)) old new r ⌝ }
 {
-    row::load(file, &lists[q], &mut places[q], &mut blocks[q])
+    slot_moves::load(file, &lists[q], &mut places[q], &mut blocks[q])
 }

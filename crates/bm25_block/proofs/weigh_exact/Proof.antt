@@ -7,7 +7,7 @@ use lib.Ieee.{nan}
 use borrow.Author.Needs.{needs}
 use Rattle.arrays.proofs.Filling.{Filling, begun, goes-on, ended}
 use Rattle.bm25.specs.Score.{scoreAt}
-use Rattle.bm25_block.proofs.AtMost.{each-at-most}
+use Rattle.block_norms.proofs.AtMost.{each-at-most}
 use Rattle.bm25_block.proofs.BlockScores.{weighed-one}
 use Rattle.bm25_block.proofs.weigh_exact.Statement.{statement}
 use Rattle.bm25_block.proofs.weigh_exact.Tie as tie

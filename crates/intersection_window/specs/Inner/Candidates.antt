@@ -15,9 +15,9 @@ use Rattle.route.specs.Postings.{Postings, docAt, start}
 use Rattle.route.specs.Cursor.{findIn}
 use Rattle.route.specs.Intersection.{candidatesFrom, tryCandidate}
 use Rattle.route.specs.Inner.Lists.{ListOk}
-use Rattle.term_scorer.specs.Inner.Slots.{Held}
+use Rattle.term_scorer.specs.Inner.Slots.{Held, SameRows}
 use Rattle.term_scorer.specs.Inner.Weights.{BlockScores}
-use Rattle.intersection_window.specs.Inner.Scorers.{Query, secondariesIn, slotAt, SlotsIn, StillKept, Unmoved}
+use Rattle.intersection_window.specs.Inner.Scorers.{Query, secondariesIn, slotAt, SlotsIn, StillKept}
 use Rattle.intersection_window.specs.declared.candidate.Candidate.{Candidate}
 use Rattle.intersection_window.specs.declared.candidate.Candidate.the-variants.{Due, Passed}
 use Rattle.intersection_window.specs.declared.candidate.Posting.{Posting}
@@ -37,7 +37,7 @@ candidateOf t (some total) = cond (f32 .above total t) (Due total) Passed
 -- what the secondaries made of candidate c: they stand where the route's do, and the leader stays
 pub record Tries (x : Query) (c : ℕ) (score t : Float) (rests : List Float) (h h′ : Held) (r : Candidate) : Type 0 where
   pub seated : SlotsIn x h′
-  pub leader : Unmoved (slotAt x 0) h h′
+  pub leader : SameRows h h′ (slotAt x 0)
   pub bounds : StillKept x (h .places) (h′ .places)
   pub secs-are : (bs : List Float) → Rests (x .len) bs rests
       → tryCandidate 128 f32 c t score (secondariesIn x (h .places)) bs .secs ≡ secondariesIn x (h′ .places)

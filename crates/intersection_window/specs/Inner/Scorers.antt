@@ -97,8 +97,3 @@ pub record Ready (x : Query) (h : Held) (bounds : List Float) : Type 0 where
   pub seated : SlotsIn x h
   pub kept : BoundsKept x (h .places) bounds
   pub long : FloatRow bounds
-
--- what stands in slot q is as it was
-pub record Unmoved (q : ℕ) (h h′ : Held) : Type 0 where
-  pub place : getD (h′ .places) q [] ≡ getD (h .places) q []
-  pub block : getD (h′ .blocks) q [] ≡ getD (h .blocks) q []

@@ -1,19 +1,12 @@
--- The answers about a list's skip entries and about a full block.
+-- The answer about a full block.
 use mathlib.Core.Path.{_≡_}
-use mathlib.Core.Bool.{Bool, true, false}
+use mathlib.Core.Bool.{true}
 use mathlib.Core.List.{List}
 use Prim.Native.Nat.{ℕ}
 use Rattle.notefile.specs.Conditions.{blockDocsRight, blockFreqsRight}
 use Rattle.notefile.specs.Inner.Order.{firstOf}
 use Rattle.notefile.specs.Inner.Reads.{docsOf, freqsOf, DocsRead, FreqsRead}
 use Rattle.notefile.specs.declared.part.Part.{Part}
-use Rattle.listcheck.specs.declared.skip.TailPlace.{TailPlace}
-use Rattle.listcheck.specs.declared.skip.TailPlace.the-variants.{At, Wrong}
-
--- where the tail starts, if the skip entries are right
-abbrev pub tailOr : Bool → ℕ → TailPlace
-tailOr true at = At at
-tailOr false at = Wrong
 
 -- what the documents and frequencies of a full block are refused for, of 7 and 8; they stand in the lent block where that is nothing
 pub record PackedRead (file : List ℕ) (x : Part) (b r : ℕ) (block : List (List ℕ)) : Type 0 where

@@ -3,7 +3,7 @@ use mathlib.Core.Path.{_≡_, sym, subst}
 use borrow.Author.Needs.{needs}
 use Rattle.term_scorer.specs.Inner.Slots.{held}
 use Rattle.machine.specs.Inner.Stands.{tables, Tables, StandsIn}
-use Rattle.machine.specs.Inner.Drives.{GoesOn}
+use Rattle.machine.specs.Inner.Goes.{GoesOn}
 use Rattle.machine.specs.declared.Gone.{Gone}
 use Rattle.machine.specs.declared.Machine.{Machine}
 use Rattle.machine.proofs.Going.{intersection-goes, plain-goes, single-goes, union-goes}

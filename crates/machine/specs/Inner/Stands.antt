@@ -8,10 +8,10 @@ use Rattle.route.specs.Cursor.{fresh}
 use Rattle.route.specs.Scorer.{Scorer}
 use Rattle.term_scorer.specs.Inner.Slots.{Held, held, listAt}
 use Rattle.term_scorer.specs.declared.score.Similarity.{Similarity}
-use Rattle.block_wand_single.specs.Inner.Places as one
-use Rattle.block_wand_single.specs.Inner.Stands as scan
-use Rattle.block_wand_union.specs.Inner.Seats.{terms}
-use Rattle.block_wand_union.specs.Inner.Runs as any
+use Rattle.single_hunt.specs.Inner.Places as one
+use Rattle.single_hunt.specs.Inner.Stands as scan
+use Rattle.union_moves.specs.Inner.Seats.{terms}
+use Rattle.union_turn.specs.Inner.Runs as any
 use Rattle.intersection_window.specs.Inner.Scorers.{query}
 use Rattle.block_wand_intersection.specs.Inner.Stands as all
 use Rattle.plain_scan.specs.Inner.Turns.{hitsOf, PlainStands}

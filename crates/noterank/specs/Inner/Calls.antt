@@ -7,9 +7,9 @@ use Rattle.notefile.specs.Refusal.{firstRefusal, fileRefusal}
 use Rattle.notefile.specs.Inner.Order.{orElse}
 use Rattle.reports.specs.Rows.{Rows}
 use Rattle.request.specs.Request.{Request, queryTests}
+use Rattle.arguments.specs.Numbers.{modeAt}
+use Rattle.outcome.specs.declared.Outcome.{Outcome}
 use Rattle.ranking.specs.Answers.{PlainIs, RunIs}
-use Rattle.ranking.specs.declared.outcome.Outcome.{Outcome}
-use Rattle.noterank.specs.Interface.{modeAt}
 
 -- the refusal of a number outside its range, or 0 where there is none
 abbrev pub numbersRefusal : List ℕ → List ℕ → ℕ → ℕ → ℕ → ℕ → ℕ

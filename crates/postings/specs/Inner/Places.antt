@@ -2,11 +2,13 @@
 use mathlib.Core.Path.{_≡_}
 use mathlib.Core.Bool.{true}
 use mathlib.Core.List.{List}
-use Prim.Native.Nat.{ℕ, suc, _+_, _≤_, _<_}
+use Prim.Native.Nat.{ℕ, suc, min, _+_, _≤_, _<_}
+use lib.ListN.{getD}
 use Rattle.route.specs.Postings.{start}
 use Rattle.route.specs.Cursor.{Cursor, docHere}
 use Rattle.bm25.specs.declared.Scoring.{Scoring}
 use Rattle.notefile.specs.Lists.{fullBlocks}
+use Rattle.notefile.specs.Inner.Reads.{docsOf}
 use Rattle.notefile.specs.declared.part.Part.{Part}
 use Rattle.decoded.specs.Lists.{listOf}
 use Rattle.skip_reader.specs.Inner.Decoded.{Decoded}
@@ -23,6 +25,11 @@ pub record Placed (file : List ℕ) (x : Part) (p : SegmentPostings) (block : Li
   pub holds : Decoded file x (p .decoded) block
   pub inside : p .cur < 128
   pub loaded-is : p .«block_loaded» ≡ true → p .decoded ≡ p .«skip_reader» .block
+
+-- the target is behind the posting on which a scorer stands and behind the next: its seek goes by blocks
+pub record Behind (p : SegmentPostings) (block : List (List ℕ)) (target : ℕ) : Type 0 where
+  pub here : getD (docsOf block) (p .cur) 0 < target
+  pub next : getD (docsOf block) (min (suc (p .cur)) 127) 0 < target
 
 -- a scorer's place after a move: where the route's cursor is, whatever the scoring
 pub record Moved (file : List ℕ) (x : Part) (to : Scoring → Cursor) (p : SegmentPostings) (block : List (List ℕ)) : Type 0 where

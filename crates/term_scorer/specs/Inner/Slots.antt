@@ -50,6 +50,11 @@ cursorAt places q = cursorIn (getD places q [])
 abbrev pub lastAt : List (List ℕ) → ℕ → ℕ
 lastAt places q = getD (getD places q []) 3 0
 
+-- what stands in slot q is as it was
+pub record SameRows (h h′ : Held) (q : ℕ) : Type 0 where
+  pub place : getD (h′ .places) q [] ≡ getD (h .places) q []
+  pub block : getD (h′ .blocks) q [] ≡ getD (h .blocks) q []
+
 module _ (file : List ℕ) (lists : List (List ℕ)) where
   -- slot q's list is one of an accepted file, and its skip reader stands in it
   pub record StandingIn (places : List (List ℕ)) (q : ℕ) : Type 0 where

@@ -9,8 +9,8 @@ use borrow.Author.Needs.{needs}
 use Rattle.route.specs.Union.{isOver}
 use Rattle.route.proofs.Cases.{lt-of-ne}
 use Rattle.term_scorer.specs.Inner.Slots.{held, Held}
-use Rattle.block_wand_union.specs.Inner.Seats.{stageOf}
-use Rattle.block_wand_union.specs.Inner.Runs.{placeOf}
+use Rattle.union_turn.specs.Inner.Turns.{stageOf}
+use Rattle.union_turn.specs.Inner.Runs.{placeOf}
 use Rattle.block_wand_union.proofs.Runs.{OnWay, begun, not-false, not-true, over, paused, quiet-turn, reports, stands-on}
 use Rattle.block_wand_union.proofs.walk.go.Statement.{statement}
 use Rattle.block_wand_union.proofs.walk.go.Tie as tie

@@ -8,7 +8,7 @@ use borrow.Author.Needs.{needs}
 use borrow.Author.Tests.{not-true, not-false}
 use Rattle.notefile.specs.Lists.{fullBlocks}
 use Rattle.notefile.specs.Inner.Reads.{docsOf, freqsOf, DocsRead, TailValues, blockRefusal}
-use Rattle.notefile.proofs.TailBlocks.{size-tail, docs-small, freqs-small, docs-tail, freqs-tail}
+use Rattle.note_blocks.proofs.TailBlocks.{size-tail, docs-small, freqs-small, docs-tail, freqs-tail}
 use Rattle.listcheck.proofs.Judged.{docs-wrong, freqs-wrong, freqs-still, docs-both, freqs-both, tail-bounds, bounds-wrong, all-right}
 use Rattle.listcheck.proofs.list.check_tail.Statement.{statement}
 use Rattle.listcheck.proofs.list.check_tail.Tie as tie

@@ -10,7 +10,7 @@ use Rattle.query.specs.Inner.Openings as opening
 use Rattle.machine.specs.Inner.Stands.{tables}
 use Rattle.request.specs.Request.{Request, asked}
 use Rattle.request.proofs.Requests.{Let, let-through}
-use Rattle.ranking.proofs.Beginning.{made-rows}
+use Rattle.beginning.proofs.Beginning.{made-rows}
 use Rattle.ranking.proofs.Finishing.{begun-listed}
 use Rattle.ranking.proofs.answer.answer.Statement.{statement}
 use Rattle.ranking.proofs.answer.answer.Tie as tie

@@ -7,7 +7,8 @@ use lib.ListN.{getD}
 use borrow.Author.Needs.{needs}
 use Rattle.arrays.proofs.Order.{lt-or-ge}
 use Rattle.route.specs.Cursor.{advanceIn}
-use Rattle.slot_rows.proofs.Rows.{advances-in, cur-inside}
+use Rattle.slot_rows.proofs.Rows.{cur-inside}
+use Rattle.slot_moves.proofs.Moves.{advances-in}
 use Rattle.term_scorer.specs.Inner.Slots.{cursorAt, listAt}
 use Rattle.term_scorer.proofs.Slots.{moved-within}
 use Rattle.term_scorer.proofs.slot.step.Statement.{statement}

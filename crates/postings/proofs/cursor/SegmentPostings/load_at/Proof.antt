@@ -6,26 +6,26 @@ use Rattle.postings.proofs.cursor.SegmentPostings.load_at.Statement.{st
 use Rattle.postings.proofs.cursor.SegmentPostings.load_at.Tie as tie
 
 -- the places that the answers look back to
-abbrev start : tie.After-load-arg → tie.Start
-start c = c .before .before
+abbrev start : tie.After-load-block-arg → tie.Start
+start c = c .before .before .before
 
-abbrev load-of : tie.After-search-block-arg → tie.After-load
-load-of c = c .before .before
+abbrev load-of : tie.After-search-block-arg → tie.After-load-block
+load-of c = c .before
 
-load-requires : tie.Need-load-requires
-load-requires c κs = let a = start c in (a .pre .0, a .pre .1)
+load-block-requires : tie.Need-load-block-requires
+load-block-requires c κs = let a = start c in (a .pre .0, a .pre .1 .stands)
 
 index-1-search-block : tie.Need-index-1-search-block
 index-1-search-block c = search needs
 
 search-block-requires : tie.Need-search-block-requires
-search-block-requires c κs = let l = load-of c in let a = start (l .before) in decoded-sorted (a .pre .0) (l .load .ensures)
+search-block-requires c κs = let l = load-of c in let a = start (l .before) in decoded-sorted (a .pre .0) (l .load-block .ensures)
 
 returns : tie.Need-returns
 returns c =
     let l = load-of (c .before) in
     let a = start (l .before) in
-    lands (a .pre .0) (a .args .self) (a .pre .1) (l .load .ensures) (a .args .target) (a .pre .2) (c .search-block .ensures)
+    lands (a .pre .0) (a .args .self) (a .pre .1) (l .load-block .ensures) (a .args .target) (a .pre .2) (c .search-block .ensures)
 
 pub load-at-spec : {M : Type 1} → statement M
-load-at-spec = tie.close (tie.spec load-requires index-1-search-block search-block-requires returns)
+load-at-spec = tie.close (tie.spec load-block-requires index-1-search-block search-block-requires returns)

@@ -1,0 +1,2 @@
+-- What the contracts of `arguments` cite.
+pub mod Numbers

@@ -1,0 +1,3 @@
+-- Laws of a run as it begins.
+pub mod Queries
+pub mod Beginning

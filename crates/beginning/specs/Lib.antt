@@ -1,0 +1,2 @@
+-- What the contracts of `beginning` cite.
+pub mod Inner

@@ -1,0 +1,2 @@
+-- What the contracts of `block_cover` cite.
+pub mod Inner

@@ -1,0 +1,2 @@
+-- What the contracts of `block_norms` cite.
+pub mod Inner

@@ -1,0 +1,2 @@
+-- Laws of the loop that drives the machine.
+pub mod Driving

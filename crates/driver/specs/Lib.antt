@@ -1,0 +1,2 @@
+-- What the contracts of `driver` cite.
+pub mod Inner

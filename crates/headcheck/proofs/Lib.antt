@@ -1,0 +1,2 @@
+-- What the tests of the entries find.
+pub mod Entries

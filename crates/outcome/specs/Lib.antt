@@ -1,0 +1,3 @@
+-- What the contracts of `outcome` cite.
+pub mod Outcomes
+pub mod Inner

@@ -1,0 +1,2 @@
+-- What the contracts of `single_hunt` cite.
+pub mod Inner

@@ -1,0 +1,4 @@
+-- Laws of the walk over a block.
+pub mod Seeking
+pub mod BlockTurns
+pub mod Walking

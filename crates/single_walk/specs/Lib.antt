@@ -1,0 +1,2 @@
+-- What the contracts of `single_walk` cite.
+pub mod Inner

@@ -1,0 +1,2 @@
+-- What the test of a list's skip entries finds.
+pub mod SkipTests

@@ -1,0 +1,2 @@
+-- What the contracts of `skipcheck` cite.
+pub mod Inner

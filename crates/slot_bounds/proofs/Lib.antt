@@ -1,0 +1,2 @@
+-- Laws of block bounds by slot.
+pub mod Bounds

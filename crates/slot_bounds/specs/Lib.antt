@@ -1,0 +1,2 @@
+-- What the contracts of `slot_bounds` cite.
+pub mod Inner

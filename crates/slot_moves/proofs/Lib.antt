@@ -1,0 +1,2 @@
+-- Laws of a row's moves.
+pub mod Moves

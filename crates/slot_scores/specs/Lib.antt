@@ -1,0 +1,2 @@
+-- What the contracts of `slot_scores` cite.
+pub mod Inner

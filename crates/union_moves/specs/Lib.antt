@@ -1,0 +1,2 @@
+-- What the contracts of `union_moves` cite.
+pub mod Inner

@@ -1,0 +1,2 @@
+-- What the contracts of `union_pivot` cite.
+pub mod Inner

@@ -1,0 +1,2 @@
+-- What the contracts of `union_turn` cite.
+pub mod Inner
