@@ -2,10 +2,10 @@
 use mathlib.Core.Path.{_≡_, sym, ap, _∙_, subst}
 use mathlib.Core.List.{List}
 use Prim.Native.Nat.{ℕ, zero, suc, _+_, _-_, _*_, _/_, _%_, _^_, _≤_, _<_}
-use native.Mathlib.Nat.{mul-comm, mul-assoc, add-zero, zero-add, one-mul, add-comm, add-mul, add-mul-div-left, add-mul-mod-self-left, mul-le-mul-right, mod-one, mod-lt, mod-eq-of-lt, lt-of-lt-of-le, suc-add, le-trans, le-of-eq}
+use native.Mathlib.Nat.{mul-comm, mul-assoc, add-zero, zero-add, add-comm, add-mul-div-left, add-mul-mod-self-left, mod-lt, mod-eq-of-lt, lt-of-lt-of-le, suc-add}
 use native.Mathlib.Omega.{arith}
 use lib.ListN.{getD}
-use lib.Pow.{pow-add, pow-pos, pow-mono, shr-lt, shr-shr, mod-pow-add, mod-mod-pow, high, low}
+use lib.Pow.{pow-add, pow-pos, pow-mono, shr-lt, mod-pow-add, mod-mod-pow, high, low}
 use lib.Bits.{bitAnd, bitOr, or-shifted-r, and-mask}
 use Rattle.codec.specs.Bits.{wordAt}
 use Rattle.bitpacker.specs.Packed.{laneAt, packedAt}

@@ -2,9 +2,9 @@
 use mathlib.Core.Path.{_≡_, refl, sym, ap, _∙_, subst}
 use mathlib.Core.List.{List}
 use Prim.Native.Nat.{ℕ, zero, suc, _+_, _-_, _*_, _/_, _%_, _^_, _≤_, _<_}
-use native.Mathlib.Nat.{add-zero, add-comm, mul-comm, one-mul, add-mul, mul-le-mul-right, mod-one, not-suc-le-zero}
+use native.Mathlib.Nat.{add-zero, add-comm, mul-comm, one-mul, add-mul, mul-le-mul-right, mod-one}
 use native.Mathlib.Omega.{arith}
-use lib.ListN.{length, getD, getD-replicate, replicate}
+use lib.ListN.{getD, getD-replicate, replicate}
 use lib.Bits.{bitAnd}
 use lib.Pow.{shl-exact, shr-shr, high}
 use Rattle.arrays.proofs.Filling.{Filling, goes-on4}

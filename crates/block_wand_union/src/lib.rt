@@ -4,7 +4,7 @@ pub mod walk;
 use ordering::Scorers;
 use ordering::sort_by_doc;
 use reports::Event;
-use slot_order::structs::keep_order;
+use slot_pivot::structs::keep_order;
 use union_turn::Stage;
 use union_turn::Union;
 ghost use Prim.Native.Nat.{_≤_};

@@ -1,4 +1,5 @@
 // A window: all skip readers on the blocks that may hold a document, and the bounds of these blocks against the threshold.
+use slot_bounds::block_max;
 use slot_bounds::new_block_max;
 use slot_rows::place::Blocks;
 use slot_rows::place::Places;
@@ -74,16 +75,7 @@ fn gather(
             };
         }
         window_end = least(window_end, slot::last_doc_in_block(q, places));
-        let bound = slot_bounds::block_max(
-            file,
-            similarity,
-            lists,
-            norms,
-            q,
-            places,
-            blocks,
-            bounds,
-        );
+        let bound = block_max(file, similarity, lists, norms, q, places, blocks, bounds);
         block_max_sum = block_max_sum + bound;
         i += 1;
     }

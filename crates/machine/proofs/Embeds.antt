@@ -1,16 +1,14 @@
 -- A mode's turns are the machine's, and a route that the machine runs leaves the same list.
-use mathlib.Core.Path.{_≡_, refl, sym, ap, subst, _∙_}
-use mathlib.Core.Bool.{Bool, true, false}
+use mathlib.Core.Path.{_≡_, refl, sym, ap, _∙_}
+use mathlib.Core.Bool.{Bool}
 use mathlib.Core.List.{List}
 use mathlib.Core.Option.{Option}
-use Prim.Native.Nat.{ℕ, zero, suc, _≤_, _<_}
-use native.Mathlib.Omega.{arith}
+use Prim.Native.Nat.{ℕ, zero, suc}
 use lib.Ieee.{Float}
 use Rattle.route.specs.Report.{Callback, reported}
 use Rattle.route.specs.F32.{f32}
-use Rattle.route.specs.Postings.{Postings}
 use Rattle.route.specs.Scorer.{Scorer}
-use Rattle.route.specs.Route.{Ends, Route, Run, Turn, after, quiet}
+use Rattle.route.specs.Route.{Ends, Route, Run, Turn, after}
 use Rattle.route.specs.Single.{blockWandSingleScorer}
 use Rattle.route.specs.Union.{pivotRoute}
 use Rattle.route.specs.Intersection.{leaderRoute}

@@ -14,7 +14,6 @@ use union_turn::Union;
 ghost use mathlib.Core.Path.{_≡_};
 ghost use Rattle.arrays.specs.Lent.{before, after};
 ghost use Rattle.notefile.specs.Header.{normReader};
-ghost use Rattle.term_scorer.specs.Inner.Slots.{held};
 ghost use Rattle.machine.specs.declared.Machine.the-variants as variant;
 ghost use Rattle.machine.specs.Inner.Stands.{tables, StandsIn};
 ghost use Rattle.machine.specs.Inner.Goes.{GoesOn};

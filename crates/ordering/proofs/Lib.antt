@@ -16,3 +16,4 @@ pub mod Turns
 pub mod Moving
 pub mod Aligning
 pub mod UnionTurns
+pub mod Rows

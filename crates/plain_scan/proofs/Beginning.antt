@@ -20,8 +20,9 @@ use Rattle.slot_rows.proofs.Rows.{cur-inside, doc-in-array}
 use Rattle.term_scorer.specs.Inner.Slots.{Held, listAt, listsFrom}
 use Rattle.query.specs.Inner.Openings.{Tables, QueryOpened}
 use Rattle.query.proofs.Opening as opening
-use Rattle.plain_scan.specs.Inner.Found.{foundOf, hitIn}
-use Rattle.plain_scan.specs.Inner.Heads.{HeadsOf, PlaceRead, RestsFrom, Standing}
+use Rattle.scan_heads.specs.Inner.Found.{foundOf, hitIn}
+use Rattle.scan_heads.specs.Inner.Heads.{HeadsOf, PlaceRead}
+use Rattle.plain_scan.specs.Inner.Heads.{RestsFrom, Standing}
 use Rattle.plain_scan.specs.Inner.Turns.{hitsOf, needsAll, PlainStands}
 use Rattle.plain_scan.specs.declared.Plain.{Plain}
 use Rattle.plain_scan.proofs.Slots.{ok}

@@ -1,5 +1,4 @@
 -- Laws of the plain scan that belong to no one function.
-pub mod Heading
 pub mod Sums
 pub mod Slots
 pub mod Taking

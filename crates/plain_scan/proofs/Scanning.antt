@@ -1,6 +1,6 @@
 -- Documents upward: those before the least are in no list, and the least one is taken as the route's turn says.
 use mathlib.Core.Path.{_≡_, refl, sym, ap, _∙_, subst}
-use mathlib.Core.Bool.{Bool, true, false, false≢true, cond}
+use mathlib.Core.Bool.{Bool, true, false, false≢true}
 use mathlib.Core.List.{List, [], _++_}
 use mathlib.Core.Option.{Option, none, some}
 use Prim.Native.Nat.{ℕ, zero, suc, _+_, _-_, _≤_, _<_}
@@ -22,13 +22,14 @@ use Rattle.reports.specs.declared.Event.the-variants.{Over, Paused, Report}
 use Rattle.reports.proofs.TurnLaws.{Quietly, and-then, at-end, at-pause, at-report, none-yet, one-more}
 use Rattle.notefile.specs.Header.{documents}
 use Rattle.term_scorer.specs.Inner.Slots.{Held, SlotIn, listAt, listsFrom}
-use Rattle.plain_scan.specs.Inner.Found.{dueIn, foundOf, hitIn, matchesIn}
-use Rattle.plain_scan.specs.Inner.Heads.{leastIn, Standing, Taken}
+use Rattle.scan_heads.specs.Inner.Found.{dueIn, foundOf, hitIn, matchesIn}
+use Rattle.scan_heads.specs.Inner.Heads.{leastIn}
+use Rattle.scan_heads.specs.declared.Found.{Found}
+use Rattle.scan_heads.proofs.Heading.{least-above, least-cap, least-low}
+use Rattle.plain_scan.specs.Inner.Heads.{Standing, Taken}
 use Rattle.plain_scan.specs.Inner.Turns.{dueFor, goneTo, hitsOf, scanTurn, GoneOn, PlainStands}
 use Rattle.plain_scan.specs.declared.Gone.{Gone}
 use Rattle.plain_scan.specs.declared.Plain.{Plain}
-use Rattle.plain_scan.specs.declared.Found.{Found}
-use Rattle.plain_scan.proofs.Heading.{least-above, least-cap, least-low}
 use Rattle.plain_scan.proofs.Slots.{absent, ok, raised}
 use Rattle.plain_scan.proofs.Beginning.{at-rest}
 

@@ -14,7 +14,7 @@ use Rattle.route.specs.Score.{sumFrom}
 use Rattle.route.specs.Postings.{Postings}
 use Rattle.route.specs.Plain.{Mode, union, intersection, single, present, totalOf, allOf, hit}
 use Rattle.route.proofs.Hits.{Every, e-all, e-not, every}
-use Rattle.plain_scan.specs.Inner.Found.{foundOf, withScore, hitIn}
+use Rattle.scan_heads.specs.Inner.Found.{foundOf, withScore, hitIn}
 use Rattle.plain_scan.specs.Inner.Turns.{needsAll}
 
 sum-snoc : (acc : Float) (xs : List Float) (x : Float) → sumFrom f32 acc (xs ++ (x ∷ [])) ≡ f32 .add (sumFrom f32 acc xs) x

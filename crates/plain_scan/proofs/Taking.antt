@@ -15,9 +15,9 @@ use Rattle.route.specs.Postings.{scoreOf}
 use Rattle.route.proofs.Cases.{lt-of-ne}
 use Rattle.bm25.specs.declared.Scoring.{Scoring}
 use Rattle.term_scorer.specs.Inner.Slots.{Held, Sixteen, MovedSlot, listAt, cursorAt, listsFrom}
-use Rattle.plain_scan.specs.Inner.Found.{foundOf, withScore}
+use Rattle.scan_heads.specs.Inner.Found.{foundOf, withScore}
+use Rattle.scan_heads.specs.declared.Found.{Found}
 use Rattle.plain_scan.specs.Inner.Heads.{StandsFrom, Standing, Taken}
-use Rattle.plain_scan.specs.declared.Found.{Found}
 use Rattle.plain_scan.proofs.Sums.{found-snoc}
 use Rattle.plain_scan.proofs.Slots.{raised, absent, has, goes-on, unmoved}
 

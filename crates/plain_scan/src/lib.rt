@@ -1,6 +1,9 @@
 // The plain scan: every document that some list has, upward, with the scores of all lists that have it.
 use notefile::block::TERMINATED;
 use reports::Event;
+use scan_heads::Found;
+use scan_heads::heads_of;
+use scan_heads::least;
 use slot_rows::place::Blocks;
 use slot_rows::place::Places;
 use slot_scores::score;
@@ -11,8 +14,7 @@ ghost use Prim.Native.Nat.{_≤_, _<_};
 ghost use Rattle.arrays.specs.Lent.{before, after};
 ghost use Rattle.notefile.specs.Header.{normReader};
 ghost use Rattle.term_scorer.specs.Inner.Slots.{held};
-ghost use Rattle.plain_scan.specs.Inner.Found.{dueIn, withScore};
-ghost use Rattle.plain_scan.specs.Inner.Heads.{leastIn, AllWeighed, HeadsOf, PlaceRead, Standing, Taken};
+ghost use Rattle.plain_scan.specs.Inner.Heads.{AllWeighed, Standing, Taken};
 ghost use Rattle.plain_scan.specs.Inner.Turns.{goneTo, GoneOn, PlainStands};
 
 // A plain scan on its way: over the lists of the first slots, from document doc on; whether a document must be in every list.
@@ -27,79 +29,6 @@ pub struct Gone {
     pub plain: Plain,
     pub taken: usize,
     pub event: Event,
-}
-
-// What the lists have of a document: how many have it, and the sum of its scores there.
-struct Found {
-    matched: usize,
-    total: f32,
-}
-
-impl Found {
-    // One more list has the document. The first score is the sum; each later one is added to it.
-    fn with(self, score: f32) -> Self
-        requires { ⌜ self .matched < 18446744073709551615 ⌝ }
-        ensures { λ r. ⌜ r ≡ withScore self score ⌝ }
-    {
-        let matched = self.matched + 1;
-        if self.matched == 0 {
-            return Found {
-                matched,
-                total: score,
-            };
-        }
-        Found {
-            matched,
-            total: self.total + score,
-        }
-    }
-
-    // Whether the document is to be reported: it matches, and its sum is above the threshold.
-    fn due(self, all: bool, n: usize, threshold: f32) -> bool
-        ensures { λ r. ⌜ r ≡ dueIn all n self threshold ⌝ }
-    {
-        if self.matched == 0 {
-            return false;
-        }
-        if all {
-            if self.matched != n {
-                return false;
-            }
-            return self.total > threshold;
-        }
-        self.total > threshold
-    }
-}
-
-// The documents on which the first n scorers stand.
-fn heads_of(n: usize, places: &Places, blocks: &Blocks) -> [u32; 16]
-    requires { ⌜ (n ≤ 16) × PlaceRead (now places) n ⌝ }
-    ensures { λ r. ⌜ HeadsOf (before places) (before blocks) n r ⌝ }
-{
-    let mut heads = [TERMINATED; 16];
-    let mut q = 0usize;
-    while q < n {
-        heads[q] = slot::doc(q, places, blocks);
-        q += 1;
-    }
-    heads
-}
-
-// The least document on which one of the first n scorers stands.
-fn least(heads: &[u32; 16], n: usize) -> u32
-    requires { ⌜ n ≤ 16 ⌝ }
-    ensures { λ r. ⌜ r ≡ leastIn (before heads) n ⌝ }
-{
-    let mut doc = TERMINATED;
-    let mut q = 0usize;
-    while q < n {
-        let head = heads[q];
-        q += 1;
-        if head < doc {
-            doc = head;
-        }
-    }
-    doc
 }
 
 // What the lists have of document doc, in slot order. Each scorer that stands on it goes on.

@@ -1,8 +1,4 @@
--- Laws of the text.
-pub mod Putting
-pub mod Decimals
-pub mod InSteps
-pub mod Lines
+-- Laws of what is printed.
 pub mod Scores
 pub mod Rendered
 pub mod Worked

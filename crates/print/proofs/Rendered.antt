@@ -30,8 +30,9 @@ use Rattle.outcome.specs.declared.Outcome.{Outcome}
 use Rattle.ranking.specs.Answers.{answer, Answered, RunIs}
 use Rattle.ranking.specs.Demand.{rowsIn, resultOf, Given}
 use Rattle.ranking.proofs.Demand.{run-plain, given-of, rows-are}
-use Rattle.print.specs.Text.{text, numbersFrom, stepped, allLists, printed, firstLine, reportsWord, refusedWord, lines}
-use Rattle.print.specs.Inner.Putting.{Put, Ready, textOf}
+use Rattle.print_text.specs.Text.{text, firstLine, reportsWord, refusedWord, lines}
+use Rattle.print_text.specs.Inner.Putting.{Put, Ready, textOf}
+use Rattle.print.specs.Printed.{numbersFrom, stepped, allLists, printed}
 use Rattle.print.proofs.Scores.{answered-on, each-on}
 
 -- ---- the query

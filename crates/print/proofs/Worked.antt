@@ -18,7 +18,8 @@ use Rattle.notefile.specs.Refusal.{fileRefusal}
 use Rattle.decoded.specs.Lists.{listOf, queried}
 use Rattle.request.specs.Request.{refusalOf}
 use Rattle.cases.specs.Table.{small}
-use Rattle.print.specs.Text.{decimal, reportsWord, refusedWord, newline, printed}
+use Rattle.print_text.specs.Text.{decimal, reportsWord, refusedWord, newline}
+use Rattle.print.specs.Printed.{printed}
 
 -- `0` and `362477`
 pub zero-digits : decimal 0 ≡ 48 ∷ []

@@ -1,3 +1,2 @@
 -- What the contracts of `print` cite: the text that it prints of a file.
-pub mod Text
-pub mod Inner
+pub mod Printed

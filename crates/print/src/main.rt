@@ -1,7 +1,5 @@
 // Reads a note file on standard input, ranks all its lists by a stepped union from 0, and prints the reports, or the refusal's number.
 mod render;
-mod rows;
-mod text;
 
 use crate::render::ROOM;
 use crate::render::render;

@@ -6,7 +6,6 @@ use notefile::header::read_header;
 use rule::Rule;
 use rule::rule_right;
 ghost use mathlib.Core.Path.{_≡_};
-ghost use lib.ListN.{length};
 ghost use Rattle.arrays.specs.Lent.{before};
 ghost use Rattle.notefile.specs.Refusal.{firstRefusal};
 ghost use Rattle.request.specs.Request.{asked, numbersRight, countRight, queryRight, queryTests, refusalOf};

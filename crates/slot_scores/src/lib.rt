@@ -1,5 +1,4 @@
 // Scores by slot: of the posting that a scorer stands on, and of the block that it decoded last.
-use fieldnorm::FieldNormReader;
 use notefile::block::DOCS;
 use notefile::block::FREQS;
 use notefile::skip::read_skip_entry;

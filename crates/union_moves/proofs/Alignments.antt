@@ -22,8 +22,8 @@ use Rattle.ordering.proofs.Moving.{all-same, slots-length}
 use Rattle.ordering.proofs.Aligning.{Aligning, aligning, aligns, all-aligned, misses}
 use Rattle.ordering.proofs.Places.{all-at}
 use Rattle.term_scorer.specs.Inner.Slots.{cursorAt, Held, listAt, MovedSlot}
-use Rattle.slot_order.specs.Inner.Rows.{Readable, docAt}
-use Rattle.slot_order.proofs.Rows.{map-at}
+use Rattle.ordering.specs.Inner.Rows.{Readable, docAt}
+use Rattle.ordering.proofs.Rows.{map-at}
 use Rattle.union_moves.specs.Inner.Seats.{Carried, Lined, Stand, scorerAt, termAt, termsOf}
 use Rattle.union_moves.specs.Inner.Moves.{OnPivot, PastPivot}
 use Rattle.union_moves.proofs.Seats.{carried-kept, carried-move, carried-refl, carried-trans, moved-stand, same-doc, same-off, scorer-is}

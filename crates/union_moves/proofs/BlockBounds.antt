@@ -1,11 +1,10 @@
 -- `seek_blocks`' loop: one skip reader after the other seeks the pivot, and its block's bound is added.
 use mathlib.Core.List.{List, map, [], _++_, _∷_}
 use mathlib.Core.Path.{ap, refl, subst, sym, _∙_, _≡_}
-use Prim.Native.Nat.{ℕ, _+_, _<_, _≤_}
+use Prim.Native.Nat.{ℕ, _+_, _<_}
 use native.Mathlib.Numerals.{add-one}
-use native.Mathlib.Omega.{arith}
-use lib.ListN.{getD, length, length-take, set, take}
-use lib.Seq.{drop-cons, getD-take, set-getD, take-suc}
+use lib.ListN.{getD, length, set, take}
+use lib.Seq.{drop-cons, set-getD, take-suc}
 use lib.Ieee.{Float}
 use Rattle.arrays.specs.Every.{All}
 use Rattle.route.specs.Score.{sumFrom}

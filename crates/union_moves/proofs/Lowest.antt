@@ -31,8 +31,9 @@ use Rattle.slot_rows.specs.Inner.Rows.{cursorIn}
 use Rattle.slot_rows.proofs.Rows.{last-is, last-small}
 use Rattle.term_scorer.specs.Inner.Slots.{cursorAt, Held, lastAt, listAt, partAt, MovedSlot}
 use Rattle.term_scorer.specs.Inner.Weights.{TopKept}
-use Rattle.slot_order.specs.Inner.Rows.{Readable, termIn}
-use Rattle.slot_order.proofs.Rows.{map-at}
+use Rattle.ordering.specs.Inner.Rows.{Readable}
+use Rattle.slot_pivot.specs.Inner.Terms.{termIn}
+use Rattle.ordering.proofs.Rows.{map-at}
 use Rattle.union_moves.specs.Inner.Seats.{Carried, Lined, Stand, scorerAt, termAt, termsOf}
 use Rattle.union_moves.specs.Inner.Moves.{LastRead, OneOn, leastLastOf}
 use Rattle.union_moves.proofs.Seats.{carried-kept, carried-move, carried-trans, fair, moved-stand, same-doc, same-off, scorer-is}

@@ -14,17 +14,17 @@ use Rattle.route.proofs.Lists.{all-imp, perm-eq}
 use Rattle.bm25.specs.declared.Scoring.{Scoring}
 use Rattle.ordering.specs.Inner.Scorers.{Apart, noScorer}
 use Rattle.term_scorer.specs.declared.TermScorer.{TermScorer}
-use Rattle.ordering.proofs.Kept.{Kept, Off, kept-all, kept-apart, slots-all, slots-apart}
+use Rattle.ordering.proofs.Kept.{Kept, Off, kept-all, kept-apart, slots-apart}
 use Rattle.ordering.proofs.OnRoute.{Fair, SameDoc}
 use Rattle.ordering.proofs.Places.{all-at}
 use Rattle.ordering.proofs.Turns.{SameOff, replaced-all, replaced-slots}
 use Rattle.skip_reader.specs.Inner.Decoded.{docIn, doc-is}
-use Rattle.slot_rows.specs.Inner.Rows.{cursorIn, PlaceIn}
+use Rattle.slot_rows.specs.Inner.Rows.{cursorIn}
 use Rattle.term_scorer.specs.Inner.Slots.{Held, MovedSlot, SameRows, Shallowed, Sixteen, StandingIn, cursorAt, held, listAt, partAt}
-use Rattle.term_scorer.specs.Inner.Weights.{FloatRows, KeptBounds}
+use Rattle.term_scorer.specs.Inner.Weights.{FloatRows}
 use Rattle.slot_bounds.specs.Inner.Bounds.{Bounded, SameCells}
-use Rattle.term_scorer.proofs.Kept.{kept-moved, kept-row}
-use Rattle.slot_bounds.proofs.Bounds.{bounded-cursor, bounded-kept, bounded-off, bounded-place, bounded-scores, bounded-sixteen, kept-bounded, kept-same, kept-still}
+use Rattle.term_scorer.proofs.Kept.{kept-row}
+use Rattle.slot_bounds.proofs.Bounds.{bounded-cursor, bounded-off, bounded-sixteen, kept-bounded, kept-still}
 use Rattle.term_scorer.proofs.Floats.{rows-set}
 use Rattle.term_scorer.proofs.Slots as slots
 use Rattle.union_moves.specs.Inner.Seats.{Carried, MaxScoreAt, Seat, Seated, Stand, Terms, scorerAt, terms}

@@ -5,10 +5,10 @@ use Prim.Native.Nat.{ℕ, zero, suc, _≤_, _<_}
 use native.Mathlib.Omega.{arith}
 use lib.ListN.{getD, length, set, take}
 use lib.Seq.{take-take}
-use lib.Ieee.{Float, nan}
+use lib.Ieee.{Float}
 use Rattle.arrays.specs.Every.{All}
 use Rattle.route.specs.Cursor.{Cursor}
-use Rattle.route.proofs.Lists.{all-imp, all-map}
+use Rattle.route.proofs.Lists.{all-imp}
 use Rattle.bm25.specs.declared.Scoring.{Scoring}
 use Rattle.ordering.specs.declared.Pivot.{Pivot}
 use Rattle.ordering.specs.Inner.Pivots.{pivotOf}
@@ -22,7 +22,8 @@ use Rattle.slot_rows.specs.Inner.Rows.{cursorIn, postingsIn}
 use Rattle.slot_rows.proofs.Rows.{doc-in-array}
 use Rattle.term_scorer.specs.Inner.Slots.{cursorAt, Held, listAt, partAt, MovedSlot}
 use Rattle.term_scorer.specs.Inner.Weights.{topAt, TopKept, TopRead}
-use Rattle.slot_order.specs.Inner.Rows.{Readable, docAt, termIn}
+use Rattle.ordering.specs.Inner.Rows.{Readable, docAt}
+use Rattle.slot_pivot.specs.Inner.Terms.{termIn}
 use Rattle.union_moves.specs.Inner.Seats.{Lined, MaxScoreAt, Seat, Seated, Stand, Terms, termAt, termsOf}
 use Rattle.union_moves.proofs.Seats.{others-rows}
 

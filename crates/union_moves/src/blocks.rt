@@ -1,4 +1,5 @@
 // The blocks that may hold the pivot, and the sum of their bounds.
+use slot_bounds::block_max;
 use slot_rows::place::Blocks;
 use slot_rows::place::Places;
 use term_scorer::BOUNDS;
@@ -46,7 +47,7 @@ pub fn seek_blocks(
         let q = order[i];
         slot::shallow_seek(file, lists, q, pivot_doc, places);
         sum = sum
-            + slot_bounds::block_max(
+            + block_max(
                 file,
                 similarity,
                 lists,

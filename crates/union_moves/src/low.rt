@@ -1,10 +1,10 @@
 // Past blocks that are too low: one scorer goes on.
 use notefile::block::TERMINATED;
 use ordering_lent::restored;
-use slot_order::pivot::least_doc;
-use slot_order::pivot::scorer_to_seek;
-use slot_order::structs::in_order;
-use slot_order::structs::keep_order;
+use slot_pivot::pivot::least_doc;
+use slot_pivot::pivot::scorer_to_seek;
+use slot_pivot::structs::in_order;
+use slot_pivot::structs::keep_order;
 use slot_rows::place::Blocks;
 use slot_rows::place::Places;
 use term_scorer::slot;

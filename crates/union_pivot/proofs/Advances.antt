@@ -25,8 +25,8 @@ use Rattle.ordering.proofs.Turns.{advanced-on-route}
 use Rattle.ordering.proofs.Moving.{moved-all, moves, moving}
 use Rattle.notefile.specs.Lists.{fullBlocks}
 use Rattle.term_scorer.specs.Inner.Slots.{cursorAt, Held, listAt, partAt, MovedSlot}
-use Rattle.slot_order.specs.Inner.Rows.{docAt}
-use Rattle.slot_order.proofs.Rows.{map-at}
+use Rattle.ordering.specs.Inner.Rows.{docAt}
+use Rattle.ordering.proofs.Rows.{map-at}
 use Rattle.union_moves.specs.Inner.Seats.{Carried, Inside, Lined, Stand, scorerAt, termAt, termsOf}
 use Rattle.union_pivot.specs.Inner.Advances.{Advanced}
 use Rattle.union_moves.proofs.Seats.{carried-kept, carried-move, carried-refl, carried-trans, same-doc, same-off, scorer-is}

@@ -3,6 +3,7 @@ use slot_order::restore::sort_by_doc;
 use slot_order::restore::sweep;
 use slot_rows::place::Blocks;
 use slot_rows::place::Places;
+use slot_scores::kept_score;
 use term_scorer::Floats;
 use term_scorer::score::Leg;
 use term_scorer::slot;
@@ -59,16 +60,7 @@ pub fn score_on_pivot(
     let mut i = 0usize;
     while i < pivot_len {
         let q = order[i];
-        let score = slot_scores::kept_score(
-            file,
-            similarity,
-            lists,
-            norms,
-            q,
-            places,
-            blocks,
-            floats,
-        );
+        let score = kept_score(file, similarity, lists, norms, q, places, blocks, floats);
         sum = sum + score;
         i += 1;
     }

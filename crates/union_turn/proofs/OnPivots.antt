@@ -1,11 +1,11 @@
 -- At a pivot: scorers that all came to it can be scored and go on, and what the step leaves is the route's.
 use mathlib.Core.Bool.{Bool, false, true}
-use mathlib.Core.List.{List, map, [], _++_, _∷_}
+use mathlib.Core.List.{List, map, [], _++_}
 use mathlib.Core.Option.{some}
 use mathlib.Core.Path.{ap, refl, subst, sym, _∙_, _≡_}
 use Prim.Native.Nat.{ℕ, _-_, _<_, _≤_}
 use native.Mathlib.Omega.{arith}
-use lib.ListN.{drop, getD, length, length-map, length-take, take, take-append-drop}
+use lib.ListN.{drop, getD, length-map, length-take, take, take-append-drop}
 use lib.Seq.{take-take}
 use lib.Ieee.{Float}
 use Rattle.arrays.specs.Every.{All}

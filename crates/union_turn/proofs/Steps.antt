@@ -27,7 +27,7 @@ use Rattle.ordering.proofs.Moving.{moved-all}
 use Rattle.ordering.proofs.UnionTurns.{called-turn, high-turn, low-turn, nowhere-turn}
 use Rattle.notefile.specs.Header.{documents}
 use Rattle.term_scorer.specs.Inner.Slots.{Held, Sixteen}
-use Rattle.union_moves.specs.Inner.Seats.{Carried, Inside, Lined, MaxScoreAt, Seat, Seated, Stand, Terms, scorerAt, termAt, terms, termsOf}
+use Rattle.union_moves.specs.Inner.Seats.{Inside, Lined, MaxScoreAt, Seat, Seated, Stand, Terms, scorerAt, termAt, terms, termsOf}
 use Rattle.union_moves.specs.Inner.Moves.{BlocksSought, TooLow}
 use Rattle.union_pivot.specs.Inner.Advances.{AdvancedAll}
 use Rattle.union_turn.specs.Inner.Turns.{AtPivot, Does, Pivoted, ToPivot, Turned, quietStep, placeIn}

@@ -1,6 +1,6 @@
 // One turn of `block_wand`'s loop, which ends at its report: before one, or behind one, the turn is the rest.
 use ordering::Pivot;
-use slot_order::pivot::find_pivot_doc;
+use slot_pivot::pivot::find_pivot_doc;
 use slot_rows::place::Blocks;
 use slot_rows::place::Places;
 use term_scorer::Floats;

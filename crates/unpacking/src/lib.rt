@@ -4,7 +4,7 @@
 use bitpacker::copy;
 use bitpacker::eight;
 ghost use mathlib.Core.Path.{_≡_};
-ghost use Prim.Native.Nat.{_+_, _*_, _≤_, _<_};
+ghost use Prim.Native.Nat.{_+_, _*_, _≤_};
 ghost use lib.ListN.{length};
 ghost use Rattle.arrays.specs.Lent.{before, after};
 ghost use Rattle.bitpacker.specs.Inner.Rows.{First, InBytes, Unpacked};

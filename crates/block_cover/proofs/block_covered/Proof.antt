@@ -2,7 +2,6 @@
 use mathlib.Core.Path.{_≡_}
 use mathlib.Core.Bool.{true, false}
 use mathlib.Core.Logic.{_⊎_, inl, inr, ⊎-elim}
-use native.Mathlib.Omega.{arith}
 use lib.Ieee.{lt}
 use borrow.Author.Needs.{needs}
 use Rattle.block_cover.proofs.BoundTests.{block-read}

@@ -3,10 +3,7 @@ use mathlib.Core.Path.{_≡_, refl, ap, _∙_}
 use mathlib.Core.Logic.{inl, inr, ⊎-elim}
 use Prim.Native.Nat.{_-_, _≤_}
 use native.Mathlib.Omega.{arith}
-use lib.ListN.{getD}
-use borrow.Author.Tests.{leb-true}
 use borrow.Author.Needs.{needs}
-use Rattle.arrays.proofs.Every.{each}
 use Rattle.bm25.specs.Inner.Bound.{allCovered}
 use Rattle.bm25_block.specs.Inner.Block.{weighedAt}
 use Rattle.block_norms.proofs.AtMost.{each-at-most}

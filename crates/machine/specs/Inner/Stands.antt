@@ -1,8 +1,6 @@
 -- Where a run stands: its place of the machine's route, by its struct and its tables, and that it can go on from there.
-use mathlib.Core.Path.{_≡_}
 use mathlib.Core.List.{List, []}
 use Prim.Native.Nat.{ℕ}
-use lib.ListN.{getD, length}
 use lib.Ieee.{Float}
 use Rattle.route.specs.Cursor.{fresh}
 use Rattle.route.specs.Scorer.{Scorer}

@@ -1,33 +1,17 @@
 -- Where the scorers of a plain scan stand: none has passed a document that is still to be taken.
 use mathlib.Core.Path.{_≡_}
-use mathlib.Core.List.{List, []}
-use Prim.Native.Nat.{ℕ, zero, suc, min, _≤_, _<_}
+use mathlib.Core.List.{List}
+use Prim.Native.Nat.{ℕ, suc, _≤_, _<_}
 use lib.ListN.{getD}
 use lib.Ieee.{Float}
 use Rattle.route.specs.Plain.{present}
 use Rattle.route.specs.Inner.Cursors.{Wf, Past}
 use Rattle.bm25.specs.declared.Scoring.{Scoring}
-use Rattle.notefile.specs.Inner.Reads.{docsOf}
 use Rattle.skip_reader.specs.Inner.Decoded.{docIn}
-use Rattle.term_scorer.specs.Inner.Slots.{Held, Sixteen, SlotIn, partAt, listAt, cursorAt, listsFrom, Blank}
+use Rattle.term_scorer.specs.Inner.Slots.{Held, Sixteen, SlotIn, partAt, listAt, cursorAt, listsFrom}
 use Rattle.term_scorer.specs.Inner.Weights.{Weighed}
-use Rattle.plain_scan.specs.Inner.Found.{foundOf}
-use Rattle.plain_scan.specs.declared.Found.{Found}
-
--- the least of the first n documents, or TERMINATED
-abbrev pub leastIn : List ℕ → ℕ → ℕ
-leastIn heads zero = 2147483647
-leastIn heads (suc n) = min (leastIn heads n) (getD heads n 0)
-
--- the first n slots' places in their blocks can be read
-abbrev pub PlaceRead : List (List ℕ) → ℕ → Type 0
-PlaceRead places n = (q : ℕ) → q < n → getD (getD places q []) 6 0 < 128
-
--- the documents on which the first n scorers stand, and behind them TERMINATED
-pub record HeadsOf (places : List (List ℕ)) (blocks : List (List (List ℕ))) (n : ℕ) (heads : List ℕ) : Type 0 where
-  pub long : Sixteen heads
-  pub are : (q : ℕ) → q < n → getD heads q 0 ≡ getD (docsOf (getD blocks q [])) (getD (getD places q []) 6 0) 0
-  pub behind : Blank 2147483647 n heads
+use Rattle.scan_heads.specs.Inner.Found.{foundOf}
+use Rattle.scan_heads.specs.declared.Found.{Found}
 
 -- each of the first n slots has its list's norms
 abbrev pub AllWeighed : List (List ℕ) → List (List Float) → ℕ → Type 0

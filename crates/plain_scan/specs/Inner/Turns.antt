@@ -15,7 +15,7 @@ use Rattle.bm25.specs.declared.Scoring.{Scoring}
 use Rattle.reports.specs.Inner.Turns.{Went}
 use Rattle.reports.specs.declared.Event.{Event}
 use Rattle.term_scorer.specs.Inner.Slots.{Held, listsFrom}
-use Rattle.plain_scan.specs.Inner.Found.{foundOf, hitIn}
+use Rattle.scan_heads.specs.Inner.Found.{foundOf, hitIn}
 use Rattle.plain_scan.specs.Inner.Heads.{AllWeighed, RestsFrom}
 use Rattle.plain_scan.specs.declared.Gone.{Gone}
 use Rattle.plain_scan.specs.declared.Plain.{Plain}

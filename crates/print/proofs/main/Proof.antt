@@ -6,7 +6,7 @@ use native.Mathlib.Omega.{arith}
 use lib.ListN.{length, length-append}
 use lib.Seq.{length-take-le}
 use borrow.Author.Needs.{needs}
-use Rattle.print.specs.Text.{printed}
+use Rattle.print.specs.Printed.{printed}
 use Rattle.print.proofs.main.Statement.{statement}
 use Rattle.print.proofs.main.Tie as tie
 

@@ -1,5 +1,4 @@
 -- `cached` meets its contract: the flag says whether the row's bound is one.
-use mathlib.Core.Path.{sym}
 use mathlib.Core.List.{[]}
 use lib.ListN.{getD}
 use borrow.Author.Needs.{needs}

@@ -2,7 +2,7 @@
 use mathlib.Core.Path.{_≡_}
 use mathlib.Core.List.{List, [], map}
 use Prim.Native.Nat.{ℕ, _≤_, _<_}
-use lib.ListN.{getD, take}
+use lib.ListN.{take}
 use lib.Ieee.{Float}
 use Rattle.arrays.specs.Every.{All}
 use Rattle.route.specs.Scorer.{Scorer}

@@ -12,7 +12,7 @@ use Rattle.bm25.specs.declared.Scoring.the-variants.{Unstepped}
 use Rattle.ordering.proofs.Kept.{kept-all, sweep-kept}
 use Rattle.ordering.proofs.Places.{all-first}
 use Rattle.term_scorer.specs.Inner.Slots.{held, Held}
-use Rattle.slot_order.specs.Inner.Rows.{Readable, docAt}
+use Rattle.ordering.specs.Inner.Rows.{Readable, docAt}
 use Rattle.union_moves.specs.Inner.Seats.{Inside}
 use Rattle.union_pivot.proofs.Advances.{Advancing, advanced, advances, advancing, inside-at, stand-at, swept-sorted}
 use Rattle.union_moves.proofs.Slots.{readables}

@@ -11,7 +11,7 @@ use Rattle.route.specs.Cursor.{seekBlockIn}
 use Rattle.ordering.specs.Inner.Scorers.{noScorer}
 use Rattle.term_scorer.specs.declared.TermScorer.{TermScorer}
 use Rattle.term_scorer.specs.Inner.Slots.{cursorAt, held, listAt}
-use Rattle.slot_order.proofs.Rows.{map-at}
+use Rattle.ordering.proofs.Rows.{map-at}
 use Rattle.union_moves.specs.Inner.Seats.{Seat, Seated, termAt, terms, termsOf}
 use Rattle.union_moves.proofs.BlockBounds.{Bounding, bounded, bounding, bounds-next, seat-at}
 use Rattle.union_moves.proofs.Seats.{seat-stand, shallow-seat, standing-in}

@@ -7,7 +7,6 @@ use lib.ListN.{drop, getD, length, length-map, length-take, take}
 use lib.Seq.{getD-take}
 use Rattle.arrays.specs.Every.{All}
 use Rattle.route.specs.Union.{behind}
-use Rattle.route.proofs.Lists.{all-imp}
 use Rattle.route.proofs.Union.Pivot.{behind-is}
 use Rattle.bm25.specs.declared.Scoring.the-variants.{Unstepped}
 use Rattle.ordering.specs.Inner.Scorers.{slotOf}
@@ -15,7 +14,8 @@ use Rattle.term_scorer.specs.declared.TermScorer.{TermScorer}
 use Rattle.ordering.proofs.Places.{all-first}
 use Rattle.term_scorer.specs.Inner.Slots.{held, Held}
 use Rattle.term_scorer.specs.Inner.Weights.{TopRead}
-use Rattle.slot_order.specs.Inner.Rows.{Readable, termIn}
+use Rattle.ordering.specs.Inner.Rows.{Readable}
+use Rattle.slot_pivot.specs.Inner.Terms.{termIn}
 use Rattle.union_moves.specs.Inner.Seats.{Stand, termAt}
 use Rattle.union_moves.specs.Inner.Moves.{LastRead}
 use Rattle.union_moves.proofs.Lowest.{last-reads, least-low, least-read, lowest-low, moved-readable, one-on, place-read, seeks-inside}

@@ -1,2 +1,0 @@
--- What the functions below `render` leave: a reader of 01 need not believe it.
-pub mod Putting

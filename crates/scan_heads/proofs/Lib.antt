@@ -1,0 +1,2 @@
+-- Laws of the documents on which scorers stand.
+pub mod Heading

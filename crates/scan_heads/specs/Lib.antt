@@ -1,0 +1,2 @@
+-- What the contracts of `scan_heads` cite.
+pub mod Inner

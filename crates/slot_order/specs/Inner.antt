@@ -1,2 +1,0 @@
--- Invariants of the code.
-pub mod Rows

@@ -1,0 +1,2 @@
+-- What the contracts of `slot_pivot` cite.
+pub mod Inner
