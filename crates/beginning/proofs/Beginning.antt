@@ -46,11 +46,11 @@ use Rattle.union_moves.specs.Inner.Seats.{alive, scorerAt, terms}
 use Rattle.block_wand_union.specs.Inner.Runs as any
 use Rattle.union_turn.specs.declared.Union.{Union}
 use Rattle.block_wand_union.proofs.Begins as begins
-use Rattle.intersection_window.specs.Inner.Scorers as window
-use Rattle.intersection_window.specs.Inner.Scorers.{leaderIn, secondariesIn}
+use Rattle.intersection_order.specs.Inner.Scorers as window
+use Rattle.intersection_order.specs.Inner.Scorers.{leaderIn, secondariesIn}
 use Rattle.block_wand_intersection.specs.Inner.Beginnings as all
-use Rattle.block_wand_intersection.specs.Inner.Stands as stands
-use Rattle.block_wand_intersection.specs.declared.Intersection.{Intersection}
+use Rattle.intersection_turn.specs.Inner.Stands as stands
+use Rattle.intersection_stage.specs.declared.Intersection.{Intersection}
 use Rattle.block_wand_intersection.proofs.Beginning.{route-is}
 use Rattle.plain_scan.specs.Inner.Turns.{hitsOf, needsAll, scanRoute}
 use Rattle.plain_scan.proofs.Slots.{ok}

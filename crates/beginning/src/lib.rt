@@ -1,8 +1,8 @@
 // A run as it begins: its lists opened in slots of their own, and its machine at the route's first place.
 use block_wand_intersection::begin::begin as begin_all;
 use bm25::Scoring;
-use driver::Task;
 use machine::Machine;
+use machine::Task;
 use notefile::header::norm_reader;
 use notefile::header::read_header;
 use ordering::retain;

@@ -27,14 +27,14 @@ use Rattle.slot_rows.specs.Inner.Rows.{partIn}
 use Rattle.term_scorer.proofs.Kept.{kept-none}
 use Rattle.term_scorer.specs.Inner.Slots.{Held, cursorAt, listsFrom, partAt, slotsFrom}
 use Rattle.term_scorer.specs.Inner.Weights.{TopKept, topAt, TopRead}
-use Rattle.intersection_window.specs.Inner.Scorers.{InOrder, Query, SlotsIn, leaderIn, listIn, placeAt, scorerAt, secondariesIn, slotAt}
-use Rattle.intersection_window.specs.Inner.Sizes.{BySize, sizeIn}
-use Rattle.intersection_window.proofs.Parts.{part-first, part-none}
-use Rattle.intersection_window.proofs.Seats.{doc-here}
-use Rattle.block_wand_intersection.specs.Inner.Stands.{maxSum}
+use Rattle.intersection_order.specs.Inner.Scorers.{InOrder, Query, SlotsIn, leaderIn, listIn, placeAt, scorerAt, secondariesIn, slotAt}
+use Rattle.intersection_order.specs.Inner.Sizes.{BySize, sizeIn}
+use Rattle.intersection_order.proofs.Parts.{part-first, part-none}
+use Rattle.intersection_order.proofs.Seats.{doc-here}
+use Rattle.intersection_turn.specs.Inner.Stands.{maxSum}
 use Rattle.block_wand_intersection.specs.Inner.Beginnings.{Begins, FreshSlots, topSum}
-use Rattle.block_wand_intersection.specs.declared.Intersection.{Intersection}
-use Rattle.block_wand_intersection.specs.declared.Stage.the-variants.{Early}
+use Rattle.intersection_stage.specs.declared.Intersection.{Intersection}
+use Rattle.intersection_stage.specs.declared.Stage.the-variants.{Early}
 
 -- ---- the list bounds
 

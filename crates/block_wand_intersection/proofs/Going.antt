@@ -16,15 +16,17 @@ use Rattle.reports.specs.Inner.Turns.{Went}
 use Rattle.reports.specs.declared.Event.the-variants.{Over as Ended, Paused, Report}
 use Rattle.reports.proofs.TurnLaws.{Quietly, at-end, at-pause, at-report, none-yet, one-more}
 use Rattle.term_scorer.specs.Inner.Slots.{Held, cursorAt}
-use Rattle.intersection_window.specs.Inner.Scorers.{Query, leaderIn, scorerAt, secondariesIn}
-use Rattle.block_wand_intersection.specs.Inner.Stands.{Stands, overIn, placeOf, stageOf}
-use Rattle.block_wand_intersection.specs.Inner.Turns.{Goes, TakesTurn, dueOf, interEnded, interTurn}
+use Rattle.intersection_order.specs.Inner.Scorers.{Query, leaderIn, scorerAt, secondariesIn}
+use Rattle.intersection_stage.specs.Inner.Steps.{dueOf, overIn}
+use Rattle.intersection_turn.specs.Inner.Stands.{Stands, placeOf, stageOf}
+use Rattle.intersection_turn.specs.Inner.Turns.{TakesTurn, interEnded, interTurn}
+use Rattle.block_wand_intersection.specs.Inner.Runs.{Goes}
 use Rattle.block_wand_intersection.specs.declared.Gone.{Gone}
-use Rattle.block_wand_intersection.specs.declared.Intersection.{Intersection}
-use Rattle.block_wand_intersection.specs.declared.Stage.{Stage}
-use Rattle.block_wand_intersection.specs.declared.Stage.the-variants.{Called, Early, Over, Window, Within}
-use Rattle.block_wand_intersection.specs.declared.turn.Due.the-variants.{Nothing, Report as Reports}
-use Rattle.block_wand_intersection.specs.declared.turn.Turned.{Turned}
+use Rattle.intersection_stage.specs.declared.Intersection.{Intersection}
+use Rattle.intersection_stage.specs.declared.Stage.{Stage}
+use Rattle.intersection_stage.specs.declared.Stage.the-variants.{Called, Early, Over, Window, Within}
+use Rattle.intersection_stage.specs.declared.Due.the-variants.{Nothing, Report as Reports}
+use Rattle.intersection_stage.specs.declared.Turned.{Turned}
 
 -- the run has returned where its route has
 over-is : (x : Query) (places : List (List ℕ)) (floats : List (List Float)) (s : Stage) → isOver (stageOf x places floats s) ≡ overIn s

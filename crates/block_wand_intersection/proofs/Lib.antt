@@ -1,4 +1,3 @@
 -- Laws of the intersection's run that belong to no one function.
-pub mod Turning
 pub mod Going
 pub mod Beginning

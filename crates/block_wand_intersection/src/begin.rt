@@ -1,7 +1,7 @@
 // Where a run begins.
-use crate::Intersection;
-use crate::Stage;
-use intersection_window::order::by_size;
+use intersection_order::order::by_size;
+use intersection_stage::Intersection;
+use intersection_stage::Stage;
 use slot_rows::place::Blocks;
 use slot_rows::place::Places;
 use term_scorer::score;
@@ -14,7 +14,7 @@ ghost use Rattle.arrays.specs.Every.{All};
 ghost use Rattle.arrays.specs.Lent.{before, after};
 ghost use Rattle.term_scorer.specs.Inner.Slots.{held, Sixteen};
 ghost use Rattle.term_scorer.specs.Inner.Weights.{TopRead};
-ghost use Rattle.intersection_window.specs.Inner.Scorers.{query};
+ghost use Rattle.intersection_order.specs.Inner.Scorers.{query};
 ghost use Rattle.block_wand_intersection.specs.Inner.Beginnings.{Begins, FreshSlots, topSum};
 
 // `leader_max_score + secondaries_global_max_sum`.

@@ -1,40 +1,22 @@
 // The intersection's skipping run, by turns: windows in which all block bounds hold, and in each the leader's candidates
 // against the secondaries. A run goes on from where it stands, and what it needs to do so stands in lent tables and a small struct.
 pub mod begin;
-mod turn;
 
-use intersection_window::leader::Candidates;
+use intersection_stage::Due;
+use intersection_stage::Intersection;
+use intersection_stage::is_over;
+use intersection_turn::turn;
 use reports::Event;
 use slot_rows::place::Blocks;
 use slot_rows::place::Places;
 use term_scorer::Floats;
 use term_scorer::score::Leg;
-use turn::Due;
-use turn::is_over;
-use turn::turn;
 ghost use mathlib.Core.Path.{_≡_};
 ghost use Rattle.arrays.specs.Lent.{before, after};
 ghost use Rattle.term_scorer.specs.Inner.Slots.{held};
-ghost use Rattle.intersection_window.specs.Inner.Scorers.{query};
-ghost use Rattle.block_wand_intersection.specs.Inner.Stands.{Stands};
-ghost use Rattle.block_wand_intersection.specs.Inner.Turns.{Goes};
-
-// At the early exit; at `while doc < TERMINATED`; at the candidates left of a window; behind a call of the callback; returned.
-pub enum Stage {
-    Early,
-    Window,
-    Within(Candidates),
-    Called(Candidates),
-    Over,
-}
-
-// How many scorers there are, where the window begins, `leader_max_score + secondaries_global_max_sum`, and the stage.
-pub struct Intersection {
-    pub len: usize,
-    pub doc: u32,
-    pub max_sum: f32,
-    pub stage: Stage,
-}
+ghost use Rattle.intersection_order.specs.Inner.Scorers.{query};
+ghost use Rattle.intersection_turn.specs.Inner.Stands.{Stands};
+ghost use Rattle.block_wand_intersection.specs.Inner.Runs.{Goes};
 
 // Where a run stands behind its turns, how many they were, and why it stands.
 pub struct Gone {

@@ -1,6 +1,5 @@
 -- Facts of norms and scores that belong to no one function.
 pub mod Bounds
-pub mod LimitBits
 pub mod Nearest
 pub mod Numbers
 pub mod WeightLaws

@@ -1,9 +1,6 @@
 // BM25 over ready weights: norms, scores and bounds, unstepped or stepped.
 mod lengths;
-mod limits;
 
-pub use limits::average_ok;
-pub use limits::weight_ok;
 ghost use mathlib.Core.Path.{_≡_};
 ghost use Prim.Native.Nat.{ℕ};
 ghost use mathlib.Core.Bool.{not};

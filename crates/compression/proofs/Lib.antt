@@ -1,4 +1,3 @@
 -- Laws that belong to no one function.
 pub mod Differences
-pub mod Counts
 pub mod Worked

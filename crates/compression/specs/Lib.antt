@@ -1,4 +1,3 @@
 -- What the contracts of `compression` cite.
 pub mod Documents
-pub mod Frequencies
 pub mod Inner

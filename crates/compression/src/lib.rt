@@ -1,3 +1,2 @@
-// Documents by differences, and frequencies.
+// Documents by differences.
 pub mod documents;
-pub mod frequencies;

@@ -31,7 +31,7 @@ use Rattle.machine.specs.declared.Machine.{Machine}
 use Rattle.machine.proofs.Nearing.{costIn, machine-nears}
 use Rattle.driver.specs.Inner.Drives.{legTo, stoppedAs, Drives}
 use Rattle.driver.specs.declared.Driven.{Driven}
-use Rattle.driver.specs.declared.Task.{Task}
+use Rattle.machine.specs.declared.Task.{Task}
 
 -- a machine that stands can go on by a leg to its next report
 pub for-leg : (file : List ℕ) (lists : List (List ℕ)) (norms : List (List Float)) (s : Similarity) (t : Float) {leg : Leg} → leg ≡ legTo s t → (old : Tables) (m : Machine)

@@ -1,10 +1,10 @@
 // The one loop that drives the machine of any mode: rows are written and the threshold is moved here alone.
 use machine::Machine;
+use machine::Task;
 use machine::go_on;
 use reports::Event;
 use reports::report;
 use reports::rows;
-use rule::Rule;
 use rule::Threshold;
 use slot_rows::place::Blocks;
 use slot_rows::place::Places;
@@ -19,13 +19,6 @@ ghost use Rattle.notefile.specs.Header.{normReader};
 ghost use Rattle.machine.specs.Inner.Kept.{KeptIn};
 ghost use Rattle.machine.specs.Inner.Stands.{tables, placeIn, StandsIn};
 ghost use Rattle.driver.specs.Inner.Drives.{legTo, stoppedAs, Drives};
-
-// What is driven, and by which rule.
-pub struct Task {
-    pub similarity: Similarity,
-    pub machine: Machine,
-    pub rule: Rule,
-}
 
 // Where the run stopped, whether a report found every row full, and how many rows are written.
 pub struct Driven {

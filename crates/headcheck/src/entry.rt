@@ -18,7 +18,7 @@ fn entry_right(file: &[u8], h: Header, l: usize) -> bool
     let e = HEADER_LENGTH + ENTRY_LENGTH * l;
     let weight = read_be(file, e, 4) as u32;
     let count = ((read_be(file, e + 4, 3) >> 3) % 2097152) as u32;
-    if bm25::weight_ok(weight) {
+    if bm25_limits::weight_ok(weight) {
         return count <= h.documents;
     }
     false

@@ -23,10 +23,11 @@ use Rattle.skip_reader.specs.Inner.Decoded.{docIn}
 use Rattle.slot_rows.specs.Inner.Rows.{cursorIn}
 use Rattle.term_scorer.specs.Inner.Slots.{Held, MovedSlot, Shallowed, cursorAt, held, lastAt, listAt, partAt}
 use Rattle.slot_bounds.specs.Inner.Bounds.{Bounded}
-use Rattle.intersection_window.specs.Inner.Scorers.{BoundsKept, InOrder, Query, Ready, SlotsIn, listIn, scorerAt, scorersBetween, secondariesIn, slotAt}
+use Rattle.intersection_order.specs.Inner.Scorers.{BoundsKept, InOrder, Query, Ready, SlotsIn, listIn, scorerAt, scorersBetween, secondariesIn, slotAt}
 use Rattle.intersection_window.specs.Inner.Windows.{Gathers, RunOut, boundsOf}
-use Rattle.intersection_window.proofs.Parts.{part-first, part-none, part-same}
-use Rattle.intersection_window.proofs.Seats.{known-bound, known-cursor, known-only, known-others, known-ready, last-here, moved-only, scorer-is, shallow-moves, still-kept, still-seated}
+use Rattle.intersection_order.proofs.Parts.{part-first, part-none, part-same}
+use Rattle.intersection_order.proofs.Seats.{last-here, moved-only, scorer-is, shallow-moves, still-kept, still-seated}
+use Rattle.intersection_window.proofs.Known.{known-bound, known-cursor, known-only, known-others, known-ready}
 
 pub map-map : {A B C : Type 0} (g : B → C) (f : A → B) (l : List A) → map g (map f l) ≡ map (λ a. g (f a)) l
 map-map g f [] = refl

@@ -1,9 +1,5 @@
--- Laws of a window, its candidates and the order of the scorers.
-pub mod Parts
-pub mod Seats
-pub mod Trying
+-- Laws of a window.
+pub mod Known
 pub mod Gathering
 pub mod Opening
 pub mod Summing
-pub mod Finding
-pub mod Sorting

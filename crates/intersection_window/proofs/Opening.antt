@@ -20,11 +20,12 @@ use Rattle.skip_reader.specs.Inner.Decoded.{docIn}
 use Rattle.slot_rows.specs.Inner.Rows.{cursorIn, firstOf}
 use Rattle.term_scorer.specs.Inner.Slots.{Held, MovedSlot, Shallowed, cursorAt, held, lastAt, listAt, partAt}
 use Rattle.slot_bounds.specs.Inner.Bounds.{Bounded}
-use Rattle.intersection_window.specs.Inner.Scorers.{BoundsKept, InOrder, Query, Ready, SlotsIn, StillScored, leaderIn, listIn, scorerAt, secondariesIn, slotAt}
+use Rattle.intersection_order.specs.Inner.Scorers.{BoundsKept, InOrder, Query, Ready, SlotsIn, StillScored, leaderIn, listIn, scorerAt, secondariesIn, slotAt}
 use Rattle.intersection_window.specs.Inner.Windows.{Gathered, Gathers, Turns, boundsOf}
 use Rattle.intersection_window.specs.declared.window.Secondaries.{Secondaries}
 use Rattle.intersection_window.specs.declared.window.Window.the-variants.{Low, Open, Over}
-use Rattle.intersection_window.proofs.Seats.{known-cursor, known-only, known-ready, known-scored, last-here, last-low, moved-only, moved-scored, others-stay, row-scored, scorer-is, shallow-moves, still-kept, still-seated}
+use Rattle.intersection_order.proofs.Seats.{last-here, last-low, moved-only, moved-scored, others-stay, row-scored, scorer-is, shallow-moves, still-kept, still-seated}
+use Rattle.intersection_window.proofs.Known.{known-cursor, known-only, known-ready, known-scored}
 use Rattle.intersection_window.proofs.Gathering.{not-back}
 
 all-sought : (d : ℕ) (ss : List (Scorer Float)) → allRemain 128 d ss ≡ true → seekBlockAll 128 d ss ≡ map (seekBlock 128 d) ss

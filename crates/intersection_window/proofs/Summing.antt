@@ -15,7 +15,7 @@ use Rattle.term_scorer.specs.Inner.Slots.{Sixteen}
 use Rattle.term_scorer.specs.Inner.Weights.{FloatRows}
 use Rattle.term_scorer.proofs.Floats.{rows-set}
 use Rattle.intersection_window.specs.Inner.Windows.{Sums, boundsRow, restsRow, scoresRow}
-use Rattle.intersection_window.proofs.Parts.{part-first, part-none}
+use Rattle.intersection_order.proofs.Parts.{part-first, part-none}
 
 module _ (n : ℕ) (order : List ℕ) (floats₀ : List (List Float)) where
   abbrev boundAt : ℕ → Float

@@ -14,8 +14,8 @@ ghost use Prim.Native.Nat.{min, _≤_, _<_};
 ghost use Rattle.arrays.specs.Lent.{before, after};
 ghost use Rattle.term_scorer.specs.Inner.Slots.{held, Sixteen};
 ghost use Rattle.term_scorer.specs.Inner.Weights.{FloatRows};
-ghost use Rattle.intersection_window.specs.Inner.Scorers.{query, InOrder, Ready};
-ghost use Rattle.intersection_window.specs.Inner.Sizes.{InSlots};
+ghost use Rattle.intersection_order.specs.Inner.Scorers.{query, InOrder, Ready};
+ghost use Rattle.intersection_order.specs.Inner.Sizes.{InSlots};
 ghost use Rattle.intersection_window.specs.Inner.Windows.{Gathers, Sums, Turns};
 
 // Whether every secondary has documents left, where the first of all present blocks ends, and the secondaries' bounds summed.

@@ -16,10 +16,10 @@ use Rattle.union_moves.specs.Inner.Seats.{terms}
 use Rattle.union_turn.specs.Inner.Runs as any
 use Rattle.union_turn.specs.declared.Union.{Union}
 use Rattle.block_wand_union.specs.declared.Gone as many
-use Rattle.intersection_window.specs.Inner.Scorers.{query}
-use Rattle.block_wand_intersection.specs.Inner.Stands as stands
-use Rattle.block_wand_intersection.specs.Inner.Turns as all
-use Rattle.block_wand_intersection.specs.declared.Intersection.{Intersection}
+use Rattle.intersection_order.specs.Inner.Scorers.{query}
+use Rattle.intersection_turn.specs.Inner.Stands as stands
+use Rattle.block_wand_intersection.specs.Inner.Runs as all
+use Rattle.intersection_stage.specs.declared.Intersection.{Intersection}
 use Rattle.block_wand_intersection.specs.declared.Gone as every
 use Rattle.plain_scan.specs.Inner.Turns.{hitsOf, GoneOn}
 use Rattle.plain_scan.specs.declared.Plain.{Plain}

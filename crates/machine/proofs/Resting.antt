@@ -9,7 +9,7 @@ use Rattle.reports.specs.Inner.Runs.{AtRest}
 use Rattle.term_scorer.specs.Inner.Slots.{cursorAt}
 use Rattle.term_scorer.specs.declared.score.Similarity.{Similarity}
 use Rattle.union_moves.specs.Inner.Seats.{slotScorer}
-use Rattle.intersection_window.specs.Inner.Scorers.{query}
+use Rattle.intersection_order.specs.Inner.Scorers.{query}
 use Rattle.block_wand_intersection.proofs.Going as all
 use Rattle.machine.specs.Inner.Places.{scorersIn}
 use Rattle.machine.specs.Inner.Stands.{Tables, placeIn}

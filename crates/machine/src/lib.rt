@@ -1,15 +1,17 @@
 // One machine for the runs of every mode.
 use block_wand_intersection as intersection;
-use block_wand_intersection::Intersection;
 use block_wand_single::scan;
 use block_wand_union::walk;
+use intersection_stage::Intersection;
 use plain_scan::Plain;
 use reports::Event;
+use rule::Rule;
 use single_hunt::Single;
 use slot_rows::place::Blocks;
 use slot_rows::place::Places;
 use term_scorer::Floats;
 use term_scorer::score::Leg;
+use term_scorer::score::Similarity;
 use union_turn::Union;
 ghost use mathlib.Core.Path.{_≡_};
 ghost use Rattle.arrays.specs.Lent.{before, after};
@@ -31,6 +33,13 @@ pub struct Gone {
     pub machine: Machine,
     pub taken: usize,
     pub event: Event,
+}
+
+// What is driven, and by which rule.
+pub struct Task {
+    pub similarity: Similarity,
+    pub machine: Machine,
+    pub rule: Rule,
 }
 
 // Where a union came to, as a machine.

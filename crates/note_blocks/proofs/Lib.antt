@@ -1,4 +1,3 @@
--- Laws of a list's blocks as they are read and loaded.
-pub mod Padding
+-- Laws of a list's blocks as they are read.
 pub mod TailBlocks
 pub mod Tails

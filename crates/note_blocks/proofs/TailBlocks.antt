@@ -11,7 +11,7 @@ use borrow.Author.Tests.{le-ltb}
 use Rattle.codec.proofs.VIntRow.{value-fits}
 use Rattle.compression.specs.Documents.{gapOf}
 use Rattle.compression.specs.Inner.Sums.{Summed, Checked}
-use Rattle.compression.specs.Inner.Counts.{Counted}
+use Rattle.frequencies.specs.Inner.Counts.{Counted}
 use Rattle.notefile.specs.Header.{documents}
 use Rattle.notefile.specs.Skips.{strictBlock}
 use Rattle.notefile.specs.Lists.{fullBlocks, tailSize, isFull, blockSize, tailAt, tailFreqsAt, docValue, freqValue, strictIn, previousDoc, blockFreq}

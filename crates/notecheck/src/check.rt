@@ -56,7 +56,7 @@ fn refusal(file: &[u8]) -> u32
         return 1;
     }
     let average = read_average(file, 0);
-    if !bm25::average_ok(average) {
+    if !bm25_limits::average_ok(average) {
         return 2;
     }
     let h = read_header(file);

@@ -10,11 +10,11 @@ use borrow.Author.Tests.{ltb-true, ne-eqb}
 use Rattle.arrays.specs.Every.{every}
 use Rattle.arrays.proofs.Every.{first-true, second-true, each}
 use Rattle.compression.specs.Documents.{gapOf, baseAt, docAt, aboveLast, rises, docsRight}
-use Rattle.compression.specs.Frequencies.{freqRight}
+use Rattle.frequencies.specs.Frequencies.{freqRight}
 use Rattle.compression.specs.Inner.Sums.{Summed, Checked}
-use Rattle.compression.specs.Inner.Counts.{Counted}
+use Rattle.frequencies.specs.Inner.Counts.{Counted}
 use Rattle.compression.proofs.Differences.{right-word}
-use Rattle.compression.proofs.Counts.{right-freq}
+use Rattle.frequencies.proofs.Counts.{right-freq}
 use Rattle.notefile.specs.Header.{documents}
 use Rattle.notefile.specs.Lists.{blockSize, isFirst, docValue, freqValue, strictIn, blockDoc, previousDoc, blockFreq}
 use Rattle.notefile.specs.Conditions.{docsRise, lastRight, blockDocsRight, blockFreqsRight}

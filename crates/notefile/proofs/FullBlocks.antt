@@ -15,7 +15,7 @@ use Rattle.arrays.proofs.Order.{climbs}
 use Rattle.bitpacker.specs.Inner.Rows.{Unpacked}
 use Rattle.bitpacker.proofs.Lanes.{packed-fits}
 use Rattle.compression.specs.Inner.Sums.{Summed, Narrow, Checked}
-use Rattle.compression.specs.Inner.Counts.{Counted}
+use Rattle.frequencies.specs.Inner.Counts.{Counted}
 use Rattle.notefile.specs.Header.{documents}
 use Rattle.notefile.specs.Skips.{lastDoc, docWidth, strictBlock, freqWidth, widthByte}
 use Rattle.notefile.specs.Lists.{fullBlocks, tailSize, isFull, blockSize, docValue, freqValue, strictIn, previousDoc, blockDoc, blockAt}

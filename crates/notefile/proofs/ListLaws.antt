@@ -13,7 +13,7 @@ use borrow.Author.Tests.{lt-ltb, le-ltb, ltb-true, leb-true, eqb-true, not-true}
 use Rattle.arrays.proofs.Order.{lt-or-ge}
 use Rattle.arrays.proofs.Every.{first-true, second-true, each}
 use Rattle.compression.specs.Documents.{docAt, rises}
-use Rattle.compression.specs.Frequencies.{freqRight}
+use Rattle.frequencies.specs.Frequencies.{freqRight}
 use Rattle.notefile.specs.Header.{documents}
 use Rattle.notefile.specs.Skips.{lastDoc}
 use Rattle.notefile.specs.Lists.{fullBlocks, tailSize, isFull, blockSize, isFirst, docValue, strictIn, blockDoc, previousDoc, blockFreq, blockScore, blockBound, listBound, listDoc, listScore}

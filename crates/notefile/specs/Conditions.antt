@@ -8,7 +8,7 @@ use lib.Ieee.{Float, binary32, ofBits, lt}
 use Rattle.arrays.specs.Every.{every}
 use Rattle.codec.specs.VInts.{vintPlace, vintWhole}
 use Rattle.compression.specs.Documents.{docsRight}
-use Rattle.compression.specs.Frequencies.{freqRight}
+use Rattle.frequencies.specs.Frequencies.{freqRight}
 use Rattle.bm25.specs.Limits.{weightOk, averageOk}
 use Rattle.notefile.specs.Header.{headerLength, versionHere, version, spare, listCount, documents, normKind, normCode, averageBits, normsAt}
 use Rattle.notefile.specs.Parts.{weightBits, documentCount, skipsAt}

@@ -9,7 +9,7 @@ use lib.Ieee.{Float}
 use borrow.Author.Tests.{le-leb, lt-leb}
 use Rattle.route.specs.Report.{Report}
 use Rattle.bm25.specs.declared.Scoring.{Scoring}
-use Rattle.rule.specs.Right.{ruleRight}
+use Rattle.rulecheck.specs.Right.{ruleRight}
 use Rattle.rule.specs.declared.Rule.{Rule}
 use Rattle.notefile.specs.Header.{listCount}
 use Rattle.notefile.specs.Refusal.{test, unless, firstRefusal, fileTests, fileRefusal}
@@ -168,10 +168,13 @@ module _ (c : Call) where
         ap (λ (z : Mode). asked (c .file) (c .query) z s u (c .script)) em ∙ ap (λ (z : Scoring). asked (c .file) (c .query) (modeAt (c .mode)) z u (c .script)) es
         ∙ ap (λ (z : Rule). asked (c .file) (c .query) (modeAt (c .mode)) (scoringAt (c .scoring)) z (c .script)) eu
 
-    pub walk-ranked : numbers ≡ 0 → {old new : Rows} (r : Outcome) → OutcomeBy (c .walk) (asked (c .file) (c .query) m s u (c .script)) old r new
+    pub walk-ranked : (old new : Rows) {refusal : ℕ} → refusal ≡ numbers → refusal ≡ 0 → (r : Outcome) → OutcomeBy (c .walk) (asked (c .file) (c .query) m s u (c .script)) old r new
         → {number count : ℕ} → number ≡ numberOf r → count ≡ countOf r → Ranked c old (result number count new)
-    walk-ranked e {old} {new} r O {number} {count} en ec = go (c .walk) refl (subst (λ (q : Request). OutcomeBy (c .walk) q old r new) asked-is O)
+    walk-ranked old new is-numbers is-none r O {number} {count} en ec = go (c .walk) refl (subst (λ (q : Request). OutcomeBy (c .walk) q old r new) asked-is O)
       where
+        e : numbers ≡ 0
+        e = sym is-numbers ∙ is-none
+
         named : (list : List (Report Float)) → Answered (answer (refusalOf (requestOf c)) (rowsOf (old .documents) (old .scores)) list) old r new
             → Given (answer (callRefusal c) (rowsOf (old .documents) (old .scores)) list) old (result number count new)
         named list A =

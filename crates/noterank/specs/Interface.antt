@@ -6,7 +6,7 @@ use Prim.Native.Nat.{ℕ, zero, suc}
 use lib.Dec.{leb}
 use lib.Ieee.{Float}
 use Rattle.route.specs.Report.{Report}
-use Rattle.rule.specs.Right.{ruleRight}
+use Rattle.rulecheck.specs.Right.{ruleRight}
 use Rattle.notefile.specs.Header.{listCount}
 use Rattle.notefile.specs.Refusal.{Test, test, firstRefusal, fileTests}
 use Rattle.reports.specs.Rows.{Rows, rowsOf}

@@ -1,3 +1,2 @@
-// One list of an accepted file while a run goes over it: a scorer's place in the blocks that its skip reader finds, and their bounds.
-pub mod bound;
+// One list of an accepted file while a run goes over it: a scorer's place in the blocks that its skip reader finds.
 pub mod cursor;

@@ -24,7 +24,7 @@ use Rattle.bm25.specs.declared.Scoring.the-variants.{Stepped}
 use Rattle.rule.specs.Rules.{ruleOf, startOf}
 use Rattle.rule.specs.declared.Rule.{Rule}
 use Rattle.rule.specs.declared.Rule.the-variants.{Script, BestK}
-use Rattle.rule.proofs.RightRules.{rule-ok}
+use Rattle.rulecheck.proofs.RightRules.{rule-ok}
 use Rattle.notefile.specs.Header.{listCount, documents}
 use Rattle.reports.specs.Rows.{Rows, rowsOf, docs}
 use Rattle.decoded.specs.Lists.{queried}

@@ -22,7 +22,7 @@ use Rattle.driver.specs.Inner.Drives.{Drives}
 use Rattle.machine.specs.Inner.Places.{Place, machineFrom}
 use Rattle.machine.specs.Inner.Stands.{placeIn, Tables}
 use Rattle.driver.specs.declared.Driven.{Driven}
-use Rattle.driver.specs.declared.Task.{Task}
+use Rattle.machine.specs.declared.Task.{Task}
 use Rattle.machine.proofs.Embeds.{machine-stays}
 use Rattle.request.specs.Request.{Request, asked, modeOf}
 use Rattle.request.proofs.Requests.{Let}

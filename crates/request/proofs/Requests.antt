@@ -11,7 +11,7 @@ use lib.Seq.{drop-cons}
 use borrow.Author.Tests.{lt-ltb, le-ltb, ltb-true, leb-true, eqb-true}
 use Rattle.arrays.proofs.Every.{first-true, second-true}
 use Rattle.route.specs.Inner.Rules.{Takes}
-use Rattle.rule.specs.Right.{ruleRight}
+use Rattle.rulecheck.specs.Right.{ruleRight}
 use Rattle.notefile.specs.Header.{listCount}
 use Rattle.notefile.specs.Refusal.{Test, test, unless, firstRefusal, fileTests, fileRefusal}
 use Rattle.notefile.specs.Inner.Order.{orElse}

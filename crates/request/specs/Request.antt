@@ -7,7 +7,7 @@ use lib.ListN.{length}
 use lib.Ieee.{Float}
 use Rattle.route.specs.Plain as plain
 use Rattle.bm25.specs.declared.Scoring.{Scoring}
-use Rattle.rule.specs.Right.{ruleRight}
+use Rattle.rulecheck.specs.Right.{ruleRight}
 use Rattle.rule.specs.declared.Rule.{Rule}
 use Rattle.notefile.specs.Header.{listCount}
 use Rattle.notefile.specs.Refusal.{Test, test, firstRefusal, fileTests}

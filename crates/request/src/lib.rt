@@ -4,7 +4,7 @@ use notecheck::check::Checked;
 use notecheck::check::check;
 use notefile::header::read_header;
 use rule::Rule;
-use rule::rule_right;
+use rulecheck::rule_right;
 ghost use mathlib.Core.Path.{_≡_};
 ghost use Rattle.arrays.specs.Lent.{before};
 ghost use Rattle.notefile.specs.Refusal.{firstRefusal};

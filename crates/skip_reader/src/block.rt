@@ -1,9 +1,9 @@
 // Block loads: the skip reader's block decoded into two lent arrays.
 use crate::skip::BlockInfo;
 use crate::skip::SkipReader;
-use note_blocks::load_packed;
-use note_blocks::load_tail;
-use note_blocks::pad;
+use block_loads::load_packed;
+use block_loads::load_tail;
+use block_loads::pad;
 use notefile::block::Block;
 use notefile::block::DOCS;
 use notefile::block::FREQS;

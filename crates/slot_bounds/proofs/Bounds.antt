@@ -20,7 +20,7 @@ use Rattle.bm25.specs.declared.Scoring.{Scoring}
 use Rattle.notefile.specs.Lists.{fullBlocks}
 use Rattle.notefile.specs.declared.part.Part.{Part}
 use Rattle.decoded.specs.Lists.{listOf}
-use Rattle.postings.specs.Inner.Bounds.{BoundsAhead}
+use Rattle.posting_bounds.specs.Inner.Bounds.{BoundsAhead}
 use Rattle.postings.specs.Inner.Places.{cursorOf}
 use Rattle.postings.specs.declared.cursor.SegmentPostings.{SegmentPostings}
 use Rattle.slot_rows.specs.Inner.Rows.{cursorIn, partIn, postingsIn, PlaceIn}

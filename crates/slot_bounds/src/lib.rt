@@ -1,8 +1,8 @@
 // Block bounds by slot: those that are known, those that stand ready, and those of tails.
 use bm25::Scoring;
 use notefile::block::Block;
-use postings::bound::block_max_score;
-use postings::bound::bounds_ahead;
+use posting_bounds::block_max_score;
+use posting_bounds::bounds_ahead;
 use slot_rows::place::AHEAD;
 use slot_rows::place::BLOCK;
 use slot_rows::place::BOUND;

@@ -34,7 +34,7 @@ use Rattle.notefile.proofs.Scores.{score-by-code}
 use Rattle.decoded.specs.Lists.{listOf}
 use Rattle.skip_reader.specs.Inner.Decoded.{docIn, Decoded}
 use Rattle.skip_reader.proofs.Blocks.{decoded-narrow}
-use Rattle.postings.proofs.BlockBounds.{score-at, score-is}
+use Rattle.posting_bounds.proofs.BlockBounds.{score-at, score-is}
 use Rattle.slot_rows.specs.Inner.Rows.{cursorIn, partIn, postingsIn, PlaceIn}
 use Rattle.term_scorer.specs.Inner.Slots.{listAt, partAt, cursorAt, Sixteen}
 use Rattle.term_scorer.specs.Inner.Weights.{BlockScores, FloatRow, FloatRows, ScoresKept}

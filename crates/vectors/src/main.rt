@@ -40,10 +40,10 @@ fn size(data: &[u8], at: usize, most: usize) -> usize
 
 // The number of a bit pattern of clear sign; 0 for one that is none.
 fn number(bits: u32) -> f32 {
-    if bm25::weight_ok(bits) {
+    if bm25_limits::weight_ok(bits) {
         return f32::from_bits(bits);
     }
-    if bm25::average_ok(bits) {
+    if bm25_limits::average_ok(bits) {
         return f32::from_bits(bits);
     }
     0.0

@@ -32,7 +32,7 @@ use Rattle.machine.specs.Inner.Kept.{KeptIn}
 use Rattle.machine.specs.Inner.Stands.{Tables, placeIn, StandsIn}
 use Rattle.machine.specs.declared.Machine.{Machine}
 use Rattle.machine.specs.declared.Machine.the-variants as mode
-use Rattle.driver.specs.declared.Task.{Task}
+use Rattle.machine.specs.declared.Task.{Task}
 use Rattle.request.specs.Request.{Request, asked, modeOf}
 use Rattle.request.specs.Lists.{plainList, SkippingList}
 use Rattle.request.specs.declared.Mode.{Mode}

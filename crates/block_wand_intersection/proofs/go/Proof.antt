@@ -5,7 +5,7 @@ use native.Mathlib.Omega.{arith}
 use lib.Ieee.{Float}
 use borrow.Author.Needs.{needs}
 use Rattle.term_scorer.specs.Inner.Slots.{held, Held}
-use Rattle.intersection_window.specs.Inner.Scorers.{query}
+use Rattle.intersection_order.specs.Inner.Scorers.{query}
 use Rattle.block_wand_intersection.proofs.Going.{Going, ends, goes-on, going, more, pauses, reports, stands-here}
 use Rattle.block_wand_intersection.proofs.go.Statement.{statement}
 use Rattle.block_wand_intersection.proofs.go.Tie as tie

@@ -12,9 +12,9 @@ use Rattle.route.specs.Intersection.{leaderRoute}
 use Rattle.notefile.specs.Header.{normReader}
 use Rattle.term_scorer.specs.Inner.Slots.{Held, Sixteen, listsFrom}
 use Rattle.term_scorer.specs.Inner.Weights.{FloatRows, FreshSlot, topAt}
-use Rattle.intersection_window.specs.Inner.Scorers.{Query, leaderIn, scorerAt, scorersBetween, secondariesIn, slotAt}
-use Rattle.block_wand_intersection.specs.Inner.Stands.{Stands, placeOf}
-use Rattle.block_wand_intersection.specs.declared.Intersection.{Intersection}
+use Rattle.intersection_order.specs.Inner.Scorers.{Query, leaderIn, scorerAt, scorersBetween, secondariesIn, slotAt}
+use Rattle.intersection_turn.specs.Inner.Stands.{Stands, placeOf}
+use Rattle.intersection_stage.specs.declared.Intersection.{Intersection}
 
 -- the first slot's list bound, and the sum of the others' before it
 abbrev pub topSum : List (List ℕ) → ℕ → List ℕ → Float

@@ -50,7 +50,8 @@ went g =
     let k = leg-of (g .before) in
     let l = k .before in
     let a = start-of (l .before .before) in
-    by-leg (a .args .file .now) (a .args .lists .now) (a .args .norms .now) (a .args .task .similarity) (l .loop .t .now) (k .leg-to .ensures) {new = left-by g} (g .go-on .ensures)
+    by-leg (a .args .file .now) (a .args .lists .now) (a .args .norms .now) (a .args .task .similarity) (l .loop .t .now) (k .leg-to .ensures)
+    {old = tables (l .loop .order) (l .loop .places) (l .loop .blocks) (l .loop .floats)} {new = left-by g} (g .go-on .ensures)
 
 abbrev reported-of : tie.After-struct-known Inv-loop μ-loop → tie.After-event Inv-loop μ-loop
 reported-of c = c .before .before

@@ -10,7 +10,7 @@ use Rattle.machine.specs.Inner.Places.{machineFrom}
 use Rattle.machine.specs.Inner.Stands.{Tables, placeIn, StandsIn}
 use Rattle.machine.specs.declared.Machine.{Machine}
 use Rattle.driver.specs.declared.Driven.{Driven}
-use Rattle.driver.specs.declared.Task.{Task}
+use Rattle.machine.specs.declared.Task.{Task}
 
 -- a leg as far as the next report: as many turns as may be
 abbrev pub legTo : Similarity → Float → Leg

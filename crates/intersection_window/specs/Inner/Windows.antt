@@ -12,8 +12,7 @@ use Rattle.route.specs.Union.{leastLastDoc}
 use Rattle.route.specs.Intersection.{allRemain, candidatesIn, over, seekBlockAll, window, windowTurn, within}
 use Rattle.term_scorer.specs.Inner.Slots.{Held, cursorAt, held}
 use Rattle.term_scorer.specs.Inner.Weights.{FloatRows}
-use Rattle.intersection_window.specs.Inner.Scorers.{Query, Ready, StillScored, leaderIn, listIn, placeAt, secondariesIn, slotAt}
-use Rattle.intersection_window.specs.Inner.Candidates.{Rests}
+use Rattle.intersection_order.specs.Inner.Scorers.{Query, Ready, StillScored, leaderIn, listIn, placeAt, secondariesIn, slotAt, Rests}
 use Rattle.intersection_window.specs.declared.window.Secondaries.{Secondaries}
 use Rattle.intersection_window.specs.declared.window.Window.{Window}
 use Rattle.intersection_window.specs.declared.window.Window.the-variants.{Low, Open, Over}

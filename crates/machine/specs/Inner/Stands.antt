@@ -10,8 +10,8 @@ use Rattle.single_hunt.specs.Inner.Places as one
 use Rattle.single_hunt.specs.Inner.Stands as scan
 use Rattle.union_moves.specs.Inner.Seats.{terms}
 use Rattle.union_turn.specs.Inner.Runs as any
-use Rattle.intersection_window.specs.Inner.Scorers.{query}
-use Rattle.block_wand_intersection.specs.Inner.Stands as all
+use Rattle.intersection_order.specs.Inner.Scorers.{query}
+use Rattle.intersection_turn.specs.Inner.Stands as all
 use Rattle.plain_scan.specs.Inner.Turns.{hitsOf, PlainStands}
 use Rattle.machine.specs.Inner.Places.{Place, union, single, intersection, plain}
 use Rattle.machine.specs.declared.Machine.{Machine}

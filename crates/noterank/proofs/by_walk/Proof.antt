@@ -1,5 +1,6 @@
 -- `by_walk` meets its contract: by the walk's number.
 use borrow.Author.Needs.{needs}
+use Rattle.reports.specs.Rows.{Rows, rows}
 use Rattle.request.specs.Request.{asked}
 use Rattle.noterank.proofs.Numbers.{skipping-by, plain-by}
 use Rattle.noterank.proofs.by_walk.Statement.{statement}
@@ -21,6 +22,16 @@ scans c = c .before .before .before
 abbrev plain-of : tie.After-slice-known6 → tie.After-plain
 plain-of c = c .before .before .before .before
 
+-- the rows as they were lent, and as a run or a scan leaves them
+abbrev lent : tie.Start → Rows
+lent a = rows (a .args .documents .now) (a .args .scores .now)
+
+abbrev skipped : tie.After-run → Rows
+skipped r = let rest = r .run .last .1 .1 .1 .1 .1 .1 in rows (rest .0) (rest .1 .0)
+
+abbrev scanned : tie.After-plain → Rows
+scanned r = let rest = r .plain .last .1 .1 .1 .1 .1 .1 in rows (rest .0) (rest .1 .0)
+
 run-requires : tie.Need-run-requires
 run-requires c κs = search needs
 
@@ -35,7 +46,7 @@ returns c =
     let r = run-of c in
     let t = skips r in
     let a = start (t .before) in
-    skipping-by (asked (a .args .file .now) (a .args .query .now) (a .args .mode) (a .args .scoring) (a .args .rule) (a .args .script .now)) _ _ (r .run .result) (a .args .walk) (t .if1 .taken) (r .run .ensures)
+    skipping-by (asked (a .args .file .now) (a .args .query .now) (a .args .mode) (a .args .scoring) (a .args .rule) (a .args .script .now)) (lent a) (skipped r) (r .run .result) (a .args .walk) (t .if1 .taken) (r .run .ensures)
 
 plain-requires : tie.Need-plain-requires
 plain-requires c κs = search needs
@@ -51,7 +62,7 @@ returns-2 c =
     let r = plain-of c in
     let t = scans r in
     let a = start (t .before) in
-    plain-by (asked (a .args .file .now) (a .args .query .now) (a .args .mode) (a .args .scoring) (a .args .rule) (a .args .script .now)) _ _ (r .plain .result) (a .args .walk) (t .if1 .left) (r .plain .ensures)
+    plain-by (asked (a .args .file .now) (a .args .query .now) (a .args .mode) (a .args .scoring) (a .args .rule) (a .args .script .now)) (lent a) (scanned r) (r .plain .result) (a .args .walk) (t .if1 .left) (r .plain .ensures)
 
 pub by-walk-spec : {M : Type 1} → statement M
 by-walk-spec =

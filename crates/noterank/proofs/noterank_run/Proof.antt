@@ -1,8 +1,8 @@
 -- `noterank_run` meets its contract: the numbers first, then the walk's run.
-use mathlib.Core.Path.{sym, _∙_}
+use mathlib.Core.Path.{_∙_}
 use native.Mathlib.Omega.{arith}
 use borrow.Author.Needs.{needs}
-use Rattle.reports.specs.Rows.{rows}
+use Rattle.reports.specs.Rows.{Rows, rows}
 use Rattle.request.specs.Request.{asked}
 use Rattle.noterank.specs.Interface.{Call}
 use Rattle.noterank.proofs.Numbers.{refused-ranked, walk-ranked, few-by}
@@ -35,6 +35,13 @@ call a = record {
   script = a .args .script .now;
 }
 
+-- the rows as they were lent, and as the walk leaves them
+abbrev lent : tie.Start → Rows
+lent a = rows (a .args .documents .now) (a .args .scores .now)
+
+abbrev left-by : tie.After-by-walk → Rows
+left-by b = let rest = b .by-walk .last .1 .1 .1 .1 .1 .1 .1 in rows (rest .0) (rest .1 .0)
+
 numbers-refusal-requires : tie.Need-numbers-refusal-requires
 numbers-refusal-requires c κs = search needs
 
@@ -42,7 +49,7 @@ returns : tie.Need-returns
 returns c =
     let n = c .before in
     let a = start n in
-    refused-ranked (call a) (rows (a .args .documents .now) (a .args .scores .now)) (n .numbers-refusal .ensures) (c .if1 .taken)
+    refused-ranked (call a) (lent a) (n .numbers-refusal .ensures) (c .if1 .taken)
 
 mode-at-requires : tie.Need-mode-at-requires
 mode-at-requires c κs = search needs
@@ -69,7 +76,7 @@ short-requires c κs =
     let a = start n in
     let file = file-of n in
     let few =
-    few-by (asked (a .args .file .now) (a .args .query .now) (m .mode-at .result) (s .scoring-at .result) (u .rule-at .result) (a .args .script .now)) _ _ (b .by-walk .result)
+    few-by (asked (a .args .file .now) (a .args .query .now) (m .mode-at .result) (s .scoring-at .result) (u .rule-at .result) (a .args .script .now)) (lent a) (left-by b) (b .by-walk .result)
     (λ k. file .shared-slice-known .given k .fits) (a .args .walk) (b .by-walk .ensures) in
     omega (arith, c .count-of .ensures, few)
 
@@ -92,7 +99,8 @@ returns-2 c =
     let m = s .before in
     let e = m .before in
     let n = e .before in
-    walk-ranked (call (start n)) (m .mode-at .ensures) (s .scoring-at .ensures) (u .rule-at .ensures) (sym (n .numbers-refusal .ensures) ∙ e .if1 .left) (b .by-walk .result) (b .by-walk .ensures)
+    let a = start n in
+    walk-ranked (call a) (m .mode-at .ensures) (s .scoring-at .ensures) (u .rule-at .ensures) (lent a) (left-by b) (n .numbers-refusal .ensures) (e .if1 .left) (b .by-walk .result) (b .by-walk .ensures)
     (c .number-of .ensures) (h .short .ensures ∙ k .count-of .ensures)
 
 pub noterank-run-spec : {M : Type 1} → statement M

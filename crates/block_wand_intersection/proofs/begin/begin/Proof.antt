@@ -1,6 +1,6 @@
 -- `begin` meets its contract: the slots by size, the list bounds summed along them, and the leader's document.
 use borrow.Author.Needs.{needs}
-use Rattle.intersection_window.proofs.Seats.{cur-small, slot-small}
+use Rattle.intersection_order.proofs.Seats.{cur-small, slot-small}
 use Rattle.block_wand_intersection.proofs.Beginning.{begins, in-order, seated, tops-read}
 use Rattle.block_wand_intersection.proofs.begin.begin.Statement.{statement}
 use Rattle.block_wand_intersection.proofs.begin.begin.Tie as tie

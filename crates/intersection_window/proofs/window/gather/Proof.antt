@@ -3,9 +3,9 @@ use Prim.Native.Nat.{_-_}
 use lib.Ieee.{ofBits}
 use borrow.Author.Needs.{needs}
 use Rattle.term_scorer.specs.Inner.Slots.{held}
-use Rattle.intersection_window.specs.Inner.Scorers.{query}
+use Rattle.intersection_order.specs.Inner.Scorers.{query}
 use Rattle.term_scorer.proofs.Slots.{standing-in}
-use Rattle.intersection_window.proofs.Seats.{last-fits, slot-small}
+use Rattle.intersection_order.proofs.Seats.{last-fits, slot-small}
 use Rattle.intersection_window.proofs.Gathering.{Gathering, begun, ended, goes-on, kept-there, runs-out, seated-there}
 use Rattle.intersection_window.proofs.window.gather.Statement.{statement}
 use Rattle.intersection_window.proofs.window.gather.Tie as tie

@@ -6,7 +6,7 @@ use lib.Ieee.{Float}
 use borrow.Author.Needs.{needs}
 use Rattle.term_scorer.specs.Inner.Slots.{held}
 use Rattle.term_scorer.proofs.Slots.{standing-in}
-use Rattle.intersection_window.proofs.Seats.{last-fits, slot-small}
+use Rattle.intersection_order.proofs.Seats.{last-fits, slot-small}
 use Rattle.intersection_window.proofs.Opening.{gathered, leader-kept, leader-seated, ready-there, window-low, window-open, window-over}
 use Rattle.intersection_window.proofs.window.next_window.Statement.{statement}
 use Rattle.intersection_window.proofs.window.next_window.Tie as tie

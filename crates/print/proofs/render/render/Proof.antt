@@ -1,9 +1,11 @@
 -- `render` meets its contract: the run's outcome is the answer over all lists, and its rows are the plain scan's.
 use mathlib.Core.Path.{refl, sym}
 use lib.Seq.{length-take-le}
-use lib.Ieee.{ofBits, round}
+use lib.ListN.{replicate}
+use lib.Ieee.{binary32, ofBits, round}
 use borrow.Author.Needs.{needs}
 use Rattle.floats.specs.Step.{gridF}
+use Rattle.reports.specs.Rows.{Rows, rows}
 use Rattle.print.proofs.Rendered.{drawn, whole}
 use Rattle.print.proofs.render.render.Statement.{statement}
 use Rattle.print.proofs.render.render.Tie as tie
@@ -17,6 +19,13 @@ run-of c = c .before .before .before .before
 
 abbrev count-of : tie.After-put-ranking-arg → tie.After-count-of
 count-of c = c .before .before .before
+
+-- the rows before the run, and as it leaves them
+abbrev lent : Rows
+lent = rows (replicate 4096 0) (replicate 4096 (ofBits binary32 0))
+
+abbrev left-by : tie.After-run → Rows
+left-by r = let rest = r .run .last .1 .1 .1 .1 .1 .1 in rows (rest .0) (rest .1 .0)
 
 lists-of-requires : tie.Need-lists-of-requires
 lists-of-requires c κs = search needs
@@ -62,7 +71,7 @@ put-ranking-requires c κs =
     let l = lists-of r in
     let s = l .before in
     let d =
-    drawn (s .before .args .file .now) (λ i. s .shared-slice-known .given i .fits) (l .lists-of .result) (l .lists-of .ensures .0) (l .lists-of .ensures .1) refl refl
+    drawn (s .before .args .file .now) (λ i. s .shared-slice-known .given i .fits) (l .lists-of .result) (l .lists-of .ensures .0) (l .lists-of .ensures .1) refl {old = lent} {new = left-by r} refl
     (r .run .ensures) (k .before .number-of .ensures) (k .count-of .ensures) in
     (search needs, (d .fits, d .ready))
 
@@ -74,7 +83,7 @@ returns c =
     let l = lists-of r in
     let s = l .before in
     let d =
-    drawn (s .before .args .file .now) (λ i. s .shared-slice-known .given i .fits) (l .lists-of .result) (l .lists-of .ensures .0) (l .lists-of .ensures .1) refl refl
+    drawn (s .before .args .file .now) (λ i. s .shared-slice-known .given i .fits) (l .lists-of .result) (l .lists-of .ensures .0) (l .lists-of .ensures .1) refl {old = lent} {new = left-by r} refl
     (r .run .ensures) (k .before .number-of .ensures) (k .count-of .ensures) in
     whole (s .before .args .file .now) (d .text-is) (c .put-ranking .ensures)
 

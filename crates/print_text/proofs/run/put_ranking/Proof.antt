@@ -1,6 +1,8 @@
 -- `put_ranking` meets its contract: by whether the number is 0.
 use lib.Dec.{lit≤}
 use borrow.Author.Needs.{needs}
+use Rattle.ranking.specs.Demand.{rowsIn}
+use Rattle.print_text.specs.Text.{lines}
 use Rattle.print_text.proofs.Putting.{put-as, put-then, put-wider}
 use Rattle.print_text.proofs.Lines.{refused-text, reports-text}
 use Rattle.print_text.proofs.run.put_ranking.Statement.{statement}
@@ -12,6 +14,9 @@ refused c = c .before .before .before
 
 abbrev accepted : tie.After-put-first2 → tie.Else1
 accepted c = c .before .before .before
+
+abbrev start : tie.Else1 → tie.Start
+start c = c .before .before .before .before
 
 abbrev first-of : tie.After-put-rows → tie.After-put-first2
 first-of c = c .before .before .before .before
@@ -45,7 +50,9 @@ returns-2 c =
     let p = c .before .before in
     let f = first-of p in
     let e = accepted f in
-    put-as (put-wider (put-then (f .put-first2 .ensures) (p .put-rows .ensures)) 172061 (search needs)) (reports-text _ _ _ _ (e .if1 .left))
+    let a = start e in
+    let rows = lines (rowsIn (a .args .count) (a .args .documents .now) (a .args .scores .now)) in
+    put-as (put-wider (put-then (f .put-first2 .ensures) {b = rows} (p .put-rows .ensures)) 172061 (search needs)) (reports-text _ _ _ _ (e .if1 .left))
 
 pub put-ranking-spec : {M : Type 1} → statement M
 put-ranking-spec =

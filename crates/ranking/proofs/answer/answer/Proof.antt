@@ -4,7 +4,7 @@ use borrow.Author.Needs.{needs}
 use lib.Ieee.{ofBits}
 use Rattle.route.specs.F32.{f32}
 use Rattle.rule.specs.Inner.Follows.{Keeps}
-use Rattle.rule.proofs.RightRules.{keeps}
+use Rattle.rulecheck.proofs.RightRules.{keeps}
 use Rattle.reports.specs.Rows.{rows}
 use Rattle.query.specs.Inner.Openings as opening
 use Rattle.machine.specs.Inner.Stands.{tables}

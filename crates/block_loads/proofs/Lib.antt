@@ -1,0 +1,2 @@
+-- Laws of a list's blocks as they are loaded.
+pub mod Padding

@@ -1,0 +1,2 @@
+-- Laws of the limits that belong to no one function.
+pub mod LimitBits

@@ -1,0 +1,3 @@
+-- Laws of frequencies that belong to no one function.
+pub mod Counts
+pub mod Worked

@@ -1,0 +1,3 @@
+-- What the contracts of `frequencies` cite.
+pub mod Frequencies
+pub mod Inner

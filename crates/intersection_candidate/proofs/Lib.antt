@@ -1,0 +1,3 @@
+-- Laws of the candidates.
+pub mod Trying
+pub mod Finding

@@ -1,0 +1,2 @@
+-- What the contracts of `intersection_candidate` cite, and those of the intersection's run.
+pub mod Inner

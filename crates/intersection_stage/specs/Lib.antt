@@ -1,0 +1,2 @@
+-- What the contracts of `intersection_stage` cite.
+pub mod Inner

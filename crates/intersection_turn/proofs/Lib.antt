@@ -1,0 +1,2 @@
+-- Laws of a turn that belong to no one function.
+pub mod Turning

@@ -1,0 +1,2 @@
+-- What the contracts of `intersection_turn` cite.
+pub mod Inner

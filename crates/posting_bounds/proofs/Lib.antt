@@ -1,0 +1,3 @@
+-- Laws of block bounds that belong to no one function.
+pub mod Ahead
+pub mod BlockBounds

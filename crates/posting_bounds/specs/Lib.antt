@@ -1,0 +1,2 @@
+-- What the contracts of `posting_bounds` cite.
+pub mod Inner
