@@ -1,5 +1,5 @@
 // The plain run: every matching document upward.
-use crate::answer::answer;
+use crate::answer;
 use beginning::Settings;
 use beginning::Way;
 use bm25::Scoring;

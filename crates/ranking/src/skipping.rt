@@ -1,5 +1,5 @@
 // The skipping run of each mode.
-use crate::answer::answer;
+use crate::answer;
 use beginning::Settings;
 use beginning::Way;
 use bm25::Scoring;

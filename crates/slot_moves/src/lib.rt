@@ -25,7 +25,8 @@ ghost use Rattle.notefile.specs.Lists.{fullBlocks};
 ghost use Rattle.decoded.specs.Lists.{listOf};
 ghost use Rattle.skip_reader.specs.Inner.Decoded.{docIn, ListIn};
 ghost use Rattle.postings.specs.Inner.Places.{Behind};
-ghost use Rattle.slot_rows.specs.Inner.Rows.{cursorIn, firstOf, partIn, postingsIn, MovedRow, PartRow, PlaceIn, ShallowRow, Standing, Unkept};
+ghost use Rattle.slot_rows.specs.Inner.Rows.{cursorIn, firstOf, partIn, postingsIn, PartRow, PlaceIn, Standing, Unkept};
+ghost use Rattle.slot_rows.specs.Inner.Rows.{MovedRow, ShallowRow};
 
 // On the list's first posting. Nothing is kept of the list that had the row before.
 pub fn open(file: &[u8], x: Part, place: &mut Place, block: &mut Block) -> u32

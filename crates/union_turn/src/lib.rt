@@ -156,7 +156,8 @@ fn to_pivot(
         let T = terms (leg .similarity .scoring) (before norms) (before floats) in
         let old = held (before places) (before blocks) in
         let new = held (after places) (after blocks) in
-        ⌜ Turned (before file) (before lists) T (leg .threshold) Looking old (before order) (span .len) new (after order) (after floats) r ⌝ }
+        ⌜ Turned (before file) (before lists) T (leg .threshold) Looking
+        old (before order) (span .len) new (after order) (after floats) r ⌝ }
 {
     let upper_bound = seek_blocks(
         file,

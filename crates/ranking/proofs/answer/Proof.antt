@@ -1,4 +1,4 @@
--- `answer::answer` meets its contract: the run begins at its route's first place, and is driven to its end.
+-- `answer` meets its contract: the run begins at its route's first place, and is driven to its end.
 use mathlib.Core.Path.{sym, subst}
 use borrow.Author.Needs.{needs}
 use lib.Ieee.{ofBits}
@@ -12,8 +12,8 @@ use Rattle.request.specs.Request.{Request, asked}
 use Rattle.request.proofs.Requests.{Let, let-through}
 use Rattle.beginning.proofs.Beginning.{made-rows}
 use Rattle.ranking.proofs.Finishing.{begun-listed}
-use Rattle.ranking.proofs.answer.answer.Statement.{statement}
-use Rattle.ranking.proofs.answer.answer.Tie as tie
+use Rattle.ranking.proofs.answer.Statement.{statement}
+use Rattle.ranking.proofs.answer.Tie as tie
 
 -- the places that the answers look back to
 abbrev after-drive : tie.After-finish → tie.After-drive
