@@ -22,4 +22,24 @@ extern "C" {
         scores_len: usize,
         count: *mut u32,
     ) -> u32;
+
+    pub fn noterank_write(
+        documents: u32,
+        kind: u32,
+        code: u32,
+        norms: *const u8,
+        norms_len: usize,
+        average: f32,
+        weights: *const f32,
+        weights_len: usize,
+        counts: *const u32,
+        counts_len: usize,
+        docs: *const u32,
+        docs_len: usize,
+        freqs: *const u32,
+        freqs_len: usize,
+        out: *mut u8,
+        out_len: usize,
+        length: *mut u32,
+    ) -> u32;
 }

@@ -1,16 +1,42 @@
 //! The generated documents and lists, and the files made of them.
 
+use oracle::contents::Contents;
 use oracle::engine::Source;
 use oracle::random::Random;
 
-use crate::data::Collection;
-use crate::file::{write, Packed};
+use crate::data::{Collection, List};
+use crate::file::{weight, write, Packed};
 
 const SEED: u64 = 7;
 pub const MOST_LISTS: usize = 16;
 const MOST_DOCUMENTS: usize = 1_048_576;
 const SHORTEST: f64 = 50_000.0;
 const LONGEST: f64 = 800_000.0;
+
+/// Documents, and postings of each list.
+fn sizes(lists: usize, postings: usize) -> (usize, usize) {
+    let length = postings / lists;
+    ((length * 5 / 3).min(MOST_DOCUMENTS), length)
+}
+
+/// Contents of that shape, for the writers.
+pub fn contents(lists: usize, postings: usize) -> Contents {
+    let (documents, length) = sizes(lists, postings);
+    let mut random = Random::new(SEED);
+    let collection = Collection::new(&mut random, documents);
+    let list = |number| collection.list(&mut random, length, number % 2 == 1);
+    let made: Vec<List> = (0..lists).map(list).collect();
+    Contents {
+        documents: documents as u32,
+        average: collection.average,
+        weights: vec![weight(length, documents); lists],
+        counts: vec![length as u32; lists],
+        docs: made.iter().flat_map(|list| &list.documents).copied().collect(),
+        freqs: made.iter().flat_map(|list| &list.frequencies).copied().collect(),
+        norms: collection.codes,
+        ..Contents::default()
+    }
+}
 
 pub struct Corpus {
     collection: Collection,
@@ -47,8 +73,7 @@ impl Corpus {
 
     /// A file of about so many postings, in lists that hold 60 in 100 documents each.
     pub fn of_postings(lists: usize, postings: usize) -> Prepared {
-        let length = postings / lists;
-        let documents = (length * 5 / 3).min(MOST_DOCUMENTS);
+        let (documents, length) = sizes(lists, postings);
         let corpus = Corpus::of_lengths(documents, (0..lists).map(|_| length));
         corpus.file_of(&corpus.lists.iter().collect::<Vec<_>>())
     }

@@ -4,9 +4,10 @@ use std::ptr;
 
 use oracle::archive::{c, SKIPPING};
 use oracle::case::{Case, BEST_K};
+use oracle::contents::Contents;
 use oracle::engine::{self, Source};
 
-use crate::check;
+use crate::{check, writer};
 
 /// A row for every document.
 const ROWS: usize = 1 << 20;
@@ -41,6 +42,42 @@ pub fn our_check(file: &[u8]) -> u32 {
 
 pub fn rust_check(file: &[u8]) -> u32 {
     check::check(file)
+}
+
+/// The archive's number and the length of the file in the output.
+pub fn our_write(contents: &Contents, out: &mut [u8]) -> (u32, usize) {
+    let mut length = 0;
+    // Sound: every pointer comes with the length of what it points to.
+    let code = unsafe {
+        c::noterank_write(
+            contents.documents,
+            contents.kind,
+            contents.code,
+            contents.norms.as_ptr(),
+            contents.norms.len(),
+            contents.average,
+            contents.weights.as_ptr(),
+            contents.weights.len(),
+            contents.counts.as_ptr(),
+            contents.counts.len(),
+            contents.docs.as_ptr(),
+            contents.docs.len(),
+            contents.freqs.as_ptr(),
+            contents.freqs.len(),
+            out.as_mut_ptr(),
+            out.len(),
+            &mut length,
+        )
+    };
+    (code, length as usize)
+}
+
+/// The same of the Rust.
+pub fn rust_write(contents: &Contents, out: &mut [u8]) -> (u32, usize) {
+    match writer::write(contents, out) {
+        Ok(length) => (0, length),
+        Err(code) => (code, 0),
+    }
 }
 
 /// The archive's skipping run, its file check included. Returns its code.

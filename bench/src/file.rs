@@ -26,7 +26,7 @@ fn fields(parts: &[(u64, u32)]) -> Vec<u8> {
 }
 
 /// The weight of a term by the number of its documents, as the published weights are made.
-fn weight(count: usize, documents: usize) -> f32 {
+pub fn weight(count: usize, documents: usize) -> f32 {
     let (count, documents) = (count as f32, documents as f32);
     (1.0 + (documents - count + 0.5) / (count + 0.5)).ln() * (1.0 + 1.2)
 }

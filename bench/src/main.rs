@@ -11,6 +11,7 @@ mod options;
 mod saved;
 mod tables;
 mod unpack;
+mod writer;
 
 use std::cell::LazyCell;
 use std::collections::HashMap;
@@ -19,14 +20,17 @@ use std::time::Duration;
 
 use corpus::{Corpus, Prepared, MOST_LISTS};
 use engines::{our_run, rust_run, Rows};
-use measure::{Shape, Times, LISTS};
+use measure::{Shape, Times, WriteTimes, Writing, LISTS};
 use options::{Loop, Options, Work};
 use saved::Saved;
-use tables::{CheckRow, RunRow};
+use tables::{CheckRow, RunRow, WriteRow};
 use unpack::{Blocks, UnpackRow};
 
 /// Random files on which the checks must agree before anything is timed.
 const CASES: u64 = 5_000;
+
+/// Random contents on which the writers must agree before they are timed.
+const CONTENTS: u64 = 500;
 
 /// Every run that is asked for. A round goes over all of them, so that a slow moment of the machine
 /// meets every row the same.
@@ -101,6 +105,30 @@ fn time_growth(options: &Options) -> Result<Vec<CheckRow>, String> {
     Ok(rows)
 }
 
+/// The writers, on files of the same shape as those of the growth.
+fn time_writes(options: &Options) -> Result<Vec<WriteRow>, String> {
+    if !options.only.is_empty() && options.only != ["write"] {
+        return Ok(Vec::new());
+    }
+    measure::same_writes(CONTENTS)?;
+    let powers: &[u32] = if options.quick { &[4, 6] } else { &[4, 6, 7] };
+    let contents = |&power: &u32| corpus::contents(MOST_LISTS, 10usize.pow(power));
+    let mut writings: Vec<Writing> =
+        powers.iter().map(|power| Writing::compared(contents(power))).collect::<Result<_, _>>()?;
+    let row = |writing: &Writing| WriteRow {
+        lists: writing.contents.counts.len(),
+        postings: writing.contents.docs.len(),
+        times: WriteTimes::NONE,
+    };
+    let mut rows: Vec<WriteRow> = writings.iter().map(row).collect();
+    for _ in 0..options.rounds {
+        for (writing, row) in writings.iter_mut().zip(&mut rows) {
+            writing.time(&mut row.times);
+        }
+    }
+    Ok(rows)
+}
+
 /// Unpacking at each width.
 fn time_unpacking(options: &Options) -> Result<Vec<UnpackRow>, String> {
     if !options.only.is_empty() && options.only != ["unpack"] {
@@ -124,8 +152,9 @@ fn print_tables(options: &Options) -> Result<(), String> {
         saved::save(path, &runs)?;
     }
     let growth = time_growth(options)?;
+    let writes = time_writes(options)?;
     let unpacking = time_unpacking(options)?;
-    if runs.is_empty() && growth.is_empty() && unpacking.is_empty() {
+    if runs.is_empty() && growth.is_empty() && writes.is_empty() && unpacking.is_empty() {
         return Err("no row has all of these words".to_string());
     }
     if !unpacking.is_empty() {
@@ -137,12 +166,15 @@ fn print_tables(options: &Options) -> Result<(), String> {
     if !growth.is_empty() {
         tables::checks("The check, by the size of the file", &growth);
     }
+    if !writes.is_empty() {
+        tables::writes(&writes);
+    }
     if !runs.is_empty() {
         tables::runs(&runs, earlier.as_ref());
         tables::small(&runs);
         tables::growth(&runs);
     }
-    tables::targets(&unpacking, &checks, &runs);
+    tables::targets(&unpacking, &checks, &writes, &runs);
     Ok(())
 }
 

@@ -4,11 +4,12 @@ use std::hint::black_box;
 use std::time::Duration;
 
 use oracle::case::{Case, BEST_K, INTERSECTION, SCRIPT, SINGLE, STEPPED, UNION, UNSTEPPED};
-use oracle::{generate, plain};
+use oracle::contents::Contents;
+use oracle::{generate, plain, writer, writes};
 
 use crate::clock;
 use crate::corpus::Prepared;
-use crate::engines::{our_check, our_run, rust_check, rust_run, Rows};
+use crate::engines::{our_check, our_run, our_write, rust_check, rust_run, rust_write, Rows};
 
 /// The least that is spent on a row before the next has its turn.
 const TURN: Duration = Duration::from_millis(50);
@@ -141,8 +142,8 @@ fn lower<const BYTES: usize>(call: &mut dyn FnMut()) {
 
 /// The time of a call on this file, the least of one go at each of eight places of the stack. Where
 /// the stack begins differs from process to process, and a call's time seems to go with it.
-fn least(time: &mut f64, prepared: &Prepared, mut call: impl FnMut()) {
-    let calls = (TIMED / prepared.postings).max(1);
+fn least(time: &mut f64, postings: usize, mut call: impl FnMut()) {
+    let calls = (TIMED / postings).max(1);
     for place in PLACES {
         let start = clock::now();
         place(&mut || (0..calls).for_each(|_| call()));
@@ -151,10 +152,10 @@ fn least(time: &mut f64, prepared: &Prepared, mut call: impl FnMut()) {
 }
 
 fn time_checks(prepared: &Prepared, times: &mut Times) {
-    least(&mut times.our_check, prepared, || {
+    least(&mut times.our_check, prepared.postings, || {
         black_box(our_check(black_box(&prepared.file)));
     });
-    least(&mut times.rust_check, prepared, || {
+    least(&mut times.rust_check, prepared.postings, || {
         black_box(rust_check(black_box(&prepared.file)));
     });
 }
@@ -179,13 +180,82 @@ pub fn runs(prepared: &Prepared, shape: &Shape, times: &mut Times) {
     let (case, mut rows) = (shape.case(), Rows::new());
     for_a_turn(|| {
         time_checks(prepared, times);
-        least(&mut times.our_run, prepared, || {
+        least(&mut times.our_run, prepared.postings, || {
             black_box(our_run(black_box(&prepared.file), &case, &mut rows));
         });
-        least(&mut times.rust_run, prepared, || {
+        least(&mut times.rust_run, prepared.postings, || {
             rust_run(black_box(&prepared.source), &case, &mut rows);
         });
     });
+}
+
+/// Nanoseconds of one write, and of the check of its file, the least so far.
+#[derive(Clone, Copy)]
+pub struct WriteTimes {
+    pub ours: f64,
+    pub rust: f64,
+    pub check: f64,
+}
+
+impl WriteTimes {
+    pub const NONE: WriteTimes = WriteTimes { ours: f64::MAX, rust: f64::MAX, check: f64::MAX };
+}
+
+/// Contents, and room for their file; the file is in it once they are compared.
+pub struct Writing {
+    pub contents: Contents,
+    pub out: Vec<u8>,
+    pub length: usize,
+}
+
+impl Writing {
+    /// Both writers on these contents: the same file, and the check accepts it.
+    pub fn compared(contents: Contents) -> Result<Writing, String> {
+        let most = 9 + 13 * contents.counts.len() + contents.norms.len() + 8 * contents.docs.len();
+        let (mut out, mut rusts) = (vec![0; most], vec![0; most]);
+        let (code, length) = our_write(&contents, &mut out);
+        let rust = rust_write(&contents, &mut rusts);
+        if (code, length) != rust || out != rusts {
+            return Err(format!("the writers differ: {:?} and {rust:?}", (code, length)));
+        }
+        match our_check(&out[..length]) {
+            0 => Ok(Writing { contents, out, length }),
+            refusal => Err(format!("a written file is checked as {refusal}")),
+        }
+    }
+
+    /// Both writers and the check, in close turns.
+    pub fn time(&mut self, times: &mut WriteTimes) {
+        let Writing { contents, out, length } = self;
+        let postings = contents.docs.len();
+        for_a_turn(|| {
+            least(&mut times.ours, postings, || {
+                black_box(our_write(black_box(contents), out));
+            });
+            least(&mut times.rust, postings, || {
+                black_box(rust_write(black_box(contents), out));
+            });
+            least(&mut times.check, postings, || {
+                black_box(our_check(black_box(&out[..*length])));
+            });
+        });
+    }
+}
+
+/// Both writers against the paper's program on random contents, broken ones among them.
+pub fn same_writes(cases: u64) -> Result<(), String> {
+    for number in 0..cases {
+        let contents = writes::case(1, number).contents;
+        let plain = writer::write(&contents);
+        for write in [our_write, rust_write] {
+            let mut out = vec![0; contents.out_len];
+            let (code, length) = write(&contents, &mut out);
+            if code != plain.code || out[..length] != plain.bytes[..] {
+                return Err(format!("contents {number}: {code}, the paper {}", plain.code));
+            }
+        }
+    }
+    Ok(())
 }
 
 /// Both checks accept the file.

@@ -9,7 +9,7 @@ run [ROUNDS]             every table; each time is the least of these rounds (5)
     --quick              two rounds, and no file over a million postings
     --only WORD,WORD     only rows with all of these words, as union,8,10,stepped; large or small
                          for the file, 1000 or 10000 for its postings, every for a threshold that
-                         stays 0; or check alone, or unpack alone
+                         stays 0; or check alone, or write alone, or unpack alone
     --save FILE          keeps the times
     --against FILE       adds the ranking's ratio now over then, by times kept earlier
 run --loop MODE LISTS BEST SCORING SECONDS [ours|rust]

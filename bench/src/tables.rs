@@ -2,7 +2,7 @@
 
 use oracle::case::UNION;
 
-use crate::measure::{Shape, Times};
+use crate::measure::{Shape, Times, WriteTimes};
 use crate::saved::Saved;
 use crate::unpack::UnpackRow;
 
@@ -11,6 +11,13 @@ pub struct CheckRow {
     pub lists: usize,
     pub postings: usize,
     pub times: Times,
+}
+
+/// A write, by its lists and postings.
+pub struct WriteRow {
+    pub lists: usize,
+    pub postings: usize,
+    pub times: WriteTimes,
 }
 
 pub struct RunRow {
@@ -64,6 +71,37 @@ pub fn checks(title: &str, rows: &[CheckRow]) {
             ours / postings,
             rusts / postings,
             row.times.check_ratio()
+        );
+    }
+}
+
+/// Both writers, then the check of the file that they wrote.
+pub fn writes(rows: &[WriteRow]) {
+    println!("\nWriting a file, and the check of it\n");
+    println!(
+        "{:>5} {:>10} {:>10} {:>10} {:>11} {:>11} {:>6} {:>12} {:>12}",
+        "lists",
+        "postings",
+        "ours ms",
+        "Rust ms",
+        "ours ns/p",
+        "Rust ns/p",
+        "ratio",
+        "check ns/p",
+        "write/check"
+    );
+    for WriteRow { lists, postings, times } in rows {
+        let WriteTimes { ours, rust, check } = *times;
+        let each = *postings as f64;
+        println!(
+            "{lists:>5} {postings:>10} {:>10.3} {:>10.3} {:>11.2} {:>11.2} {:>6.2} {:>12.2} {:>12.2}",
+            ms(ours),
+            ms(rust),
+            ours / each,
+            rust / each,
+            ours / rust,
+            check / each,
+            ours / check
         );
     }
 }
@@ -198,8 +236,19 @@ impl Target {
     }
 }
 
-pub fn targets(unpacking: &[UnpackRow], checks: &[CheckRow], runs: &[RunRow]) {
+/// The writer's target is by the file check, not by the Rust.
+fn write_target(writes: &[WriteRow]) {
+    let by_check = |row: &WriteRow| {
+        let name = format!("{} postings, write/check", row.postings);
+        (name, row.times.ours / row.times.check)
+    };
+    let target = Target { name: "writer", mean: None, row: Some(2.0) };
+    target.print(&writes.iter().map(by_check).collect::<Vec<_>>());
+}
+
+pub fn targets(unpacking: &[UnpackRow], checks: &[CheckRow], writes: &[WriteRow], runs: &[RunRow]) {
     println!("\nTargets (geometric means of ratios)\n");
+    write_target(writes);
     let of_width = |row: &&UnpackRow| row.width.is_some();
     let by_width = |row: &UnpackRow| (row.name(), row.ours / row.rust);
     let unpack = Target { name: "unpacking", mean: None, row: Some(1.2) };

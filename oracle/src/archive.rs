@@ -1,7 +1,8 @@
 //! The engine behind the C interface, with canaries around everything that it writes.
 
 use crate::case::{Case, Outcome, Row};
-use crate::compare::same_outcome;
+use crate::compare::{same, same_outcome};
+use crate::contents::{Contents, Written};
 
 /// The calls as `noterank.h` declares them.
 #[path = "../../include/noterank.rs"]
@@ -127,4 +128,73 @@ pub fn compare(case: &Case, plain: &Outcome, published: Option<&Outcome>) -> Res
     same_outcome("archive's skipping walk and published", &skipping, published.unwrap_or(plain))?;
     let other = Outcome::refused(if file_refusal == 0 { 10 } else { file_refusal });
     same_outcome("archive's walk 2 and refusal 10", &run(case, 2)?, &other)
+}
+
+/// A byte for each place; the two patterns differ everywhere, so that none is written by chance in
+/// both.
+fn byte_canary(place: usize, pattern: u8) -> u8 {
+    (place as u8).wrapping_mul(37) ^ pattern
+}
+
+fn call_write(contents: &Contents, out: &mut [u8], length: &mut Guarded) -> u32 {
+    // Sound: every pointer comes with the length of what it points to.
+    unsafe {
+        c::noterank_write(
+            contents.documents,
+            contents.kind,
+            contents.code,
+            contents.norms.as_ptr(),
+            contents.norms.len(),
+            contents.average,
+            contents.weights.as_ptr(),
+            contents.weights.len(),
+            contents.counts.as_ptr(),
+            contents.counts.len(),
+            contents.docs.as_ptr(),
+            contents.docs.len(),
+            contents.freqs.as_ptr(),
+            contents.freqs.len(),
+            out.as_mut_ptr(),
+            out.len(),
+            length.pointer(),
+        )
+    }
+}
+
+/// A write through the C interface. An error tells what it wrote where it should not.
+pub fn write(contents: &Contents, pattern: u8) -> Result<Written, String> {
+    let end = GUARD + contents.out_len;
+    let mut bytes: Vec<u8> = (0..end + GUARD).map(|i| byte_canary(i, pattern)).collect();
+    let mut length = Guarded::new(1);
+    let code = call_write(contents, &mut bytes[GUARD..end], &mut length);
+    let written = length.written(1)[0] as usize;
+    if written > contents.out_len || !length.untouched(1) {
+        return Err(format!("archive's code {code}, length {written} of {}", contents.out_len));
+    }
+    let file = GUARD..GUARD + written;
+    let outside = (0..bytes.len()).filter(|place| !file.contains(place));
+    if let Some(place) = { outside }.find(|&place| bytes[place] != byte_canary(place, pattern)) {
+        let place = place as i64 - GUARD as i64;
+        return Err(format!("archive's code {code}, length {written}: wrote at {place}"));
+    }
+    Ok(Written { code, length: written as u32, bytes: bytes[file].to_vec() })
+}
+
+/// The archive's write against the plain one, over two patterns of the output; its check of the
+/// file.
+pub fn compare_write(contents: &Contents, plain: &Written) -> Result<(), String> {
+    for pattern in [0x00, 0xff] {
+        let ours = write(contents, pattern)?;
+        let (a, b) = ((ours.code, ours.length), (plain.code, plain.length));
+        if a != b {
+            return Err(format!("archive's and plain write: code and length {a:?} and {b:?}"));
+        }
+        same("archive's and plain file", &ours.bytes, &plain.bytes)?;
+    }
+    match check(&plain.bytes) {
+        refusal if plain.code == 0 && refusal != 0 => {
+            Err(format!("the archive's check of the file is {refusal}"))
+        }
+        _ => Ok(()),
+    }
 }

@@ -110,25 +110,25 @@ impl Case {
     }
 }
 
-fn each<T>(values: &[&str], read: impl Fn(&str) -> Option<T>) -> Option<Vec<T>> {
+pub(crate) fn each<T>(values: &[&str], read: impl Fn(&str) -> Option<T>) -> Option<Vec<T>> {
     values.iter().map(|word| read(word)).collect()
 }
 
-fn hex(bytes: &[u8]) -> String {
+pub(crate) fn hex(bytes: &[u8]) -> String {
     bytes.iter().map(|byte| format!("{byte:02x}")).collect()
 }
 
-fn bytes(hex: &str) -> Option<Vec<u8>> {
+pub(crate) fn bytes(hex: &str) -> Option<Vec<u8>> {
     let digits: Option<Vec<u8>> =
         hex.chars().map(|digit| digit.to_digit(16).map(|digit| digit as u8)).collect();
     let digits = digits.filter(|digits| digits.len() % 2 == 0)?;
     Some(digits.chunks(2).map(|pair| pair[0] << 4 | pair[1]).collect())
 }
 
-fn float(value: f32) -> String {
+pub(crate) fn float(value: f32) -> String {
     format!("{:08x}", value.to_bits())
 }
 
-fn from_bits(word: &str) -> Option<f32> {
+pub(crate) fn from_bits(word: &str) -> Option<f32> {
     u32::from_str_radix(word, 16).ok().map(f32::from_bits)
 }

@@ -36,7 +36,7 @@ fn relation(a: &Outcome, b: &Outcome) -> Relation {
     }
 }
 
-fn same<T: PartialEq + fmt::Debug>(what: &str, a: &[T], b: &[T]) -> Result<(), String> {
+pub(crate) fn same<T: PartialEq + fmt::Debug>(what: &str, a: &[T], b: &[T]) -> Result<(), String> {
     if a == b {
         return Ok(());
     }
@@ -59,7 +59,7 @@ pub fn same_outcome(what: &str, a: &Outcome, b: &Outcome) -> Result<(), String> 
 }
 
 /// Decoded postings, scores and bounds of every list, published against plain.
-fn same_lists(source: &Source, file: &NoteFile) -> Result<(), String> {
+pub(crate) fn same_lists(source: &Source, file: &NoteFile) -> Result<(), String> {
     for (number, list) in file.lists.iter().enumerate() {
         let plain: Vec<Posting> = (0..list.documents.len())
             .map(|i| Posting {
@@ -87,13 +87,13 @@ fn must_be_same(case: &Case, file: &NoteFile) -> bool {
     }
 }
 
-fn check_aim(aim: &Aim, code: u32) -> Result<(), String> {
+pub(crate) fn check_aim(aim: &Aim, code: u32) -> Result<(), String> {
     let met = match aim {
         Aim::Runs => code == 0 || code == 12,
         Aim::Refused(number) => code == *number,
         Aim::Open => true,
     };
-    met.then_some(()).ok_or_else(|| format!("aimed at {aim:?}, the plain scan gives {code}"))
+    met.then_some(()).ok_or_else(|| format!("aimed at {aim:?}, the plain program gives {code}"))
 }
 
 /// The skipping run of the published files, held against the plain scan's outcome.

@@ -62,16 +62,17 @@ pub struct Draft {
 }
 
 /// Writes fields, most significant bit first.
-struct Fields {
+#[derive(Default)]
+pub(crate) struct Fields {
     bits: Vec<u8>,
 }
 
 impl Fields {
-    fn put(&mut self, value: u64, width: u32) {
+    pub(crate) fn put(&mut self, value: u64, width: u32) {
         self.bits.extend((0..width).rev().map(|bit| (value >> bit & 1) as u8));
     }
 
-    fn into_bytes(self) -> Vec<u8> {
+    pub(crate) fn into_bytes(self) -> Vec<u8> {
         self.bits.chunks(8).map(|bits| bits.iter().fold(0, |byte, bit| byte << 1 | bit)).collect()
     }
 }
@@ -176,7 +177,7 @@ impl List {
     }
 
     fn entry(&self, skips: usize, postings: usize) -> Vec<u8> {
-        let mut fields = Fields { bits: Vec::new() };
+        let mut fields = Fields::default();
         fields.put(u64::from(self.weight.to_bits()), 32);
         fields.put(self.count, 21);
         fields.put(self.kind & 1, 1);
@@ -198,7 +199,7 @@ impl Draft {
     }
 
     fn header(&self) -> Vec<u8> {
-        let mut fields = Fields { bits: Vec::new() };
+        let mut fields = Fields::default();
         fields.put(self.version, 4);
         fields.put(self.norm_kind, 1);
         fields.put(self.claimed_lists.unwrap_or(self.lists.len() as u64), 5);

@@ -340,6 +340,7 @@ pub fn step_down(score: f32) -> f32 {
 
 /// A decoded list with its unstepped scores and bounds.
 pub struct List {
+    pub weight: f32,
     pub documents: Vec<u32>,
     pub frequencies: Vec<u32>,
     pub scores: Vec<f32>,
@@ -351,6 +352,10 @@ pub struct List {
 /// An accepted file.
 pub struct NoteFile {
     pub documents: u32,
+    pub average: f32,
+    /// The code of all documents, or None and the bytes.
+    pub norm_code: Option<u8>,
+    pub norms: Vec<u8>,
     pub lists: Vec<List>,
 }
 
@@ -402,6 +407,7 @@ fn read_list(
     let score = |code, frequency| score_of(entry.weight, header.average, code, frequency);
     let postings = documents.iter().zip(&frequencies);
     let list = List {
+        weight: entry.weight,
         scores: postings.map(|(&doc, &frequency)| score(norms.code(doc), frequency)).collect(),
         bound: list_bound(entry.weight, header.average),
         block_bounds: skips.iter().map(|skip| score(skip.norm_code, skip.most_frequency)).collect(),
@@ -432,7 +438,20 @@ pub fn read_file(file: &[u8]) -> Result<NoteFile, u32> {
     for (entry, (skips, postings)) in parts.entries.iter().zip(&parts.lists) {
         lists.push(read_list(&header, &norms, entry, skips, postings)?);
     }
-    Ok(NoteFile { documents: header.documents as u32, lists })
+    Ok(NoteFile {
+        documents: header.documents as u32,
+        average: header.average,
+        norm_code: (header.norm_kind == 1).then_some(header.norm_code),
+        norms: parts.norms.to_vec(),
+        lists,
+    })
+}
+
+/// The skip bytes of every list of an accepted file, one after another.
+pub fn skip_bytes(file: &[u8]) -> Vec<u8> {
+    let header = Header::read(file);
+    let parts = header.and_then(|header| Parts::read(file, &header));
+    parts.map_or(Vec::new(), |parts| parts.lists.iter().flat_map(|list| list.0).copied().collect())
 }
 
 /// 0, or the refusal's number.

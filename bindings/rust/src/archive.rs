@@ -1,6 +1,7 @@
-//! The archive's two functions, called safely. All unsafe code of this package is here.
+//! The archive's functions, called safely. All unsafe code of this package is here.
 
-use crate::Query;
+use crate::contents::{norm_numbers, Rows};
+use crate::{Contents, Query};
 
 #[path = "../../../include/noterank.rs"]
 mod c;
@@ -43,4 +44,34 @@ pub fn run(file: &[u8], query: &Query, documents: &mut [u32], scores: &mut [f32]
         )
     };
     (number, count)
+}
+
+/// The number that a write returns, and the file's length.
+pub fn write(contents: &Contents, rows: &Rows, out: &mut [u8]) -> (u32, u32) {
+    let (kind, code, norms) = norm_numbers(&contents.norms);
+    let mut length = 0;
+    // Sound, as above: what is read is borrowed until the call returns, each pointer with its own
+    // slice's length; out is borrowed exclusively; length is a variable of this function.
+    let number = unsafe {
+        c::noterank_write(
+            contents.documents,
+            kind,
+            code,
+            norms.as_ptr(),
+            norms.len(),
+            contents.average,
+            rows.weights.as_ptr(),
+            rows.weights.len(),
+            rows.counts.as_ptr(),
+            rows.counts.len(),
+            rows.documents.as_ptr(),
+            rows.documents.len(),
+            rows.frequencies.as_ptr(),
+            rows.frequencies.len(),
+            out.as_mut_ptr(),
+            out.len(),
+            &mut length,
+        )
+    };
+    (number, length)
 }

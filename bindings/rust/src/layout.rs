@@ -204,7 +204,7 @@ mod tests {
 
     #[test]
     fn parts_follow_each_other() {
-        let file = crate::sample::dryer();
+        let file = crate::sample::other_form();
         let layout = Layout::read(&file).unwrap();
         let mut at = layout.norms.end;
         for list in &layout.lists {

@@ -1,8 +1,8 @@
-//! A safe wrapper over the proved ranking of a note file.
+//! A safe wrapper over the proved ranking of a note file, and over its proved writer.
 //!
-//! The archive `libnoterank.a` checks the file and runs the query; what it promises is written in
-//! the repository's technical file. This package passes arguments and gathers rows: it is tested,
-//! not proved.
+//! The archive `libnoterank.a` checks the file, runs the query and writes files; what it promises
+//! is written in the repository's technical file. This package passes arguments and gathers rows:
+//! it is tested, not proved.
 //!
 //! ```
 //! use noterank::{best, Mode, NoteFile, Query, Refusal, Rule};
@@ -28,12 +28,15 @@
 
 #[allow(unsafe_code)]
 mod archive;
+mod contents;
 pub mod layout;
 pub mod place;
 mod query;
 mod refusal;
 pub mod sample;
+pub mod text;
 
+pub use contents::{write, write_into, Contents, List, Norms, Posting};
 pub use query::{Mode, Query, Rule, Scoring, Walk};
 pub use refusal::Refusal;
 
@@ -65,7 +68,7 @@ pub struct NoteFile<'a> {
 fn refusal(number: u32) -> Option<Refusal> {
     match number {
         0 => None,
-        _ => Some(Refusal::from_number(number).expect("the archive returns 0 to 12")),
+        _ => Some(Refusal::from_number(number).expect("the archive returns 0 to 13")),
     }
 }
 
@@ -76,6 +79,10 @@ impl<'a> NoteFile<'a> {
             None => Ok(NoteFile { bytes }),
             Some(refusal) => Err(refusal),
         }
+    }
+
+    pub(crate) fn bytes(&self) -> &'a [u8] {
+        self.bytes
     }
 
     /// Documents are numbered from 0 up to this.

@@ -3,7 +3,8 @@
 use std::error::Error;
 use std::fmt;
 
-/// Why a file (1 to 9), a query (10), a rule (11) or a run without rows left (12) is refused.
+/// Why a file (1 to 9), a query (10), a rule (11), a run without rows left (12), contents (1 to 9)
+/// or an output that is too short for their file (13) is refused.
 #[derive(Clone, Copy, Debug, PartialEq, Eq)]
 pub enum Refusal {
     /// The header.
@@ -30,10 +31,12 @@ pub enum Refusal {
     Rule = 11,
     /// The rows.
     Rows = 12,
+    /// The output.
+    Output = 13,
 }
 
 /// Each refusal with its condition in words, in number order.
-const TABLE: [(Refusal, &str); 12] = [
+const TABLE: [(Refusal, &str); 13] = [
     (
         Refusal::Header,
         "The header is wrong: under 9 bytes, a version other than 1, the spare bit set, over 16 \
@@ -83,10 +86,32 @@ const TABLE: [(Refusal, &str); 12] = [
          64.",
     ),
     (Refusal::Rows, "A report is due and every row is full."),
+    (Refusal::Output, "The output is too short for the file."),
+];
+
+/// Those that contents meet in other words than a file does.
+const OF_CONTENTS: [(Refusal, &str); 5] = [
+    (Refusal::Header, "The contents are too large: over 16 lists, or over 1,048,576 documents."),
+    (Refusal::Length, "There are not as many norm codes as documents."),
+    (
+        Refusal::Entry,
+        "A list is wrong: its weight is negative, no number or over 1,000, or it has more \
+         postings than there are documents.",
+    ),
+    (
+        Refusal::Documents,
+        "A list's documents are wrong: one does not rise above the one before it or is not below \
+         the number of documents.",
+    ),
+    (
+        Refusal::Bound,
+        "A score is too high: it lies above its list's bound, the score of the longest field with \
+         the highest frequency.",
+    ),
 ];
 
 impl Refusal {
-    /// The refusal of a number; None for 0 and for numbers past 12.
+    /// The refusal of a number; None for 0 and for numbers past 13.
     pub fn from_number(number: u32) -> Option<Refusal> {
         TABLE.iter().map(|row| row.0).find(|refusal| refusal.number() == number)
     }
@@ -99,6 +124,12 @@ impl Refusal {
     /// The condition in words.
     pub fn sentence(self) -> &'static str {
         TABLE[self as usize - 1].1
+    }
+
+    /// The condition in words, where contents are refused and not a file.
+    pub fn of_contents(self) -> &'static str {
+        let own = OF_CONTENTS.iter().find(|row| row.0 == self);
+        own.map_or(self.sentence(), |row| row.1)
     }
 }
 
@@ -116,11 +147,11 @@ mod tests {
 
     #[test]
     fn numbers_go_both_ways() {
-        for number in 1..=12 {
+        for number in 1..=13 {
             assert_eq!(Refusal::from_number(number).map(Refusal::number), Some(number));
         }
         assert_eq!(Refusal::from_number(0), None);
-        assert_eq!(Refusal::from_number(13), None);
+        assert_eq!(Refusal::from_number(14), None);
     }
 
     #[test]
@@ -128,7 +159,18 @@ mod tests {
         for (place, (refusal, text)) in TABLE.iter().enumerate() {
             assert_eq!(refusal.number() as usize, place + 1);
             assert_eq!(refusal.to_string(), *text);
+        }
+        for (_, text) in TABLE.iter().chain(&OF_CONTENTS) {
             assert!(text.ends_with('.') && !text.contains(". ") && !text.contains("  "), "{text}");
         }
+    }
+
+    #[test]
+    fn contents_have_words_of_their_own() {
+        for (refusal, text) in OF_CONTENTS {
+            assert_ne!(refusal.sentence(), text);
+            assert_eq!(refusal.of_contents(), text);
+        }
+        assert_eq!(Refusal::Average.of_contents(), Refusal::Average.sentence());
     }
 }

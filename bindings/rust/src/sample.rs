@@ -1,24 +1,17 @@
-//! Note files to play with, good and bad ones.
+//! Note files to play with, good and bad ones, and contents.
+//!
+//! Those that are sound are written from their contents. Other-form.note alone is not: its blocks
+//! are not strict and one of its lists counts its frequencies in skip entries of 12 bytes, so that
+//! both are seen by whoever reads files.
 
 use crate::layout::{Entry, Header, BLOCK};
+use crate::{text, write, Contents, NoteFile};
 
 /// Two lists of two documents, weights 1,000 and 500.
-const SMALL: [u8; 43] = [
-    0x18, 0x80, 0x40, 0x00, 0x08, 0x41, 0x00, 0x00, 0x00, // header
-    0x44, 0x7a, 0x00, 0x00, 0x00, 0x00, 0x10, 0x00, 0x00, 0x00, 0x00, 0x00, 0x04, // list 0
-    0x43, 0xfa, 0x00, 0x00, 0x00, 0x00, 0x10, 0x00, 0x00, 0x00, 0x00, 0x00, 0x04, // list 1
-    0x81, 0x82, 0x81, 0x83, // documents 1 and 3, frequencies 1 and 3
-    0x80, 0x83, 0x81, 0x81, // documents 0 and 3, frequencies 1 and 1
-];
+const SMALL: &str = include_str!("../samples/small.txt");
 
 /// One document in two lists, a large score and a small one, whose sum rounds up.
-const ROUNDING: [u8; 47] = [
-    0x18, 0x80, 0x00, 0x00, 0x02, 0x4f, 0x00, 0x00, 0x00, // header
-    0x44, 0x00, 0x00, 0x08, 0x00, 0x00, 0x08, 0x00, 0x00, 0x00, 0x00, 0x00, 0x06, // list 0
-    0x38, 0xc0, 0x00, 0x00, 0x00, 0x00, 0x08, 0x00, 0x00, 0x00, 0x00, 0x00, 0x06, // list 1
-    0x80, 0x18, 0x00, 0x00, 0x40, 0x87, // document 0
-    0x80, 0x18, 0x00, 0x00, 0x40, 0x87, // document 0
-];
+const ROUNDING: &str = include_str!("../samples/rounding.txt");
 
 /// A sample's file name, what it shows, and its bytes.
 pub struct Sample {
@@ -34,17 +27,25 @@ pub struct Sample {
 pub fn all() -> Vec<Sample> {
     let sample = |name, about, bytes| Sample { name, about, bytes };
     vec![
-        sample("small.note", "two lists of two documents", SMALL.to_vec()),
+        sample("small.txt", "contents: two lists of two documents", SMALL.into()),
+        sample("small.note", "the file of small.txt", written_from(SMALL)),
         sample("dryer.note", "five lists over 1,000 documents, with full blocks", dryer()),
-        sample("rounding.note", "an unstepped hit that skipping loses", ROUNDING.to_vec()),
+        sample("other-form.note", "the same in another form: blocks not strict", other_form()),
+        sample("rounding.txt", "contents: one document in two lists", ROUNDING.into()),
+        sample("rounding.note", "an unstepped hit that skipping loses", written_from(ROUNDING)),
         sample("old-version.note", "refused: small.note, its version 0", old_version()),
         sample("truncated.note", "refused: dryer.note, its last third missing", truncated()),
         sample("low-bound.note", "refused: small.note, a score above its bound", low_bound()),
     ]
 }
 
+fn written_from(contents: &str) -> Vec<u8> {
+    let text = text::parse(contents.as_bytes()).expect("a sample has no wrong line");
+    write(&text.contents).expect("a sample's contents are right")
+}
+
 fn old_version() -> Vec<u8> {
-    let mut file = SMALL.to_vec();
+    let mut file = written_from(SMALL);
     file[0] &= 0x0f;
     file
 }
@@ -57,7 +58,7 @@ fn truncated() -> Vec<u8> {
 
 /// A frequency of 4 where 3 is the most that the list's bound covers.
 fn low_bound() -> Vec<u8> {
-    let mut file = SMALL.to_vec();
+    let mut file = written_from(SMALL);
     file[38] = 0x84;
     file
 }
@@ -178,9 +179,16 @@ fn written(header: Header, norms: &[u8], drafts: &[Draft]) -> Vec<u8> {
     file
 }
 
-/// A thousand notes of 4 to 27 words, and five words: one in nearly all of them, others rarer and
-/// weighing more, the last in none.
+/// The file of the contents of [`other_form`].
 pub fn dryer() -> Vec<u8> {
+    let other = other_form();
+    let file = NoteFile::check(&other).expect("a sample is sound");
+    write(&Contents::read(&file)).expect("a sample's contents are right")
+}
+
+/// A thousand notes of 4 to 27 words, and five words: one in nearly all of them, others rarer and
+/// weighing more, the last in none. Not in house form.
+pub fn other_form() -> Vec<u8> {
     const DOCUMENTS: u32 = 1_000;
     let norms: Vec<u8> = (0..DOCUMENTS).map(|note| 4 + (scatter(0, note) % 24) as u8).collect();
     let list = |(seed, share, weight, positions)| Draft {

@@ -6,14 +6,14 @@ use noterank::{sample, NoteFile, Refusal};
 
 /// The sample with five lists, one byte of it changed.
 fn changed(place: usize, change: impl Fn(u8) -> u8) -> Vec<u8> {
-    let mut file = sample::dryer();
+    let mut file = sample::other_form();
     file[place] = change(file[place]);
     file
 }
 
 /// The same with several bytes changed.
 fn with(place: usize, bytes: &[u8]) -> Vec<u8> {
-    let mut file = sample::dryer();
+    let mut file = sample::other_form();
     file[place..place + bytes.len()].copy_from_slice(bytes);
     file
 }
@@ -33,12 +33,12 @@ fn shows(file: &[u8], number: u32, expected: &[&str]) {
 }
 
 fn layout() -> Layout {
-    Layout::read(&sample::dryer()).unwrap()
+    Layout::read(&sample::other_form()).unwrap()
 }
 
 #[test]
 fn an_accepted_file_shows_none() {
-    assert_eq!(places(&sample::dryer()), [""; 0]);
+    assert_eq!(places(&sample::other_form()), [""; 0]);
 }
 
 #[test]
@@ -69,7 +69,7 @@ fn refusal_2() {
 
 #[test]
 fn refusal_3() {
-    let (file, layout) = (sample::dryer(), layout());
+    let (file, layout) = (sample::other_form(), layout());
     let cut = |length: usize| file[..length].to_vec();
     shows(&cut(9), 3, &["the file ends after 9 bytes, inside the entry of list 0 of 5"]);
     shows(&cut(73), 3, &["the file ends after 73 bytes, inside the entry of list 4 of 5"]);
@@ -145,7 +145,7 @@ fn refusal_7() {
 
 #[test]
 fn refusal_8() {
-    let (file, lists) = (sample::dryer(), layout().lists);
+    let (file, lists) = (sample::other_form(), layout().lists);
     let width = usize::from(file[lists[2].skips.start + 4]);
     let at = lists[2].postings.start + 16 * width;
     let place = format!("list 2, block 0: frequencies at byte {at}");
@@ -167,14 +167,14 @@ fn refusal_9() {
 /// Every fault has a place, and none is looked for outside of the file.
 #[test]
 fn every_prefix() {
-    let file = sample::dryer();
+    let file = sample::other_form();
     assert!((0..file.len()).all(|length| !places(&file[..length]).is_empty()));
 }
 
 /// A bit of a list's skip entries or postings shows in that list, if at all.
 #[test]
 fn every_turned_bit() {
-    let (mut file, layout) = (sample::dryer(), layout());
+    let (mut file, layout) = (sample::other_form(), layout());
     for bit in 0..8 * layout.end {
         file[bit / 8] ^= 1 << (bit % 8);
         let places = places(&file);

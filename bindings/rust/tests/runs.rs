@@ -167,8 +167,8 @@ fn threads_share_a_file() {
 fn a_small_stack_suffices() {
     let small = std::thread::Builder::new().stack_size(128 * 1024);
     let run = || {
-        let dryer = sample::dryer();
-        let file = NoteFile::check(&dryer).unwrap();
+        let other = sample::other_form();
+        let file = NoteFile::check(&other).unwrap();
         let lists = [0, 1, 2, 3, 0, 1, 2, 3, 0, 1, 2, 3, 0, 1, 2, 3];
         [Mode::Union, Mode::Intersection].map(|mode| file.run(&Query::new(mode, &lists)).is_ok())
     };

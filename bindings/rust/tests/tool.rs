@@ -68,6 +68,11 @@ fn wrong_usage() {
         ("check", "check takes one FILE"),
         ("check a b", "check takes one FILE"),
         ("check --fast", "check takes one FILE"),
+        ("dump", "dump takes one FILE"),
+        ("dump a b", "dump takes one FILE"),
+        ("write", "write takes CONTENTS"),
+        ("write a b c", "write takes CONTENTS"),
+        ("write a --over b", "write has no options"),
         ("sample", "sample takes one DIR"),
         ("search a", "--lists is missing"),
         ("search --lists 0", "FILE is missing"),
@@ -119,12 +124,82 @@ fn files_that_are_none() {
     let missing = folder.path("missing.note");
     for path in [folder.0.to_str().unwrap(), &missing, ""] {
         ends(&noterank(&["check", path]), 2, "cannot be read");
+        ends(&noterank(&["dump", path]), 2, "cannot be read");
+        ends(&noterank(&["write", path]), 2, "cannot be read");
         ends(&noterank(&["both", path, "--lists", "0"]), 2, "cannot be read");
     }
     ends(&noterank(&["check", "/dev/null"]), 1, "inside the header");
     // A file of holes: it takes no room.
     fs::File::create(&missing).unwrap().set_len(MOST_BYTES + 1).unwrap();
     ends(&noterank(&["check", &missing]), 2, "longer than any note file");
+}
+
+const CONTENTS: &str = "documents 4\naverage 8\nnorm 1\nlist 1000\n1 1\n3 3\n";
+
+/// A dump, written again, is the same file if that was in house form; else its contents are kept.
+#[test]
+fn dumps_are_written_again() {
+    let folder = Folder::new("dumps");
+    let again = |name: &str, text: &str, note: &str| {
+        let dump = noterank(&["dump", &folder.path(name)]);
+        ends(&dump, 0, "# ");
+        fs::write(folder.path(text), &dump.stdout).unwrap();
+        ends(&noterank(&["write", &folder.path(text), &folder.path(note)]), 0, "written");
+        let written = fs::read(folder.path(note)).unwrap();
+        assert_eq!(noterank(&["write", &folder.path(text)]).stdout, written);
+        let same = written == fs::read(folder.path(name)).unwrap();
+        let form = if same { "# house form" } else { "# not house form" };
+        assert!(dump.stdout.starts_with(form.as_bytes()));
+        same
+    };
+    assert!(again("small.note", "small", "small-again"));
+    assert!(again("rounding.note", "rounding", "rounding-again"));
+    assert!(again("dryer.note", "dryer", "dryer-again"));
+    assert!(!again("other-form.note", "other", "house"));
+    assert!(again("house", "house-text", "house-again"));
+    let text = |name: &str| fs::read_to_string(folder.path(name)).unwrap();
+    let behind = |text: String| text.split_once('\n').unwrap().1.to_string();
+    assert_eq!(behind(text("house-text")), behind(text("other")));
+}
+
+#[test]
+fn contents_that_cannot_be_written() {
+    let folder = Folder::new("contents");
+    let (text, note) = (folder.path("text"), folder.path("note"));
+    let lines = |number: &str| format!("as this tool reads it: line {number}: ");
+    for (old, new, status, said) in [
+        ("average 8", "average ei\u{7}ght", 2, "text: line 2: ei".to_string()),
+        ("norm 1\n", "", 2, "text: a line is missing: norm, or norms".to_string()),
+        ("3 3", "3", 2, "text: line 6: a posting is a document and its frequency".to_string()),
+        ("documents 4", "documents 1048577", 1, "text: refused with 1\nThe contents".to_string()),
+        ("average 8", "average 0.01", 1, lines("2") + "average 0.01"),
+        ("norm 1", "norms 1 2 3", 1, lines("1") + "documents 4; norm codes: 3"),
+        ("list 1000", "list 1e99", 1, lines("4") + "list 0, weight inf"),
+        ("3 3", "0 3", 1, lines("6") + "list 0, document 0 behind document 1"),
+        ("1 1", "1 0", 1, lines("5") + "list 0, frequency 0"),
+        ("3 3", "3 4", 1, lines("6") + "list 0, document 3 with frequency 4"),
+    ] {
+        fs::write(&text, CONTENTS.replace(old, new)).unwrap();
+        ends(&noterank(&["write", &text, &note]), status, &said);
+        ends(&noterank(&["write", &text]), status, &said);
+        assert!(!folder.0.join("note").exists());
+    }
+    fs::write(&text, b"\xff\xfe").unwrap();
+    ends(&noterank(&["write", &text]), 2, "line 1: not text in UTF-8");
+    fs::File::create(&note).unwrap().set_len((1 << 30) + 1).unwrap();
+    ends(&noterank(&["write", &note]), 2, "longer than this tool takes contents");
+}
+
+#[test]
+fn a_file_is_not_written_over() {
+    let folder = Folder::new("written-over");
+    let (text, note) = (folder.path("text"), folder.path("note"));
+    fs::write(&text, CONTENTS).unwrap();
+    fs::write(&note, "mine").unwrap();
+    ends(&noterank(&["write", &text, &note]), 2, "note: cannot be written: File exists");
+    assert_eq!(fs::read(&note).unwrap(), b"mine");
+    ends(&noterank(&["write", &text, &folder.path("no/note")]), 2, "cannot be written");
+    ends(&noterank(&["dump", &text]), 1, "text: refused with 1");
 }
 
 #[test]
@@ -149,9 +224,13 @@ fn a_broken_pipe_is_no_failure() {
     let folder = Folder::new("pipe");
     let (reader, writer) = std::io::pipe().unwrap();
     drop(reader);
-    let words = ["search", &folder.path("dryer.note"), "--lists", "0,1", "--best", "64"];
-    let child = Command::new(TOOL).args(words).stdout(writer).stderr(Stdio::piped()).spawn();
-    let output = child.unwrap().wait_with_output().unwrap();
-    ends(&output, 0, "");
-    assert_eq!(output.stderr, b"");
+    let dryer = folder.path("dryer.note");
+    let search = ["search", &dryer, "--lists", "0,1", "--best", "64"];
+    for words in [&search[..], &["dump", &dryer]] {
+        let writer = writer.try_clone().unwrap();
+        let child = Command::new(TOOL).args(words).stdout(writer).stderr(Stdio::piped()).spawn();
+        let output = child.unwrap().wait_with_output().unwrap();
+        ends(&output, 0, "");
+        assert_eq!(output.stderr, b"");
+    }
 }

@@ -32,7 +32,7 @@ off v z {w} {m} h =
     ∙ add-mul-mod-self-left v (2 ^ w) (2 ^ (m - w) * z)
 
 -- so it is no part of w bits from bit k on that end below it
-cut : (v z k w m : ℕ) → k + w ≤ m → (v + 2 ^ m * z) / 2 ^ k % 2 ^ w ≡ v / 2 ^ k % 2 ^ w
+pub cut : (v z k w m : ℕ) → k + w ≤ m → (v + 2 ^ m * z) / 2 ^ k % 2 ^ w ≡ v / 2 ^ k % 2 ^ w
 cut v z k w m h = ap (λ (x : ℕ). x % 2 ^ w) (down v z (omega arith)) ∙ off (v / 2 ^ k) z (omega arith)
 
 -- a product and what is below it, the other way round
@@ -48,7 +48,7 @@ words m = ap (λ (x : ℕ). 2 ^ x) (up m) ∙ pow-add 2 32 (32 * m)
 
 module _ (s : List ℕ) where
   -- the words from the m-th on
-  lane-from : (m k p : ℕ) → laneAt (m + k) s p ≡ laneAt k s (p + 16 * m) * 2 ^ (32 * m) + laneAt m s p
+  pub lane-from : (m k p : ℕ) → laneAt (m + k) s p ≡ laneAt k s (p + 16 * m) * 2 ^ (32 * m) + laneAt m s p
   unfolding laneAt
   lane-from zero k p = rw (zero-add k, add-zero p) (omega arith)
   lane-from (suc m) k p =
@@ -81,7 +81,7 @@ module _ (s : List ℕ) where
     unfolding wordAt
     word-lt p = omega (arith, bytes p, bytes (p + 1), bytes (p + 2), bytes (p + 3))
 
-    lane-lt : (k p : ℕ) → laneAt k s p < 2 ^ (32 * k)
+    pub lane-lt : (k p : ℕ) → laneAt k s p < 2 ^ (32 * k)
     unfolding laneAt
     lane-lt zero p = omega arith
     lane-lt (suc k) p = rw (words k) (omega (arith, lane-lt k (p + 16), word-lt p))

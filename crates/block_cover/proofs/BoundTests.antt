@@ -12,7 +12,8 @@ use Rattle.floats.specs.Whole.{wholeF32}
 use Rattle.fieldnorm.specs.declared.FieldNormReader.{FieldNormReader}
 use Rattle.bm25.specs.Bound.{maxTf}
 use Rattle.bm25.specs.Score.{scoreAt}
-use Rattle.bm25.specs.Inner.Bound.{allCovered, blockBoundIn}
+use Rattle.bm25.specs.Inner.Bound.{blockBoundIn}
+use Rattle.bm25.specs.Bound.{allCovered}
 use Rattle.bm25.specs.Inner.Weight.{scoreIn}
 use Rattle.bm25.specs.declared.Bm25Weight.{Bm25Weight}
 use Rattle.block_norms.specs.Inner.Block.{Gathered}

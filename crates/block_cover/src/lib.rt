@@ -10,7 +10,7 @@ ghost use mathlib.Core.Path.{_≡_};
 ghost use mathlib.Core.Bool.{true};
 ghost use Prim.Native.Nat.{_≤_};
 ghost use Rattle.arrays.specs.Lent.{before};
-ghost use Rattle.bm25.specs.Inner.Bound.{allCovered};
+ghost use Rattle.bm25.specs.Bound.{allCovered};
 ghost use Rattle.block_norms.specs.Inner.Codes.{Below};
 ghost use Rattle.bm25_block.specs.Inner.Block.{ExactWhere, allExact, postingScore, weighedAt};
 ghost use Rattle.block_cover.specs.Inner.Cover.{blockCovered};

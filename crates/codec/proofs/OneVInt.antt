@@ -29,7 +29,7 @@ shifted-more v k b (Value x next) = ap (λ (y : ℕ). Value y next) (spread v (2
 shifted-more v k b Broken = refl
 
 module _ (s : List ℕ) (e p n : ℕ) where
-  from-end : e ≤ p → vintFrom n s e p ≡ Broken
+  pub from-end : e ≤ p → vintFrom n s e p ≡ Broken
   unfolding vintFrom
   from-end h = go n
     where
@@ -38,11 +38,11 @@ module _ (s : List ℕ) (e p n : ℕ) where
       go (suc m) = simp (le-ltb p e h)
 
   module _ (h : p < e) where
-    from-last : 128 ≤ getD s p 0 → vintFrom (suc n) s e p ≡ Value (getD s p 0 - 128) (p + 1)
+    pub from-last : 128 ≤ getD s p 0 → vintFrom (suc n) s e p ≡ Value (getD s p 0 - 128) (p + 1)
     unfolding vintFrom
     from-last k = simp (lt-ltb p e h, le-ltb (getD s p 0) 128 k)
 
-    from-more : getD s p 0 < 128 → vintFrom (suc n) s e p ≡ more (getD s p 0) (vintFrom n s e (p + 1))
+    pub from-more : getD s p 0 < 128 → vintFrom (suc n) s e p ≡ more (getD s p 0) (vintFrom n s e (p + 1))
     unfolding vintFrom
     from-more k = simp (lt-ltb p e h, lt-ltb (getD s p 0) 128 k)
 

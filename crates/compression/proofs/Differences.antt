@@ -159,7 +159,7 @@ module _ (v : ℕ → ℕ) (strict first : Bool) (previous : ℕ) where
   docs-rise : (i j : ℕ) → i ≤ j → docAt v strict first previous i ≤ docAt v strict first previous j
   docs-rise i j h = climbs (docAt v strict first previous) i j h (λ k l. rw (doc-next k) (omega arith))
 
-  above-last : (b : Bool) → (b ≡ true) ⊎ (ltb previous (docAt v strict first previous 0) ≡ true) → aboveLast v strict first previous b ≡ true
+  above-last : (b : Bool) → (b ≡ true) ⊎ (ltb previous (docAt v strict first previous 0) ≡ true) → aboveLast (docAt v strict first previous) first previous b ≡ true
   above-last true c = refl
   above-last false (inl e) = absurd (true≢false (sym e))
   above-last false (inr e) = e
@@ -173,7 +173,7 @@ module _ {vs out : List ℕ} {strict first : Bool} {previous : ℕ} (n limit : �
   d = docAt v strict first previous
 
   abbrev right : ℕ → Bool
-  right i = rises v strict first previous i && ltb (d i) limit
+  right i = rises (docAt v strict first previous) first previous i && ltb (d i) limit
 
   -- a document that fits is its sum in 32 bits
   word-at : (i : ℕ) → i < n → d i < 4294967296 → getD out i 0 ≡ d i
@@ -182,20 +182,20 @@ module _ {vs out : List ℕ} {strict first : Bool} {previous : ℕ} (n limit : �
   -- right documents fit
   module _ (r : docsRight v strict first previous n limit ≡ true) (i : ℕ) (h : i < n) where
     pub right-below : d i < limit
-    right-below = ltb-true (d i) limit (second-true (rises v strict first previous i) (ltb (d i) limit) (each right n i r h))
+    right-below = ltb-true (d i) limit (second-true (rises (docAt v strict first previous) first previous i) (ltb (d i) limit) (each right n i r h))
 
     pub right-word : getD out i 0 ≡ d i
     right-word = word-at i h (omega (arith, right-below))
 
-    right-rises : rises v strict first previous i ≡ true
-    right-rises = first-true (rises v strict first previous i) (ltb (d i) limit) (each right n i r h)
+    right-rises : rises (docAt v strict first previous) first previous i ≡ true
+    right-rises = first-true (rises (docAt v strict first previous) first previous i) (ltb (d i) limit) (each right n i r h)
 
   pub none-right : n ≡ 0 → true ≡ docsRight v strict first previous n limit
   none-right e = sym (ap (λ (k : ℕ). every k right) e)
 
   module _ (pos : 0 < n) where
     pub first-low : first ≡ false → getD out 0 0 ≤ previous → false ≡ docsRight v strict first previous n limit
-    first-low e l = not-true (docsRight v strict first previous n limit) (λ r. omega (arith, ltb-true previous (d 0) (subst (λ (b : Bool). aboveLast v strict first previous b ≡ true) e (right-rises r 0 pos)), right-word r 0 pos))
+    first-low e l = not-true (docsRight v strict first previous n limit) (λ r. omega (arith, ltb-true previous (d 0) (subst (λ (b : Bool). aboveLast (docAt v strict first previous) first previous b ≡ true) e (right-rises r 0 pos)), right-word r 0 pos))
 
     pub last-high : limit ≤ getD out (n - 1) 0 → false ≡ docsRight v strict first previous n limit
     last-high l = not-true (docsRight v strict first previous n limit) (λ r. omega (arith, right-below r (n - 1) (omega arith), right-word r (n - 1) (omega arith)))
@@ -206,12 +206,12 @@ module _ {vs out : List ℕ} {strict first : Bool} {previous : ℕ} (n limit : �
     module _ (above : (first ≡ true) ⊎ (previous < getD out 0 0)) (below : getD out (n - 1) 0 < limit) where
       -- documents that fit, each above the one before it
       module _ (fits : (k : ℕ) → k < n → d k < 4294967296) (rose : (k : ℕ) → suc k < n → d k < d (suc k)) where
-        rises-at : (i : ℕ) → i < n → rises v strict first previous i ≡ true
+        rises-at : (i : ℕ) → i < n → rises (docAt v strict first previous) first previous i ≡ true
         rises-at zero h = above-last v strict first previous first (⊎-elim inl (λ l. inr (lt-ltb previous (d 0) (omega (arith, word-at 0 h (fits 0 h))))) above)
         rises-at (suc i) h = lt-ltb (d i) (d (suc i)) (rose i h)
 
         fit-right : docsRight v strict first previous n limit ≡ true
-        fit-right = all right n (λ i h. and-true (rises v strict first previous i) (ltb (d i) limit) (rises-at i h) (lt-ltb (d i) limit (omega (arith, docs-rise v strict first previous i (n - 1) (omega arith), word-at (n - 1) (omega arith) (fits (n - 1) (omega arith))))))
+        fit-right = all right n (λ i h. and-true (rises (docAt v strict first previous) first previous i) (ltb (d i) limit) (rises-at i h) (lt-ltb (d i) limit (omega (arith, docs-rise v strict first previous i (n - 1) (omega arith), word-at (n - 1) (omega arith) (fits (n - 1) (omega arith))))))
 
       -- sums that rise in 32 bits did not leave them
       module _ (small : (k : ℕ) → k < n → v k < 4294967296) (prev : previous < 4294967296) where

@@ -15,8 +15,23 @@ abbrev pub startOf : Bool → ℕ → Bool → ℕ
 startOf strict previous true = 0
 startOf strict previous false = previous + gapOf strict
 
+-- row 7 of the table, of documents one after another: each lies above the one before it. Before a list's first there is none
+module _ (d : ℕ → ℕ) (first : Bool) (previous : ℕ) where
+  abbrev pub aboveLast : Bool → Bool
+  aboveLast true = true
+  aboveLast false = ltb previous (d 0)
+
+  abbrev pub rises : ℕ → Bool
+  rises zero = aboveLast first
+  rises (suc i) = ltb (d i) (d (suc i))
+
+  -- and the first n are below the limit
+  abbrev pub risingBelow : ℕ → ℕ → Bool
+  risingBelow n limit = every n (λ i. rises i && ltb (d i) limit)
+
 module _ (v : ℕ → ℕ) (strict first : Bool) (previous : ℕ) where
-  -- its first half: a value is added to the document before it, and a strict block adds 1; this is what value i is added to
+  -- the documents' sentence, its first half: a value is added to the document before it, and a strict block adds 1; this is what value i is
+  -- added to
   unfoldable pub baseAt : ℕ → ℕ
   baseAt zero = startOf strict previous first
   baseAt (suc i) = baseAt i + v i + gapOf strict
@@ -25,15 +40,6 @@ module _ (v : ℕ → ℕ) (strict first : Bool) (previous : ℕ) where
   unfolding baseAt
   docAt i = baseAt i + v i
 
-  -- whether document i lies above the one before it; before a list's first there is none
-  abbrev pub aboveLast : Bool → Bool
-  aboveLast true = true
-  aboveLast false = ltb previous (docAt 0)
-
-  abbrev pub rises : ℕ → Bool
-  rises zero = aboveLast first
-  rises (suc i) = ltb (docAt i) (docAt (suc i))
-
   -- whether row 7 of the table lets the first n through
   abbrev pub docsRight : ℕ → ℕ → Bool
-  docsRight n limit = every n (λ i. rises i && ltb (docAt i) limit)
+  docsRight n limit = risingBelow docAt first previous n limit

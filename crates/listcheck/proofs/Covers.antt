@@ -10,7 +10,7 @@ use Rattle.arrays.proofs.Every.{each, all}
 use Rattle.floats.specs.Step.{within}
 use Rattle.floats.proofs.Order.{not-above, below-le, lower-below}
 use Rattle.fieldnorm.specs.declared.FieldNormReader.{FieldNormReader}
-use Rattle.bm25.specs.Inner.Bound.{allCovered}
+use Rattle.bm25.specs.Bound.{allCovered}
 use Rattle.bm25.specs.declared.Bm25Weight.{Bm25Weight}
 use Rattle.block_norms.specs.Inner.Codes.{Below}
 use Rattle.block_norms.proofs.AtMost.{all-at-most}

@@ -13,7 +13,8 @@ use Rattle.arrays.specs.Every.{every}
 use Rattle.arrays.proofs.Every.{fails, one-more}
 use Rattle.floats.specs.Step.{within}
 use Rattle.fieldnorm.specs.declared.FieldNormReader.{FieldNormReader}
-use Rattle.bm25.specs.Inner.Bound.{allCovered, blockBoundIn}
+use Rattle.bm25.specs.Inner.Bound.{blockBoundIn}
+use Rattle.bm25.specs.Bound.{allCovered}
 use Rattle.bm25.specs.declared.Bm25Weight.{Bm25Weight}
 use Rattle.block_cover.specs.Inner.Cover.{lowerBound, blockCovered}
 use Rattle.notefile.specs.Header.{normReader}

@@ -8,7 +8,7 @@ use notefile::part::Part;
 ghost use mathlib.Core.Path.{_≡_};
 ghost use Prim.Native.Nat.{_≤_};
 ghost use Rattle.arrays.specs.Lent.{before};
-ghost use Rattle.bm25.specs.Inner.Bound.{allCovered};
+ghost use Rattle.bm25.specs.Bound.{allCovered};
 ghost use Rattle.notefile.specs.Header.{normReader};
 ghost use Rattle.notefile.specs.Inner.Given.{WeightIn};
 ghost use Rattle.notefile.specs.Inner.Reads.{docsOf, freqsOf, scoreAmong};

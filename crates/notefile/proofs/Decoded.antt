@@ -9,7 +9,7 @@ use lib.ListN.{getD}
 use borrow.Author.Tests.{ltb-true, ne-eqb}
 use Rattle.arrays.specs.Every.{every}
 use Rattle.arrays.proofs.Every.{first-true, second-true, each}
-use Rattle.compression.specs.Documents.{gapOf, baseAt, docAt, aboveLast, rises, docsRight}
+use Rattle.compression.specs.Documents.{gapOf, baseAt, docAt, aboveLast, rises, risingBelow, docsRight}
 use Rattle.frequencies.specs.Frequencies.{freqRight}
 use Rattle.compression.specs.Inner.Sums.{Summed, Checked}
 use Rattle.frequencies.specs.Inner.Counts.{Counted}
@@ -27,6 +27,19 @@ pub every-same : (P Q : ℕ → Bool) (n : ℕ) → ((i : ℕ) → i < n → P i
 every-same P Q zero h = refl
 every-same P Q (suc n) h = ap (λ (z : Bool). z && P n) (every-same P Q n (λ i l. h i (omega arith))) ∙ ap (λ (z : Bool). every n Q && z) (h n (omega arith))
 
+-- row 7 goes by the documents
+module _ (d e : ℕ → ℕ) (first : Bool) (previous n : ℕ) (same : (i : ℕ) → i < n → d i ≡ e i) where
+  rises-same : (i : ℕ) → i < n → rises d first previous i ≡ rises e first previous i
+  rises-same zero h = go first
+    where
+      go : (f : Bool) → aboveLast d first previous f ≡ aboveLast e first previous f
+      go true = refl
+      go false = ap (ltb previous) (same 0 h)
+  rises-same (suc i) h = ap (λ (z : ℕ). ltb z (d (suc i))) (same i (omega arith)) ∙ ap (ltb (e i)) (same (suc i) h)
+
+  pub rising-same : (limit : ℕ) → risingBelow d first previous n limit ≡ risingBelow e first previous n limit
+  rising-same limit = every-same _ _ n (λ i h. ap (λ (z : Bool). z && ltb (d i) limit) (rises-same i h) ∙ ap (λ (z : ℕ). rises e first previous i && ltb z limit) (same i h))
+
 -- documents go by the values up to theirs
 module _ (v w : ℕ → ℕ) (strict first : Bool) (previous n : ℕ) (e : (i : ℕ) → i < n → v i ≡ w i) where
   base-same : (i : ℕ) → i ≤ n → baseAt v strict first previous i ≡ baseAt w strict first previous i
@@ -38,16 +51,8 @@ module _ (v w : ℕ → ℕ) (strict first : Bool) (previous n : ℕ) (e : (i : 
   unfolding docAt
   doc-same i h = rw (base-same i (omega arith), e i h)
 
-  rises-same : (i : ℕ) → i < n → rises v strict first previous i ≡ rises w strict first previous i
-  rises-same zero h = go first
-    where
-      go : (f : Bool) → aboveLast v strict first previous f ≡ aboveLast w strict first previous f
-      go true = refl
-      go false = ap (ltb previous) (doc-same 0 h)
-  rises-same (suc i) h = ap (λ (z : ℕ). ltb z (docAt v strict first previous (suc i))) (doc-same i (omega arith)) ∙ ap (ltb (docAt w strict first previous i)) (doc-same (suc i) h)
-
   docs-right-same : (limit : ℕ) → docsRight v strict first previous n limit ≡ docsRight w strict first previous n limit
-  docs-right-same limit = every-same _ _ n (λ i h. ap (λ (z : Bool). z && ltb (docAt v strict first previous i) limit) (rises-same i h) ∙ ap (λ (z : ℕ). rises w strict first previous i && ltb z limit) (doc-same i h))
+  docs-right-same = rising-same (docAt v strict first previous) (docAt w strict first previous) first previous n doc-same
 
 module _ (file : List ℕ) (x : Part) (b : ℕ) where
   first-is : eqb b 0 ≡ isFirst b
@@ -70,7 +75,7 @@ module _ (file : List ℕ) (x : Part) (b : ℕ) where
   unfolding blockDocsRight docsRise
   doc-low e i h =
       let d = docAt (docValue file x b) (strictIn file x b) (isFirst b) (previousDoc file x b) i in
-      let r = rises (docValue file x b) (strictIn file x b) (isFirst b) (previousDoc file x b) i in
+      let r = rises (docAt (docValue file x b) (strictIn file x b) (isFirst b) (previousDoc file x b)) (isFirst b) (previousDoc file x b) i in
       rw (doc-is i) (ltb-true d (documents file) (second-true r (ltb d (documents file)) (each _ (blockSize x b) i (first-true (docsRise file x b) (lastRight file x b) e) h)))
 
   -- summed values that are the block's

@@ -16,9 +16,8 @@ use Rattle.compression.specs.Documents.{docAt, rises}
 use Rattle.frequencies.specs.Frequencies.{freqRight}
 use Rattle.notefile.specs.Header.{documents}
 use Rattle.notefile.specs.Skips.{lastDoc}
-use Rattle.notefile.specs.Lists.{fullBlocks, tailSize, isFull, blockSize, isFirst, docValue, strictIn, blockDoc, previousDoc, blockFreq, blockScore, blockBound, listBound, listDoc, listScore}
+use Rattle.notefile.specs.Lists.{fullBlocks, tailSize, isFull, blockSize, isFirst, docValue, strictIn, blockDoc, previousDoc, blockFreq, blockScore, blockBound, listBound, listDoc, listScore, listFreq}
 use Rattle.notefile.specs.Conditions.{docsRise, lastRight, blockDocsRight, blockFreqsRight, covers, boundsRight}
-use Rattle.notefile.specs.Inner.Structs.{listFreq}
 use Rattle.notefile.specs.Inner.Given.{ListRight}
 use Rattle.notefile.specs.declared.part.Part.{Part}
 use Rattle.notefile.proofs.Decoded.{doc-is, doc-low}
@@ -29,7 +28,7 @@ module _ (file : List ℕ) (x : Part) (R : ListRight file x) where
     abbrev doc : ℕ → ℕ
     doc = docAt (docValue file x b) (strictIn file x b) (isFirst b) (previousDoc file x b)
 
-    one : (i : ℕ) → i < blockSize x b → rises (docValue file x b) (strictIn file x b) (isFirst b) (previousDoc file x b) i && ltb (doc i) (documents file) ≡ true
+    one : (i : ℕ) → i < blockSize x b → rises doc (isFirst b) (previousDoc file x b) i && ltb (doc i) (documents file) ≡ true
     unfolding blockDocsRight docsRise
     one i k = each _ (blockSize x b) i (first-true (docsRise file x b) (lastRight file x b) (R .docs b h)) k
 

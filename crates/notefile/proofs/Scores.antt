@@ -57,7 +57,7 @@ module _ (x : Part) (L : Limits x) where
   score-for-in code freq c f = score-within _ _ code freq (subst T (sym (L .weight)) tt) (subst T (sym (L .average)) tt) c f
 
   pub list-bound-in : T (within 1000 (listBound x))
-  unfolding listBound
+  unfolding listBound scoreFor
   list-bound-in = score-for-in 255 2013265944 (lit< tt) (lit< tt)
 
   pub block-bound-in : (file : List ℕ) → ((k : ℕ) → getD file k 0 < 256) → (b : ℕ) → T (within 1000 (blockBound file x b))

@@ -1,20 +1,26 @@
 -- Rows 1 to 9 of 01's table, each by itself. Each test is true where the row's condition is NOT met.
-use mathlib.Core.Bool.{Bool, true, _&&_, not, cond}
+use mathlib.Core.Bool.{Bool, true, _&&_, cond}
 use mathlib.Core.List.{List}
 use Prim.Native.Nat.{ℕ, _+_, _*_, _/_, _%_}
 use lib.Dec.{eqb, leb}
 use lib.ListN.{length}
-use lib.Ieee.{Float, binary32, ofBits, lt}
+use lib.Ieee.{Float, binary32, ofBits}
 use Rattle.arrays.specs.Every.{every}
 use Rattle.codec.specs.VInts.{vintPlace, vintWhole}
 use Rattle.compression.specs.Documents.{docsRight}
-use Rattle.frequencies.specs.Frequencies.{freqRight}
+use Rattle.frequencies.specs.Frequencies.{freqsRight}
 use Rattle.bm25.specs.Limits.{weightOk, averageOk}
+use Rattle.bm25.specs.Bound.{allCovered}
 use Rattle.notefile.specs.Header.{headerLength, versionHere, version, spare, listCount, documents, normKind, normCode, averageBits, normsAt}
 use Rattle.notefile.specs.Parts.{weightBits, documentCount, skipsAt}
 use Rattle.notefile.specs.Skips.{lastDoc, widthByte, freqWidth}
 use Rattle.notefile.specs.Lists.{fullBlocks, tailSize, isFull, blockSize, isFirst, tailAt, tailFreqsAt, docValue, strictIn, blockDoc, previousDoc, blockFreq, blockScore, blockBound, listBound}
 use Rattle.notefile.specs.declared.part.Part.{Part}
+
+-- row 4, of a list's weight and count and the number of documents: the weight is within its limits, and there are no more postings than
+-- documents
+abbrev pub listFits : Float → ℕ → ℕ → Bool
+listFits weight count limit = weightOk weight && leb count limit
 
 module _ (file : List ℕ) where
   -- row 1: the header is whole and of this version, its spare bit is clear, lists and documents are few enough, and no code stands beside norm bytes
@@ -31,9 +37,9 @@ module _ (file : List ℕ) where
   unfoldable pub lengthRight : Bool
   lengthRight = leb (normsAt file) (length file) && eqb (length file) (skipsAt file (listCount file))
 
-  -- row 4: a list's weight is within its limits, and it has no more postings than there are documents
+  -- row 4: an entry's weight and count
   unfoldable pub entryRight : ℕ → Bool
-  entryRight l = weightOk (ofBits binary32 (weightBits file l)) && leb (documentCount file l) (documents file)
+  entryRight l = listFits (ofBits binary32 (weightBits file l)) (documentCount file l) (documents file)
 
 module _ (file : List ℕ) (x : Part) where
   -- row 5: bits 5 and 7 of each width byte are clear, no frequency width is above 32, and the skip bytes are an entry for each full block
@@ -64,11 +70,11 @@ module _ (file : List ℕ) (x : Part) where
 
   -- row 8: a block's frequencies are from 1 to 2,013,265,944
   unfoldable pub blockFreqsRight : ℕ → Bool
-  blockFreqsRight b = every (blockSize x b) (λ i. freqRight (blockFreq file x b i))
+  blockFreqsRight b = freqsRight (blockFreq file x b) (blockSize x b)
 
   -- row 9: neither the list's bound nor a full block's lies below an unstepped score that it covers
   unfoldable pub covers : Float → ℕ → Bool
-  covers bound b = every (blockSize x b) (λ i. not (lt bound (blockScore file x b i)))
+  covers bound b = allCovered bound (blockSize x b) (blockScore file x b)
 
   unfoldable pub boundsRight : ℕ → Bool
   unfolding covers

@@ -8,7 +8,7 @@ use Rattle.codec.specs.VInts.{vintPlace, vintValue}
 use Rattle.bitpacker.specs.Packed.{packedAt}
 use Rattle.compression.specs.Documents.{gapOf, docAt}
 use Rattle.bm25.specs.Score.{scoreOf}
-use Rattle.bm25.specs.Bound.{maxTf}
+use Rattle.bm25.specs.Bound.{maxTf, maxScore}
 use Rattle.notefile.specs.Header.{normCodeOf}
 use Rattle.notefile.specs.Skips.{docWidth, strictBlock, freqWidth, maxNormCode, maxFreqCode}
 use Rattle.notefile.specs.declared.part.Part.{Part}
@@ -35,10 +35,9 @@ isFirst (suc b) = false
 unfoldable pub scoreFor : Part → ℕ → ℕ → Float
 scoreFor x code freq = scoreOf (ofBits binary32 (x .weight)) (ofBits binary32 (x .average)) code freq
 
--- on `bm25.rs`: the list's bound is the score of code 255 and frequency 2,013,265,944
+-- the list's bound
 unfoldable pub listBound : Part → Float
-unfolding scoreFor
-listBound x = scoreFor x 255 2013265944
+listBound x = maxScore (ofBits binary32 (x .weight)) (ofBits binary32 (x .average))
 
 module _ (file : List ℕ) (x : Part) where
   -- on packed blocks: documents, then frequencies, each 16 bytes for a bit of width; this is block b's place
@@ -96,6 +95,9 @@ module _ (file : List ℕ) (x : Part) where
   -- the same by a posting's number in its list
   abbrev pub listDoc : ℕ → ℕ
   listDoc k = blockDoc (k / 128) (k % 128)
+
+  abbrev pub listFreq : ℕ → ℕ
+  listFreq k = blockFreq (k / 128) (k % 128)
 
   abbrev pub listScore : ℕ → Float
   listScore k = blockScore (k / 128) (k % 128)

@@ -1,15 +1,19 @@
--- The C interface: the refusals of a call, and an answer as a number, a count and rows.
+-- The C interface: the refusals of a call, and an answer as a number, a count and rows; a file written.
 use mathlib.Core.Path.{_≡_}
 use mathlib.Core.Bool.{_&&_}
 use mathlib.Core.List.{List, [], _∷_, _++_}
 use Prim.Native.Nat.{ℕ, zero, suc}
 use lib.Dec.{leb}
+use lib.ListN.{length}
 use lib.Ieee.{Float}
 use Rattle.route.specs.Report.{Report}
 use Rattle.rulecheck.specs.Right.{ruleRight}
 use Rattle.notefile.specs.Header.{listCount}
 use Rattle.notefile.specs.Refusal.{Test, test, firstRefusal, fileTests}
 use Rattle.reports.specs.Rows.{Rows, rowsOf}
+use Rattle.contents.specs.Contents.{Contents}
+use Rattle.house.specs.House.{houseFile}
+use Rattle.note_writer.specs.Writes.{writeRefusal, answerFor, lengthOf, outputFor}
 use Rattle.request.specs.Request.{Request, asked, queryRight}
 use Rattle.request.specs.Lists.{plainList, SkippingList}
 use Rattle.arguments.specs.Numbers.{modeAt, scoringAt, ruleAt}
@@ -56,3 +60,9 @@ pub record Ranked (c : Call) (old : Rows) (x : Result) : Type 0 where
   pub list : List (Report Float)
   pub list-is : callRefusal c ≡ 0 → ListBy (c .walk) (requestOf c) list
   pub given : Given (answer (callRefusal c) (rowsOf (old .documents) (old .scores)) list) old x
+
+-- what `noterank_write` gives: a number, the length beside it, and what the output holds
+pub record WroteFile (c : Contents) (old : List ℕ) (number size : ℕ) (new : List ℕ) : Type 0 where
+  pub number-is : number ≡ writeRefusal c (length old)
+  pub size-is : size ≡ lengthOf (answerFor (writeRefusal c (length old)) (houseFile c))
+  pub output-is : new ≡ outputFor (writeRefusal c (length old)) (houseFile c) old

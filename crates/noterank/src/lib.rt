@@ -4,6 +4,10 @@ use arguments::rule_at;
 use arguments::scoring_at;
 use arguments::short;
 use bm25::Scoring;
+use contents::Head;
+use note_writer::length_of;
+use note_writer::number_of as written_number;
+use note_writer::write;
 use notecheck::check::Checked;
 use notecheck::check::check;
 use outcome::Outcome;
@@ -21,7 +25,8 @@ ghost use Rattle.notefile.specs.Inner.Order.{orElse};
 ghost use Rattle.reports.specs.Rows.{rows};
 ghost use Rattle.request.specs.Request.{asked};
 ghost use Rattle.ranking.specs.Demand.{result};
-ghost use Rattle.noterank.specs.Interface.{Ranked};
+ghost use Rattle.contents.specs.Contents.{handed};
+ghost use Rattle.noterank.specs.Interface.{Ranked, WroteFile};
 ghost use Rattle.noterank.specs.Inner.Calls.{numbersRefusal, OutcomeBy};
 
 // 0 for an accepted file, or the number of its refusal.
@@ -135,4 +140,34 @@ pub extern "C" fn noterank_run(
     );
     *count = short(count_of(outcome));
     number_of(outcome)
+}
+
+// The note file of contents; the header says what each argument is.
+#[no_mangle]
+pub extern "C" fn noterank_write(
+    documents: u32,
+    kind: u32,
+    code: u32,
+    norms: &[u8],
+    average: f32,
+    weights: &[f32],
+    counts: &[u32],
+    docs: &[u32],
+    freqs: &[u32],
+    out: &mut [u8],
+    length: &mut u32,
+) -> u32
+    ensures { λ r.
+        let c = handed documents kind code (before norms) average (before weights) (before counts) (before docs) (before freqs) in
+        ⌜ WroteFile c (before out) r (after length) (after out) ⌝ }
+{
+    let h = Head {
+        documents,
+        kind,
+        code,
+        average,
+    };
+    let answer = write(h, norms, weights, counts, docs, freqs, out);
+    *length = short(length_of(answer));
+    written_number(answer)
 }

@@ -76,7 +76,7 @@ module _ (file : List ℕ) (x : Part) (w : Bm25Weight) (W : WeightIn x w) (scori
       abbrev at : ℕ
       at = start 128 (cursorIn row .dec) + i
 
-      freq-is : at < x .count → getD (freqsOf block) i 0 ≡ Rattle.notefile.specs.Inner.Structs.listFreq file x at
+      freq-is : at < x .count → getD (freqsOf block) i 0 ≡ Rattle.notefile.specs.Lists.listFreq file x at
       unfolding postingsIn cursorIn
       freq-is l = P .placed .holds .freqs-are .at i hi ∙ rw (lt-ltb at (x .count) l)
 

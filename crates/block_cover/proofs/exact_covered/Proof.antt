@@ -4,7 +4,7 @@ use mathlib.Core.Logic.{inl, inr, ⊎-elim}
 use Prim.Native.Nat.{_-_, _≤_}
 use native.Mathlib.Omega.{arith}
 use borrow.Author.Needs.{needs}
-use Rattle.bm25.specs.Inner.Bound.{allCovered}
+use Rattle.bm25.specs.Bound.{allCovered}
 use Rattle.bm25_block.specs.Inner.Block.{weighedAt}
 use Rattle.block_norms.proofs.AtMost.{each-at-most}
 use Rattle.block_cover.proofs.BoundTests.{compared}

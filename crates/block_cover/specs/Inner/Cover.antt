@@ -4,7 +4,8 @@ use mathlib.Core.List.{List}
 use Prim.Native.Nat.{ℕ}
 use lib.Ieee.{Float, lt}
 use Rattle.fieldnorm.specs.declared.FieldNormReader.{FieldNormReader}
-use Rattle.bm25.specs.Inner.Bound.{allCovered, blockBoundIn}
+use Rattle.bm25.specs.Inner.Bound.{blockBoundIn}
+use Rattle.bm25.specs.Bound.{allCovered}
 use Rattle.bm25.specs.declared.Bm25Weight.{Bm25Weight}
 use Rattle.bm25_block.specs.Inner.Block.{postingScore}
 

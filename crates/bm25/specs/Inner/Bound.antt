@@ -1,8 +1,6 @@
 -- Bounds by a list's weight with its cache of norms.
-use mathlib.Core.Bool.{Bool, not}
 use Prim.Native.Nat.{ℕ}
-use lib.Ieee.{Float, lt}
-use Rattle.arrays.specs.Every.{every}
+use lib.Ieee.{Float}
 use Rattle.bm25.specs.Bound.{maxTf}
 use Rattle.bm25.specs.Inner.Weight.{scoreIn}
 use Rattle.bm25.specs.declared.Bm25Weight.{Bm25Weight}
@@ -16,7 +14,3 @@ listBoundIn w = scoreIn w 255 2013265944
 unfoldable pub blockBoundIn : Bm25Weight → ℕ → ℕ → Float
 unfolding scoreIn
 blockBoundIn w code freqCode = scoreIn w code (maxTf freqCode)
-
--- whether a bound lies below none of n scores
-abbrev pub allCovered : Float → ℕ → (ℕ → Float) → Bool
-allCovered bound n score = every n (λ i. not (lt bound (score i)))

@@ -1,9 +1,8 @@
 -- The structs that the readers make of a file's fields.
 use mathlib.Core.List.{List}
-use Prim.Native.Nat.{ℕ, zero, suc, _/_, _%_}
+use Prim.Native.Nat.{ℕ, zero, suc}
 use Rattle.notefile.specs.Header as header
 use Rattle.notefile.specs.Skips.{lastDoc, docWidth, strictBlock, freqWidth, maxNormCode, maxFreqCode}
-use Rattle.notefile.specs.Lists.{blockFreq}
 use Rattle.notefile.specs.declared.header.Header.{Header}
 use Rattle.notefile.specs.declared.part.Part.{Part}
 use Rattle.notefile.specs.declared.skip.SkipEntry.{SkipEntry}
@@ -35,7 +34,3 @@ module _ (file : List ℕ) (x : Part) where
   abbrev pub lastBefore : ℕ → ℕ
   lastBefore zero = 0
   lastBefore (suc b) = lastDoc file x b
-
-  -- a frequency by its posting's number in its list
-  abbrev pub listFreq : ℕ → ℕ
-  listFreq k = blockFreq file x (k / 128) (k % 128)

@@ -8,8 +8,7 @@ use Rattle.arrays.specs.Inner.Holds.{Holds}
 use Rattle.route.specs.Postings.{start, docAt}
 use Rattle.bm25.specs.declared.Scoring.{Scoring}
 use Rattle.notefile.specs.Header.{documents}
-use Rattle.notefile.specs.Lists.{listDoc}
-use Rattle.notefile.specs.Inner.Structs.{listFreq}
+use Rattle.notefile.specs.Lists.{listDoc, listFreq}
 use Rattle.notefile.specs.Inner.Reads.{docsOf, freqsOf}
 use Rattle.notefile.specs.Inner.Given.{BlocksIn, Limits, ListRight}
 use Rattle.notefile.specs.declared.part.Part.{Part}

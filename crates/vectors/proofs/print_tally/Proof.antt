@@ -8,10 +8,16 @@ abbrev Inv-loop : tie.InvT-loop
 Inv-loop tally code₀ t3 t4 code = Unit {0}
 
 abbrev μ-loop : tie.MeasureT-loop
-μ-loop tally code₀ t3 t4 code = 13 - code
+μ-loop tally code₀ t3 t4 code = 14 - code
 
 loop-holds : tie.Need-loop-holds Inv-loop μ-loop
 loop-holds c = search needs
+
+mul-if1 : tie.Need-mul-if1 Inv-loop μ-loop
+mul-if1 c = search needs
+
+element-copy-out-if1 : tie.Need-element-copy-out-if1 Inv-loop μ-loop
+element-copy-out-if1 c = search needs
 
 slice-aggregate-write-all : tie.Need-slice-aggregate-write-all Inv-loop μ-loop
 slice-aggregate-write-all c = search needs
@@ -53,6 +59,8 @@ print-tally-spec =
     Inv-loop
     μ-loop
     loop-holds
+    mul-if1
+    element-copy-out-if1
     slice-aggregate-write-all
     write-all-requires
     print-decimal-requires

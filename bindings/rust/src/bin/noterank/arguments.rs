@@ -14,6 +14,9 @@ pub enum Command {
     Check(PathBuf),
     Search(Request),
     Both(Request),
+    /// Contents, and the file that is made of them; None for standard output.
+    Write(PathBuf, Option<PathBuf>),
+    Dump(PathBuf),
     Sample(PathBuf),
 }
 
@@ -42,6 +45,8 @@ pub fn parse(words: Vec<OsString>) -> Result<Command, String> {
     let (command, rest) = words.split_first().ok_or("a command is missing")?;
     match command.to_str() {
         Some("check") => Ok(Command::Check(only_path(rest, "check takes one FILE")?)),
+        Some("dump") => Ok(Command::Dump(only_path(rest, "dump takes one FILE")?)),
+        Some("write") => write(rest),
         Some("sample") => Ok(Command::Sample(only_path(rest, "sample takes one DIR")?)),
         Some("search") => Ok(Command::Search(request(rest)?)),
         Some("both") => match request(rest)? {
@@ -56,6 +61,15 @@ fn only_path(words: &[OsString], otherwise: &str) -> Result<PathBuf, String> {
     match words {
         [path] if !is_option(path) => Ok(path.into()),
         _ => Err(otherwise.into()),
+    }
+}
+
+fn write(words: &[OsString]) -> Result<Command, String> {
+    match words {
+        _ if words.iter().any(|word| is_option(word)) => Err("write has no options".into()),
+        [contents] => Ok(Command::Write(contents.into(), None)),
+        [contents, file] => Ok(Command::Write(contents.into(), Some(file.into()))),
+        _ => Err("write takes CONTENTS, and a FILE or none".into()),
     }
 }
 

@@ -14,14 +14,19 @@ pub fn check(path: &Path) -> Result<Answer, Failure> {
     let name = shown(path);
     Ok(match NoteFile::check(&bytes) {
         Ok(_) => Answer::answered(format!("{name}: accepted\n{}", contents(&bytes))),
-        Err(refusal) => {
-            Answer { text: format!("{name}: {}\n", refused(&bytes, refusal)), status: 1 }
-        }
+        Err(refusal) => Answer::negative(format!("{name}: {}\n", refused(&bytes, refusal))),
+    })
+}
+
+/// The file, or a failure that says why it is refused.
+pub fn open<'a>(path: &Path, bytes: &'a [u8]) -> Result<NoteFile<'a>, Failure> {
+    NoteFile::check(bytes).map_err(|refusal| {
+        Failure::refused(format!("{}: {}", shown(path), refused(bytes, refusal)))
     })
 }
 
 /// The number and its condition, then the places.
-pub fn refused(bytes: &[u8], refusal: Refusal) -> String {
+fn refused(bytes: &[u8], refusal: Refusal) -> String {
     let mut text = format!("refused with {}\n{refusal}\n", refusal.number());
     let places = place::places(bytes);
     if places.is_empty() {

@@ -1,4 +1,4 @@
-//! `noterank`: the ranking of a note file from the command line.
+//! `noterank`: the ranking and the writing of a note file from the command line.
 
 #![forbid(unsafe_code)]
 
@@ -7,6 +7,7 @@ mod check;
 mod file;
 mod search;
 mod table;
+mod write;
 
 use std::ffi::OsString;
 use std::io::{self, ErrorKind, Write};
@@ -16,13 +17,17 @@ use arguments::Command;
 
 /// What goes to standard output, and the exit status.
 pub struct Answer {
-    text: String,
+    out: Vec<u8>,
     status: u8,
 }
 
 impl Answer {
-    fn answered(text: String) -> Answer {
-        Answer { text, status: 0 }
+    fn answered(out: impl Into<Vec<u8>>) -> Answer {
+        Answer { out: out.into(), status: 0 }
+    }
+
+    fn negative(out: impl Into<Vec<u8>>) -> Answer {
+        Answer { out: out.into(), status: 1 }
     }
 }
 
@@ -48,8 +53,10 @@ impl Failure {
 
 fn answer(words: Vec<OsString>) -> Result<Answer, Failure> {
     match arguments::parse(words).map_err(Failure::usage)? {
-        Command::Help => Ok(Answer::answered(include_str!("help.txt").to_string())),
+        Command::Help => Ok(Answer::answered(include_str!("help.txt"))),
         Command::Check(path) => check::check(&path),
+        Command::Write(contents, file) => write::write(&contents, file.as_deref()),
+        Command::Dump(path) => write::dump(&path),
         Command::Search(request) => search::search(&request),
         Command::Both(request) => search::both(&request),
         Command::Sample(folder) => file::write_samples(&folder),
@@ -57,9 +64,9 @@ fn answer(words: Vec<OsString>) -> Result<Answer, Failure> {
 }
 
 /// A reader that has gone away, as `head` does, is no failure.
-fn print(text: &str) -> Result<(), Failure> {
+fn print(bytes: &[u8]) -> Result<(), Failure> {
     let mut out = io::stdout().lock();
-    match out.write_all(text.as_bytes()).and_then(|()| out.flush()) {
+    match out.write_all(bytes).and_then(|()| out.flush()) {
         Err(error) if error.kind() != ErrorKind::BrokenPipe => {
             Err(Failure::unreadable(format!("standard output cannot be written: {error}")))
         }
@@ -69,7 +76,7 @@ fn print(text: &str) -> Result<(), Failure> {
 
 fn main() -> ExitCode {
     let words = std::env::args_os().skip(1).collect();
-    let printed = answer(words).and_then(|answer| print(&answer.text).map(|()| answer.status));
+    let printed = answer(words).and_then(|answer| print(&answer.out).map(|()| answer.status));
     let status = printed.unwrap_or_else(|failure| {
         // Nobody is left to be told if this fails too.
         let _ = writeln!(io::stderr(), "noterank: {}", failure.text);

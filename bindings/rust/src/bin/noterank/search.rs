@@ -3,17 +3,10 @@
 use noterank::{best, Hit, Mode, NoteFile, Refusal, Scoring, Walk};
 
 use crate::arguments::Request;
-use crate::check;
-use crate::file::{read, shown};
+use crate::check::open;
+use crate::file::read;
 use crate::table::{row, scores, table};
 use crate::{Answer, Failure};
-
-fn open<'a>(request: &Request, bytes: &'a [u8]) -> Result<NoteFile<'a>, Failure> {
-    NoteFile::check(bytes).map_err(|refusal| {
-        let text = check::refused(bytes, refusal);
-        Failure::refused(format!("{}: {text}", shown(&request.file)))
-    })
-}
 
 /// The reports of one walk, in document order.
 fn reports(file: &NoteFile, request: &Request, walk: Walk) -> Result<Vec<Hit>, Failure> {
@@ -66,7 +59,7 @@ fn rule_fault(request: &Request) -> Option<String> {
 
 pub fn search(request: &Request) -> Result<Answer, Failure> {
     let bytes = read(&request.file)?;
-    let reports = reports(&open(request, &bytes)?, request, request.walk)?;
+    let reports = reports(&open(&request.file, &bytes)?, request, request.walk)?;
     let hits = best(reports, request.best as usize);
     if hits.is_empty() {
         return Ok(Answer::answered(format!("no document scores above {}\n", request.start)));
@@ -123,13 +116,14 @@ fn comparison(skipping: &[Hit], plain: &[Hit]) -> Result<String, String> {
 
 pub fn both(request: &Request) -> Result<Answer, Failure> {
     let bytes = read(&request.file)?;
-    let file = open(request, &bytes)?;
+    let file = open(&request.file, &bytes)?;
     let skipping = reports(&file, request, Walk::Skipping)?;
     let plain = reports(&file, request, Walk::Plain)?;
     let compared = comparison(&skipping, &plain);
     let ranked = |hits| best(hits, request.best as usize);
     let tables = side_by_side(&ranked(skipping), &ranked(plain));
-    let status = u8::from(compared.is_err());
-    let text = compared.unwrap_or_else(|difference| difference);
-    Ok(Answer { text: tables + &text, status })
+    Ok(match compared {
+        Ok(same) => Answer::answered(tables + &same),
+        Err(difference) => Answer::negative(tables + &difference),
+    })
 }

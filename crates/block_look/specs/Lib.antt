@@ -1,0 +1,2 @@
+-- What the contracts of `block_look` cite.
+pub mod Inner

@@ -1,0 +1,2 @@
+-- A full block's pair of codes.
+pub mod Pair

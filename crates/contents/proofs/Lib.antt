@@ -1,0 +1,4 @@
+-- Laws of contents.
+pub mod Places
+pub mod Heads
+pub mod Refused

@@ -1,0 +1,2 @@
+-- Laws of writing a whole file.
+pub mod Filing

@@ -1,0 +1,26 @@
+-- Laws of the house form.
+pub mod Given
+pub mod ListValues
+pub mod ListSkips
+pub mod ListDecoded
+pub mod ListBlocks
+pub mod ListTail
+pub mod ListRows
+pub mod ListBack
+pub mod ShortBytes
+pub mod OnlyRead
+pub mod OnlyBlocks
+pub mod OnlySkips
+pub mod OnlyTail
+pub mod OnlyList
+pub mod FilePlaces
+pub mod FileParts
+pub mod FileLists
+pub mod RightFile
+pub mod HouseBack
+pub mod Readable
+pub mod HouseOnly
+pub mod ListedLaws
+pub mod Worked
+pub mod FileSmall
+pub mod Exactly

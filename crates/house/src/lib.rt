@@ -1,0 +1,1 @@
+// The house form: no code.

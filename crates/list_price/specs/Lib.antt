@@ -1,0 +1,2 @@
+-- What the contracts of `list_price` cite.
+pub mod Inner

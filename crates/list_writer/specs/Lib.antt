@@ -1,0 +1,2 @@
+-- What the contracts of `list_writer` cite.
+pub mod Inner

@@ -1,0 +1,2 @@
+-- What the contracts of `note_front` cite.
+pub mod Inner

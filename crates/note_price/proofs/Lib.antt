@@ -1,0 +1,2 @@
+-- Laws of the price of contents.
+pub mod Pricing

@@ -1,0 +1,2 @@
+-- What the writer of note files promises.
+pub mod Writes

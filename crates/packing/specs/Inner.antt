@@ -1,0 +1,2 @@
+-- What the functions below the entry points keep and leave: invariants of the code, which a reader of 01 need not believe.
+pub mod Fitting

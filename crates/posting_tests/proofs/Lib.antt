@@ -1,0 +1,3 @@
+-- Laws of the tests of a block's postings.
+pub mod Rows
+pub mod Lanes

@@ -1,0 +1,2 @@
+-- What the contracts of `posting_tests` cite.
+pub mod Inner
