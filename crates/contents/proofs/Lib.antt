@@ -1,4 +1,5 @@
 -- Laws of contents.
+pub mod Either
 pub mod Places
 pub mod Heads
 pub mod Refused

@@ -14,18 +14,8 @@ use Rattle.contents.specs.Contents.{Contents, lists}
 use Rattle.contents.specs.Refusal.{docsRight, freqsRightOf, boundRight, headTests, headRefusal, listsTests, contentsTests, contentsRefusal}
 use Rattle.contents.specs.Inner.HeadOk.{HeadOk}
 use Rattle.contents.specs.Inner.ListOk.{ListOk, listRefusal, listsRefusal}
+use Rattle.contents.proofs.Either.{both-none, first-none, later-none}
 use Rattle.contents.proofs.Heads.{head-ok, none-refused}
-
-first-none : (a b : ℕ) → orElse a b ≡ 0 → a ≡ 0
-first-none zero b e = refl
-first-none (suc a) b e = e
-
-later-none : (a b : ℕ) → orElse a b ≡ 0 → b ≡ 0
-later-none zero b e = e
-later-none (suc a) b e = absurd (omega arith)
-
-both-none : {a b : ℕ} → a ≡ 0 → b ≡ 0 → orElse a b ≡ 0
-both-none {a} {b} e f = ap (λ (z : ℕ). orElse z b) e ∙ f
 
 -- three tests by themselves
 record Three (x y z : Bool) : Type 0 where

@@ -139,7 +139,7 @@ module _ (c : Contents) (Y : Typed c) (H : HeadOk c) (s : List ℕ) (P : Housed 
         record {
           kind-0 = kind-at;
           skips-stand = subst (λ (n : ℕ). Stands s (x .skips) (skips n)) (sym count-is) (subst (λ (p : ℕ). Stands s p (listSkips c l)) (sym skips-at) a);
-          then-postings = subst (λ (n : ℕ). x .postings ≡ x .skips + 8 * (n / 128)) (sym count-is) (omega (arith, postings-at, skips-at, skips-size c Y H s P l h));
+          then-postings = subst (λ (n : ℕ). x .postings ≡ x .skips + 8 * (n / 128)) (sym count-is) (omega (arith, postings-at, skips-at, skips-size c l));
           postings-stand = subst (λ (n : ℕ). Stands s (x .postings) (posts n)) (sym count-is) (subst (λ (p : ℕ). Stands s p (listPostings c l)) (sym postings-at) b);
           then-end = subst (λ (n : ℕ). x .end ≡ x .postings + length (posts n)) (sym count-is) z;
         }

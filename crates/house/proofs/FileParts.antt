@@ -49,6 +49,11 @@ module _ (d f : ℕ → ℕ) where
       let g = length-append docs freqs in
       omega (arith, e, g, blocks-short b, row-most (docDiffer d f false b) r, row-most (λ i. f (128 * b + i)) r)
 
+-- eight bytes for each full block of a list
+pub skips-size : (c : Contents) (l : ℕ) → length (listSkips c l) ≡ 8 * (countOf c l / 128)
+unfolding listSkips
+skips-size c l = skips-long (docOf c l) (freqOf c l) (codeOf c) (scoreOf c l) (countOf c l / 128)
+
 module _ (c : Contents) (Y : Typed c) (H : HeadOk c) (s : List ℕ) (P : Housed c s) where
   average-bits : toBits binary32 (c .average) < 4294967296
   average-bits = toBits-lt binary32 (c .average) (Y .average-f32)
@@ -67,10 +72,6 @@ module _ (c : Contents) (Y : Typed c) (H : HeadOk c) (s : List ℕ) (P : Housed 
   head-at = header-back s (c .kind) (lists c) (c .code) (c .documents) (toBits binary32 (c .average)) head-fits (P .header-stands)
 
   module _ (l : ℕ) (h : l < lists c) where
-    pub skips-size : length (listSkips c l) ≡ 8 * (countOf c l / 128)
-    unfolding listSkips
-    skips-size = skips-long (docOf c l) (freqOf c l) (codeOf c) (scoreOf c l) (countOf c l / 128)
-
     postings-size : length (listPostings c l) ≤ 1024 * (countOf c l / 128) + 10 * (countOf c l % 128)
     unfolding listPostings
     postings-size = postings-short (docOf c l) (freqOf c l) (countOf c l)
@@ -80,7 +81,7 @@ module _ (c : Contents) (Y : Typed c) (H : HeadOk c) (s : List ℕ) (P : Housed 
         let n = H .count-in l h in
         let m = H .few-documents in (
           toBits-lt binary32 (weightOf c l) (Y .weights-f32 l h),
-          (omega (arith, n, m), (omega arith, (omega (arith, n, m, skips-size), (omega (arith, n, m, postings-size), tt)))),
+          (omega (arith, n, m), (omega arith, (omega (arith, n, m, skips-size c l), (omega (arith, n, m, postings-size), tt)))),
         )
 
     pub entry-at : EntryAt s (9 + 13 * l) (toBits binary32 (weightOf c l)) (countOf c l) 0 (length (listSkips c l)) (length (listPostings c l))

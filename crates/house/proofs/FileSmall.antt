@@ -1,22 +1,17 @@
 -- The file of contents is shorter than 32 bits can say.
 use mathlib.Core.Path.{_≡_, ap, _∙_}
 use mathlib.Core.Bool.{Bool, true, false, cond}
-use Prim.Native.Nat.{ℕ, zero, suc, _*_, _/_, _≤_, _<_}
+use Prim.Native.Nat.{ℕ, zero, suc, _*_, _≤_, _<_}
 use native.Mathlib.Omega.{arith}
 use lib.Dec.{eqb}
 use lib.ListN.{length, length-append}
-use Rattle.contents.specs.Contents.{Contents, lists, countOf, docOf, freqOf, codeOf, scoreOf}
+use Rattle.contents.specs.Contents.{Contents, lists, countOf, docOf, freqOf}
 use Rattle.contents.specs.Inner.HeadOk.{HeadOk}
 use Rattle.house.specs.House.{listSkips, listPostings, parts, houseFile}
-use Rattle.house.proofs.ListSkips.{skips-long}
 use Rattle.house.proofs.FilePlaces.{listPiece, listPlace, parts-none, parts-more, house-long}
-use Rattle.house.proofs.FileParts.{postings-short}
+use Rattle.house.proofs.FileParts.{postings-short, skips-size}
 
 module _ (c : Contents) (H : HeadOk c) where
-  pub skips-size : (l : ℕ) → length (listSkips c l) ≡ 8 * (countOf c l / 128)
-  unfolding listSkips
-  skips-size l = skips-long (docOf c l) (freqOf c l) (codeOf c) (scoreOf c l) (countOf c l / 128)
-
   pub list-short : (l : ℕ) → l < lists c → length (listPostings c l) ≤ 8400000
   unfolding listPostings
   list-short l h = omega (arith, postings-short (docOf c l) (freqOf c l) (countOf c l), H .count-in l h, H .few-documents)
@@ -26,7 +21,7 @@ module _ (c : Contents) (H : HeadOk c) where
   parts-short (suc l) h =
       let a = ap length (parts-more c l) ∙ length-append (parts c l) (listPiece c l) in
       let b = length-append (listSkips c l) (listPostings c l) in
-      omega (arith, a, b, parts-short l (omega arith), skips-size l, list-short l h, H .count-in l h, H .few-documents)
+      omega (arith, a, b, parts-short l (omega arith), skips-size c l, list-short l h, H .count-in l h, H .few-documents)
 
   norms-few : length (c .norms) ≤ 1048576
   norms-few = go (eqb (c .kind) 0) (H .norms-long)

@@ -12,17 +12,15 @@ use Rattle.notefile.specs.Parts.{partOf}
 use Rattle.notefile.specs.Lists.{fullBlocks}
 use Rattle.notefile.specs.Conditions.{headerRight, averageRight, lengthRight, entryRight, blockDocsRight, blockFreqsRight, boundsRight}
 use Rattle.notefile.specs.Refusal.{unless, listsTests, fileTests, fileRefusal}
-use Rattle.notefile.specs.Inner.Order.{orElse, blocksRefusal, listRefusal, listsRefusal}
+use Rattle.notefile.specs.Inner.Order.{blocksRefusal, listRefusal, listsRefusal}
 use Rattle.notefile.specs.Inner.Given.{ListRight}
 use Rattle.notefile.specs.declared.part.Part.{Part}
 use Rattle.notefile.proofs.Accepted.{after1}
 use Rattle.notefile.proofs.Order.{lists-next}
+use Rattle.contents.proofs.Either.{both-none}
 
 passes : {z : Bool} (n : ℕ) {later : ℕ} → z ≡ true → later ≡ 0 → unless z n later ≡ 0
 passes {z} n {later} e f = ap (λ (b : Bool). unless b n later) e ∙ f
-
-both-none : {a b : ℕ} → a ≡ 0 → b ≡ 0 → orElse a b ≡ 0
-both-none {a} {b} e f = ap (λ (z : ℕ). orElse z b) e ∙ f
 
 module _ (file : List ℕ) where
   right-list : (x : Part) → ListRight file x → listRefusal file x ≡ 0

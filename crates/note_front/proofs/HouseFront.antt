@@ -1,25 +1,20 @@
 -- What is written before the lists of contents is the file's own front: its header, its entries and its norm bytes.
 use mathlib.Core.Path.{_≡_, refl, sym, ap, ap₂, _∙_}
 use mathlib.Core.List.{List, _++_}
-use Prim.Native.Nat.{ℕ, zero, suc, _+_, _*_, _/_, _≤_, _<_}
+use Prim.Native.Nat.{ℕ, zero, suc, _+_, _*_, _≤_, _<_}
 use native.Mathlib.Nat.{le-refl}
 use native.Mathlib.Omega.{arith}
 use lib.ListN.{length, getD}
 use lib.Ieee.{Float, nan, binary32, toBits}
 use Rattle.encode.specs.Fields.{fieldBytes, entryFields}
-use Rattle.contents.specs.Contents.{Contents, lists, countOf, docOf, freqOf, codeOf, scoreOf}
+use Rattle.contents.specs.Contents.{Contents, lists}
 use Rattle.contents.specs.Inner.Handed.{contentsOf}
 use Rattle.contents.specs.Inner.HeadOk.{HeadOk}
 use Rattle.contents.specs.declared.Head.{Head}
 use Rattle.house.specs.House.{listSkips, listPostings, header, entry, entries}
-use Rattle.house.proofs.FileParts.{postings-short}
-use Rattle.house.proofs.ListSkips.{skips-long}
+use Rattle.house.proofs.FileParts.{skips-size}
+use Rattle.house.proofs.FileSmall.{list-short}
 use Rattle.note_front.specs.Inner.Front.{entryBytes, entriesBytes, headBytes, frontBytes, FrontFits}
-
--- eight bytes for each full block of a list
-pub list-skips-long : (c : Contents) (l : ℕ) → length (listSkips c l) ≡ 8 * (countOf c l / 128)
-unfolding listSkips
-list-skips-long c l = skips-long (docOf c l) (freqOf c l) (codeOf c) (scoreOf c l) (countOf c l / 128)
 
 module _ (h : Head) (norms : List ℕ) (weights : List Float) (counts docs freqs postings : List ℕ) where
   abbrev c : Contents
@@ -34,7 +29,7 @@ module _ (h : Head) (norms : List ℕ) (weights : List Float) (counts docs freqs
   entry-same l e =
       let w = toBits binary32 (getD weights l nan) in
       let n = getD counts l 0 in
-      ap (λ (k : ℕ). fieldBytes 13 (entryFields w n 0 k (getD postings l 0))) (sym (list-skips-long c l))
+      ap (λ (k : ℕ). fieldBytes 13 (entryFields w n 0 k (getD postings l 0))) (sym (skips-size c l))
       ∙ ap (λ (k : ℕ). fieldBytes 13 (entryFields w n 0 (length (listSkips c l)) k)) e
 
   module _ (priced : Priced) where
@@ -49,11 +44,6 @@ module _ (h : Head) (norms : List ℕ) (weights : List Float) (counts docs freqs
 
     -- contents that rows 1 to 4 let through have fields that fit
     module _ (H : HeadOk c) where
-      length-short : (l : ℕ) → l < lists c → length (listPostings c l) < 67108864
-      unfolding listPostings
-      length-short l k =
-          omega (arith, postings-short (docOf c l) (freqOf c l) (countOf c l), H .count-in l k, H .few-documents)
-
       pub front-fits : {out : List ℕ} → 9 + 13 * lists c + length norms ≤ length out → FrontFits h norms weights counts postings out
       front-fits room = record {
         few-lists = H .few-lists;
@@ -64,6 +54,6 @@ module _ (h : Head) (norms : List ℕ) (weights : List Float) (counts docs freqs
         weights-long = H .weights-long;
         weight-in = H .weight-in;
         count-in = λ l k. omega (arith, H .count-in l k, H .few-documents);
-        short = λ l k. omega (arith, priced l k, length-short l k);
+        short = λ l k. omega (arith, priced l k, list-short c H l k);
         room = room;
       }

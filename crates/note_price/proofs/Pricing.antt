@@ -9,13 +9,13 @@ use native.Mathlib.Omega.{arith}
 use lib.Dec.{eqb}
 use lib.ListN.{length, getD, set, length-set}
 use lib.Seq.{getD-set-same, getD-set-other}
-use Rattle.notefile.specs.Inner.Order.{orElse}
 use Rattle.contents.specs.Contents.{Contents, lists, weightOf, countOf, listAt, readerOf}
 use Rattle.contents.specs.Refusal.{headRefusal, contentsRefusal}
 use Rattle.contents.specs.Inner.HeadOk.{HeadOk}
 use Rattle.contents.specs.Inner.ListOk.{listRefusal, listsRefusal}
 use Rattle.contents.specs.declared.Price.{Price}
 use Rattle.contents.proofs.Places.{list-at-zero, list-at-next}
+use Rattle.contents.proofs.Either.{or-some, or-none}
 use Rattle.contents.proofs.Heads.{none-refused}
 use Rattle.contents.proofs.Refused.{refusal-is, lists-none, lists-next}
 use Rattle.house.specs.House.{listSkips, listPostings}
@@ -25,18 +25,11 @@ use Rattle.list_price.specs.declared.list.ListPrice.{ListPrice}
 use Rattle.fieldnorm.specs.declared.FieldNormReader.{FieldNormReader}
 use Rattle.house.specs.Inner.Whole.{PricedWhole}
 use Rattle.house.proofs.FilePlaces.{listPlace, next-list, parts-none, house-long}
-use Rattle.house.proofs.FileSmall.{skips-size}
+use Rattle.house.proofs.FileParts.{skips-size}
 use Rattle.house.proofs.ListedLaws.{listed-refusal, listed-postings, listed-fits, blocks-none, blocks-next, blocks-rise, blocks-in}
 
 -- a refused list ends it
 module _ (c : Contents) where
-  or-some : (a b : ℕ) → 0 < a → orElse a b ≡ a
-  or-some zero b h = absurd (not-suc-le-zero h)
-  or-some (suc a) b h = refl
-
-  or-none : {a b : ℕ} → a ≡ 0 → orElse a b ≡ b
-  or-none {a} {b} e = ap (λ (z : ℕ). orElse z b) e
-
   stays : (l : ℕ) → listsRefusal c l ≡ 0 → 0 < listRefusal c l → (n : ℕ) → l < n → listsRefusal c n ≡ listRefusal c l
   stays l e h zero k = absurd (not-suc-le-zero k)
   stays l e h (suc n) k = elim (eq-or-lt-of-le (le-of-suc-le-suc k)) [
@@ -83,7 +76,7 @@ module _ (c : Contents) where
     goes-on h {r} {x} {n} {total'} {from'} {start'} {tops'} e r0 ex en T kept et ef es =
         let s = add-one l in
         let own : x ≡ length (listPostings c l) = ex ∙ ap length (listed-postings c l) in
-        let skips : 8 * (n / 128) ≡ length (listSkips c l) = ap (λ (z : ℕ). 8 * (z / 128)) en ∙ sym (skips-size c H l) in
+        let skips : 8 * (n / 128) ≡ length (listSkips c l) = ap (λ (z : ℕ). 8 * (z / 128)) en ∙ sym (skips-size c l) in
         record {
           within = omega arith;
           clear = ap (listsRefusal c) s ∙ lists-next c l ∙ or-none (P .clear) ∙ sym (listed-refusal c l) ∙ sym e ∙ r0;
@@ -145,4 +138,4 @@ module _ (c : Contents) (l : ℕ) {reader : FieldNormReader} {from start : ℕ} 
 -- contents that rows 1 to 4 refuse
 pub head-priced : (c : Contents) {r : Price} {n : ℕ} → r .refusal ≡ n → n ≡ headRefusal c → 0 < n → (tops : List ℕ) → PricedWhole c r tops
 head-priced c {r} {n} e f h tops =
-    none-priced c e (f ∙ sym (refusal-is c ∙ or-some c (headRefusal c) (listsRefusal c (lists c)) (omega (arith, f)))) h tops
+    none-priced c e (f ∙ sym (refusal-is c ∙ or-some (headRefusal c) (listsRefusal c (lists c)) (omega (arith, f)))) h tops

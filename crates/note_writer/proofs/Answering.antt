@@ -18,6 +18,7 @@ use Rattle.notefile.specs.Inner.Order.{orElse}
 use Rattle.notefile.proofs.Order.{first-append}
 use Rattle.contents.specs.Contents.{Contents}
 use Rattle.contents.specs.Refusal.{contentsTests, contentsRefusal}
+use Rattle.contents.proofs.Either.{or-some, or-none, first-none}
 use Rattle.contents.proofs.Refused.{contents-numbered}
 use Rattle.house.specs.House.{houseFile}
 use Rattle.note_writer.specs.Writes.{writeTests, writeRefusal, answerFor, outputFor, WriteIs}
@@ -56,13 +57,6 @@ module _ (c : Contents) (old : List ℕ) where
   refused-as zero h = absurd (not-suc-le-zero h)
   refused-as (suc n) h = (refl, refl)
 
-  or-some : (a b : ℕ) → 0 < a → orElse a b ≡ a
-  or-some zero b h = absurd (not-suc-le-zero h)
-  or-some (suc a) b h = refl
-
-  or-none : {a b : ℕ} → a ≡ 0 → orElse a b ≡ b
-  or-none {a} {b} e = ap (λ (z : ℕ). orElse z b) e
-
   -- the contents are refused
   pub refused : {n : ℕ} → n ≡ contentsRefusal c → 0 < n → WriteIs c old (Refused n) old
   refused {n} e h =
@@ -83,8 +77,4 @@ module _ (c : Contents) (old : List ℕ) where
 
   -- nothing is refused, so the contents are not
   pub clear-contents : writeRefusal c (length old) ≡ 0 → contentsRefusal c ≡ 0
-  clear-contents e = go (contentsRefusal c) (unless (leb (length (houseFile c)) (length old)) 13 0) (sym refusal-is ∙ e)
-    where
-      go : (n later : ℕ) → orElse n later ≡ 0 → n ≡ 0
-      go zero later q = refl
-      go (suc n) later q = q
+  clear-contents e = first-none (contentsRefusal c) (unless (leb (length (houseFile c)) (length old)) 13 0) (sym refusal-is ∙ e)

@@ -1,10 +1,9 @@
 -- `price` meets its contract: rows 1 to 4 first, then the lists.
-use mathlib.Core.Path.{_≡_, refl, sym, _∙_}
-use Prim.Native.Nat.{ℕ, _<_}
-use native.Mathlib.Omega.{arith}
+use mathlib.Core.Path.{refl, sym, _∙_}
 use borrow.Author.Needs.{needs}
 use Rattle.contents.specs.Contents.{Contents}
 use Rattle.contents.specs.Inner.Handed.{contentsOf}
+use Rattle.contents.proofs.Either.{some}
 use Rattle.note_price.proofs.Pricing.{head-priced}
 use Rattle.note_price.proofs.price.Statement.{statement}
 use Rattle.note_price.proofs.price.Tie as tie
@@ -15,9 +14,6 @@ start c = c .before .before .before .before .before .before
 
 abbrev contents : tie.Start → Contents
 contents a = let g = a .args in contentsOf (g .h) (g .norms .now) (g .weights .now) (g .counts .now) (g .docs .now) (g .freqs .now)
-
-some : {n : ℕ} → (n ≡ 0 → ⊥) → 0 < n
-some h = omega (arith, h)
 
 head-refusal-requires : tie.Need-head-refusal-requires
 head-refusal-requires c κs = search needs

@@ -1,12 +1,13 @@
 -- `price_lists` meets its contract. The loop's invariant (`Pricing`): l lists are priced, and none is refused. The measure is how many are left.
 use mathlib.Core.Path.{_≡_, refl}
-use Prim.Native.Nat.{ℕ, _-_, _≤_, _<_}
+use Prim.Native.Nat.{_-_, _≤_}
 use native.Mathlib.Omega.{arith}
 use lib.Dec.{eqb}
 use lib.ListN.{length, getD}
 use borrow.Author.Needs.{needs}
 use Rattle.contents.specs.Contents.{Contents, lists, readerOf}
 use Rattle.contents.specs.Inner.Handed.{contentsOf}
+use Rattle.contents.proofs.Either.{some}
 use Rattle.contents.specs.Inner.HeadOk.{HeadOk}
 use Rattle.contents.proofs.Heads.{head-ok, starts-below}
 use Rattle.house.specs.Inner.Listed.{listedOf, blocksAt}
@@ -54,9 +55,6 @@ count-few : (i : tie.In-loop Inv-loop μ-loop) → getD (begin-of (i .before .be
 count-few i =
     let a = begin-of (i .before .before) in
     omega (arith, head a .count-in (i .before .loop .l) (i .loop-test .taken), head a .few-documents)
-
-some : {n : ℕ} → (n ≡ 0 → ⊥) → 0 < n
-some h = omega (arith, h)
 
 reader-of-requires : tie.Need-reader-of-requires Inv-loop μ-loop
 reader-of-requires c κs = head (c .before .before .before .before .before) .code-in

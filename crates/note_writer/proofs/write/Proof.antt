@@ -1,11 +1,11 @@
 -- `write` meets its contract: refused, too short an output, or written.
 use mathlib.Core.Path.{_≡_, sym, _∙_}
-use Prim.Native.Nat.{ℕ, _<_}
 use native.Mathlib.Omega.{arith}
 use borrow.Author.Needs.{needs}
 use Rattle.contents.specs.Contents.{Contents}
 use Rattle.contents.specs.Refusal.{contentsRefusal}
 use Rattle.contents.specs.Inner.Handed.{contentsOf}
+use Rattle.contents.proofs.Either.{some}
 use Rattle.note_writer.proofs.Answering.{refused, short, written}
 use Rattle.note_writer.proofs.write.Statement.{statement}
 use Rattle.note_writer.proofs.write.Tie as tie
@@ -19,9 +19,6 @@ priced c = c .before .before .before
 
 abbrev contents : tie.Start → Contents
 contents a = let g = a .args in contentsOf (g .h) (g .norms .now) (g .weights .now) (g .counts .now) (g .docs .now) (g .freqs .now)
-
-some : {n : ℕ} → (n ≡ 0 → ⊥) → 0 < n
-some h = omega (arith, h)
 
 -- nothing is refused
 clear : (c : tie.After-struct-known2) → contentsRefusal (contents (start (priced c))) ≡ 0
