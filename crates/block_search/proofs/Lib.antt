@@ -1,3 +1,4 @@
 -- Laws that belong to no one function.
+pub mod Answers
 pub mod Segments
 pub mod Worked

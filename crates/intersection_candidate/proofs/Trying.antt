@@ -1,16 +1,19 @@
 -- `try_candidate`'s loop: the secondaries before place i have the candidate, and what is left decides.
 use mathlib.Core.Bool.{false, true}
 use mathlib.Core.List.{List, [], _++_, _∷_}
+use mathlib.Core.Logic.{inl, inr}
 use mathlib.Core.Option.{Option, none, some}
 use mathlib.Core.Path.{ap, refl, sym, _∙_, _≡_}
 use Prim.Native.Nat.{suc, zero, ℕ, _+_, _<_, _≤_}
+use native.Mathlib.Nat.{le-of-lt}
 use native.Mathlib.Numerals.{add-one}
 use native.Mathlib.Omega.{arith}
 use lib.Dec.{eqb, ltb}
 use lib.ListN.{drop, getD, length}
 use lib.Seq.{append-snoc}
 use lib.Ieee.{Float, nan}
-use borrow.Author.Tests.{eq-eqb, le-ltb, lt-ltb, ne-eqb}
+use borrow.Author.Tests.{eq-eqb, eqb-true, le-leb, le-ltb, lt-ltb, ne-eqb}
+use Rattle.arrays.proofs.Order.{lt-or-ge}
 use Rattle.route.specs.F32.{f32}
 use Rattle.route.specs.Score.{sumBack}
 use Rattle.route.specs.Cursor.{seekIn}
@@ -36,20 +39,29 @@ module _ (c : ℕ) (t tot : Float) (s : Scorer Float) (ss : List (Scorer Float))
   abbrev Try : Tried Float
   Try = tryCandidate 128 f32 c t tot (s ∷ ss) bs
 
-  try-past : ltb c (docOf s) ≡ true → Try ≡ dropped (s ∷ ss)
-  try-past e = rw e
+  -- a scorer past the candidate stays where it is
+  stays-past : c < docOf s → seek 128 c s ≡ s
+  stays-past l = rw (le-leb c (docOf s) (le-of-lt l))
 
-  module _ (low : ltb c (docOf s) ≡ false) where
-    try-missed : eqb (docOf (seek 128 c s)) c ≡ false → Try ≡ dropped (seek 128 c s ∷ ss)
-    try-missed e = rw (low, e)
+  try-missed : eqb (docOf (seek 128 c s)) c ≡ false → Try ≡ dropped (seek 128 c s ∷ ss)
+  try-missed e = elim (lt-or-ge c (docOf s)) [
+    | inl l ↦ rw (lt-ltb c (docOf s) l) (ap (λ (z : Scorer Float). dropped (z ∷ ss)) (sym (stays-past l)))
+    | inr l ↦ rw (le-ltb c (docOf s) l, e)
+  ]
 
-    module _ (on : eqb (docOf (seek 128 c s)) c ≡ true) where
-      try-low : f32 .above (f32 .add (f32 .add tot (scoreHere (seek 128 c s))) (sumBack f32 (tailOf bs))) t ≡ false → Try ≡ dropped (seek 128 c s ∷ ss)
-      try-low e = rw (low, on, e)
+  module _ (on : eqb (docOf (seek 128 c s)) c ≡ true) where
+    low : ltb c (docOf s) ≡ false
+    low = elim (lt-or-ge c (docOf s)) [
+      | inl l ↦ absurd (omega (arith, l, sym (ap docOf (stays-past l)) ∙ eqb-true (docOf (seek 128 c s)) c on))
+      | inr l ↦ le-ltb c (docOf s) l
+    ]
 
-      try-on : f32 .above (f32 .add (f32 .add tot (scoreHere (seek 128 c s))) (sumBack f32 (tailOf bs))) t ≡ true
-          → Try ≡ pushSec (seek 128 c s) (tryCandidate 128 f32 c t (f32 .add tot (scoreHere (seek 128 c s))) ss (tailOf bs))
-      try-on e = rw (low, on, e)
+    try-low : f32 .above (f32 .add (f32 .add tot (scoreHere (seek 128 c s))) (sumBack f32 (tailOf bs))) t ≡ false → Try ≡ dropped (seek 128 c s ∷ ss)
+    try-low e = rw (low, on, e)
+
+    try-on : f32 .above (f32 .add (f32 .add tot (scoreHere (seek 128 c s))) (sumBack f32 (tailOf bs))) t ≡ true
+        → Try ≡ pushSec (seek 128 c s) (tryCandidate 128 f32 c t (f32 .add tot (scoreHere (seek 128 c s))) ss (tailOf bs))
+    try-on e = rw (low, on, e)
 
 -- the secondaries that the candidate has passed, before what is left
 abbrev behind : List (Scorer Float) → Tried Float → Tried Float
@@ -129,98 +141,86 @@ module _ (x : Query) (c : ℕ) (score t : Float) (rests : List Float) (h₀ : He
         left-is : (bs : List Float) → left i total h bs ≡ tryCandidate 128 f32 c t total (s ∷ rest) (drop i (f32 .nil ∷ bs))
         left-is bs = ap (λ (z : List (Scorer Float)). tryCandidate 128 f32 c t total z (drop i (f32 .nil ∷ bs))) here
 
-        module _ {doc : ℕ} (ed : doc ≡ docIn (x .file) (partAt (x .lists) q) (cursorAt (h .places) q .at)) where
-          doc-of : docOf s ≡ doc
-          doc-of = doc-is (x .file) (partAt (x .lists) q) (x .scoring) (cursorAt (h .places) q .at) ∙ sym ed
+        module _ {h′ : Held} {sought : ℕ} (M : MovedSlot (x .file) (x .lists) q (λ k. seekIn (listAt k (x .file) (x .lists) q) 128 c (cursorAt (h .places) q)) h h′ sought) where
+          abbrev s′ : Scorer Float
+          s′ = scorerAt x (h′ .places) q
 
-          pub past : c < doc → Tries x c score t rests h₀ h Passed
-          past l =
-              answers (T .seated) (unmoved (slotAt x 0) h) (λ bounds B. B) refl none refl
-              (λ bs _. left-is bs ∙ try-past c t total s rest (drop i (f32 .nil ∷ bs)) (ap (ltb c) doc-of ∙ lt-ltb c doc l) ∙ ap dropped (sym here))
+          hq : q < x .len
+          hq = O .below i hi
 
-          module _ (l : doc ≤ c) {h′ : Held} {sought : ℕ} (M : MovedSlot (x .file) (x .lists) q (λ k. seekIn (listAt k (x .file) (x .lists) q) 128 c (cursorAt (h .places) q)) h h′ sought) where
-            abbrev s′ : Scorer Float
-            s′ = scorerAt x (h′ .places) q
+          sought-is : s′ ≡ seek 128 c s
+          sought-is = scorer-is x (T .seated) hq M
 
-            hq : q < x .len
-            hq = O .below i hi
+          doc-there : docOf (seek 128 c s) ≡ sought
+          doc-there = ap docOf (sym sought-is) ∙ doc-is (x .file) (partAt (x .lists) q) (x .scoring) (cursorAt (h′ .places) q .at) ∙ sym (M .moved .doc-is)
 
-            stays-low : ltb c (docOf s) ≡ false
-            stays-low = ap (ltb c) doc-of ∙ le-ltb c doc l
+          pub seated-there : SlotsIn x h′
+          seated-there = still-seated x (T .seated) hq M
 
-            sought-is : s′ ≡ seek 128 c s
-            sought-is = scorer-is x (T .seated) hq M
+          pub on-candidate : sought ≡ c → c ≡ docIn (x .file) (partAt (x .lists) q) (cursorAt (h′ .places) q .at)
+          on-candidate e = sym e ∙ M .moved .doc-is
 
-            doc-there : docOf (seek 128 c s) ≡ sought
-            doc-there = ap docOf (sym sought-is) ∙ doc-is (x .file) (partAt (x .lists) q) (x .scoring) (cursorAt (h′ .places) q .at) ∙ sym (M .moved .doc-is)
+          front-stays : scorersBetween x (h′ .places) 1 i ≡ scorersBetween x (h .places) 1 i
+          front-stays = others-stay x O hi (moved-only x (T .seated) hq M) 1 i (T .high) (λ k u v e. omega arith)
 
-            pub seated-there : SlotsIn x h′
-            seated-there = still-seated x (T .seated) hq M
+          rest-stays : scorersBetween x (h′ .places) (suc i) (x .len) ≡ rest
+          rest-stays = others-stay x O hi (moved-only x (T .seated) hq M) (suc i) (x .len) (omega arith) (λ k u v e. omega arith)
 
-            pub on-candidate : sought ≡ c → c ≡ docIn (x .file) (partAt (x .lists) q) (cursorAt (h′ .places) q .at)
-            on-candidate e = sym e ∙ M .moved .doc-is
+          leader-there : SameRows h h′ (slotAt x 0)
+          leader-there = leader-stays x O hi (moved-only x (T .seated) hq M) (T .low)
 
-            front-stays : scorersBetween x (h′ .places) 1 i ≡ scorersBetween x (h .places) 1 i
-            front-stays = others-stay x O hi (moved-only x (T .seated) hq M) 1 i (T .high) (λ k u v e. omega arith)
+          there : scorersBetween x (h′ .places) i (x .len) ≡ seek 128 c s ∷ rest
+          there =
+              part-first (x .order) (scorerAt x (h′ .places)) i (x .len) hi long ∙ ap (λ (z : List (Scorer Float)). s′ ∷ z) rest-stays
+              ∙ ap (λ (z : Scorer Float). z ∷ rest) sought-is
 
-            rest-stays : scorersBetween x (h′ .places) (suc i) (x .len) ≡ rest
-            rest-stays = others-stay x O hi (moved-only x (T .seated) hq M) (suc i) (x .len) (omega arith) (λ k u v e. omega arith)
+          drops : ((bs : List Float) → Rests (x .len) bs rests → tryCandidate 128 f32 c t total (s ∷ rest) (drop i (f32 .nil ∷ bs)) ≡ dropped (seek 128 c s ∷ rest))
+              → Tries x c score t rests h₀ h′ Passed
+          drops a =
+              answers seated-there leader-there (still-kept x (T .seated) hq M) front-stays none refl (λ bs k. left-is bs ∙ a bs k ∙ ap dropped (sym there))
 
-            leader-there : SameRows h h′ (slotAt x 0)
-            leader-there = leader-stays x O hi (moved-only x (T .seated) hq M) (T .low)
+          pub missed : (sought ≡ c → ⊥) → Tries x c score t rests h₀ h′ Passed
+          missed n = drops (λ bs _. try-missed c t total s rest (drop i (f32 .nil ∷ bs)) (ap (λ (z : ℕ). eqb z c) doc-there ∙ ne-eqb sought c n))
 
-            there : scorersBetween x (h′ .places) i (x .len) ≡ seek 128 c s ∷ rest
-            there =
-                part-first (x .order) (scorerAt x (h′ .places)) i (x .len) hi long ∙ ap (λ (z : List (Scorer Float)). s′ ∷ z) rest-stays
-                ∙ ap (λ (z : Scorer Float). z ∷ rest) sought-is
+          module _ (e : sought ≡ c) {v : Float} (ev : v ≡ listAt (x .scoring) (x .file) (x .lists) q .score (cursorAt (h′ .places) q .at)) where
+            on : eqb (docOf (seek 128 c s)) c ≡ true
+            on = ap (λ (z : ℕ). eqb z c) doc-there ∙ eq-eqb sought c e
 
-            drops : ((bs : List Float) → Rests (x .len) bs rests → tryCandidate 128 f32 c t total (s ∷ rest) (drop i (f32 .nil ∷ bs)) ≡ dropped (seek 128 c s ∷ rest))
-                → Tries x c score t rests h₀ h′ Passed
-            drops a =
-                answers seated-there leader-there (still-kept x (T .seated) hq M) front-stays none refl (λ bs k. left-is bs ∙ a bs k ∙ ap dropped (sym there))
+            score-is : scoreHere (seek 128 c s) ≡ v
+            score-is = ap scoreHere (sym sought-is) ∙ sym ev
 
-            pub missed : (sought ≡ c → ⊥) → Tries x c score t rests h₀ h′ Passed
-            missed n = drops (λ bs _. try-missed c t total s rest (drop i (f32 .nil ∷ bs)) stays-low (ap (λ (z : ℕ). eqb z c) doc-there ∙ ne-eqb sought c n))
+            bound-is : (bs : List Float) → Rests (x .len) bs rests → sumBack f32 (tailOf (drop i (f32 .nil ∷ bs))) ≡ getD rests i nan
+            bound-is bs k = ap (sumBack f32) (tail-drop i (f32 .nil ∷ bs)) ∙ sym (k i (T .low) hi)
 
-            module _ (e : sought ≡ c) {v : Float} (ev : v ≡ listAt (x .scoring) (x .file) (x .lists) q .score (cursorAt (h′ .places) q .at)) where
-              on : eqb (docOf (seek 128 c s)) c ≡ true
-              on = ap (λ (z : ℕ). eqb z c) doc-there ∙ eq-eqb sought c e
+            test-is : (bs : List Float) → Rests (x .len) bs rests
+                → f32 .above (f32 .add (f32 .add total (scoreHere (seek 128 c s))) (sumBack f32 (tailOf (drop i (f32 .nil ∷ bs))))) t
+                ≡ f32 .above (f32 .add (f32 .add total v) (getD rests i nan)) t
+            test-is bs k =
+                ap (λ (z : Float). f32 .above (f32 .add (f32 .add total z) (sumBack f32 (tailOf (drop i (f32 .nil ∷ bs))))) t) score-is
+                ∙ ap (λ (z : Float). f32 .above (f32 .add (f32 .add total v) z) t) (bound-is bs k)
 
-              score-is : scoreHere (seek 128 c s) ≡ v
-              score-is = ap scoreHere (sym sought-is) ∙ sym ev
+            pub too-low : f32 .above (f32 .add (f32 .add total v) (getD rests i nan)) t ≡ false → Tries x c score t rests h₀ h′ Passed
+            too-low b = drops (λ bs k. try-low c t total s rest (drop i (f32 .nil ∷ bs)) on (test-is bs k ∙ b))
 
-              bound-is : (bs : List Float) → Rests (x .len) bs rests → sumBack f32 (tailOf (drop i (f32 .nil ∷ bs))) ≡ getD rests i nan
-              bound-is bs k = ap (sumBack f32) (tail-drop i (f32 .nil ∷ bs)) ∙ sym (k i (T .low) hi)
-
-              test-is : (bs : List Float) → Rests (x .len) bs rests
-                  → f32 .above (f32 .add (f32 .add total (scoreHere (seek 128 c s))) (sumBack f32 (tailOf (drop i (f32 .nil ∷ bs))))) t
-                  ≡ f32 .above (f32 .add (f32 .add total v) (getD rests i nan)) t
-              test-is bs k =
-                  ap (λ (z : Float). f32 .above (f32 .add (f32 .add total z) (sumBack f32 (tailOf (drop i (f32 .nil ∷ bs))))) t) score-is
-                  ∙ ap (λ (z : Float). f32 .above (f32 .add (f32 .add total v) z) t) (bound-is bs k)
-
-              pub too-low : f32 .above (f32 .add (f32 .add total v) (getD rests i nan)) t ≡ false → Tries x c score t rests h₀ h′ Passed
-              too-low b = drops (λ bs k. try-low c t total s rest (drop i (f32 .nil ∷ bs)) stays-low on (test-is bs k ∙ b))
-
-              pub goes-on : f32 .above (f32 .add (f32 .add total v) (getD rests i nan)) t ≡ true → Trying (i + 1) (f32 .add total v) h′
-              goes-on b =
-                  let front : scorersBetween x (h′ .places) 1 (suc i) ≡ scorersBetween x (h .places) 1 i ++ (seek 128 c s ∷ []) =
-                  part-last (x .order) (scorerAt x (h′ .places)) 1 i (T .low) (omega (arith, long)) ∙ ap (λ (z : List (Scorer Float)). z ++ (s′ ∷ [])) front-stays
-                  ∙ ap (λ (z : Scorer Float). scorersBetween x (h .places) 1 i ++ (z ∷ [])) sought-is in
-                  record {
-                    seated = seated-there;
-                    leader = unmoved-trans (T .leader) leader-there;
-                    bounds = λ bounds B. still-kept x (T .seated) hq M bounds (T .bounds bounds B);
-                    low = omega arith;
-                    high = omega arith;
-                    whole = λ bs k.
-                        let z = tryCandidate 128 f32 c t (f32 .add total v) rest (drop (suc i) (f32 .nil ∷ bs)) in
-                        T .whole bs k
-                        ∙ ap (behind (scorersBetween x (h .places) 1 i))
-                        (left-is bs ∙ try-on c t total s rest (drop i (f32 .nil ∷ bs)) stays-low on (test-is bs k ∙ b)
-                        ∙ ap (λ (w : Float). pushSec (seek 128 c s) (tryCandidate 128 f32 c t (f32 .add total w) rest (tailOf (drop i (f32 .nil ∷ bs))))) score-is
-                        ∙ ap (λ (w : List Float). pushSec (seek 128 c s) (tryCandidate 128 f32 c t (f32 .add total v) rest w)) (tail-drop i (f32 .nil ∷ bs)))
-                        ∙ ap (λ (w : List (Scorer Float)). record { secs = w; found = z .found }) (sym (append-snoc (scorersBetween x (h .places) 1 i) (seek 128 c s) (z .secs)))
-                        ∙ ap (λ (w : List (Scorer Float)). behind w z) (sym front)
-                        ∙ rw add-one (ap (λ (w : List (Scorer Float)). behind (scorersBetween x (h′ .places) 1 (suc i)) (tryCandidate 128 f32 c t (f32 .add total v) w (drop (suc i) (f32 .nil ∷ bs)))) (sym rest-stays));
-                  }
+            pub goes-on : f32 .above (f32 .add (f32 .add total v) (getD rests i nan)) t ≡ true → Trying (i + 1) (f32 .add total v) h′
+            goes-on b =
+                let front : scorersBetween x (h′ .places) 1 (suc i) ≡ scorersBetween x (h .places) 1 i ++ (seek 128 c s ∷ []) =
+                part-last (x .order) (scorerAt x (h′ .places)) 1 i (T .low) (omega (arith, long)) ∙ ap (λ (z : List (Scorer Float)). z ++ (s′ ∷ [])) front-stays
+                ∙ ap (λ (z : Scorer Float). scorersBetween x (h .places) 1 i ++ (z ∷ [])) sought-is in
+                record {
+                  seated = seated-there;
+                  leader = unmoved-trans (T .leader) leader-there;
+                  bounds = λ bounds B. still-kept x (T .seated) hq M bounds (T .bounds bounds B);
+                  low = omega arith;
+                  high = omega arith;
+                  whole = λ bs k.
+                      let z = tryCandidate 128 f32 c t (f32 .add total v) rest (drop (suc i) (f32 .nil ∷ bs)) in
+                      T .whole bs k
+                      ∙ ap (behind (scorersBetween x (h .places) 1 i))
+                      (left-is bs ∙ try-on c t total s rest (drop i (f32 .nil ∷ bs)) on (test-is bs k ∙ b)
+                      ∙ ap (λ (w : Float). pushSec (seek 128 c s) (tryCandidate 128 f32 c t (f32 .add total w) rest (tailOf (drop i (f32 .nil ∷ bs))))) score-is
+                      ∙ ap (λ (w : List Float). pushSec (seek 128 c s) (tryCandidate 128 f32 c t (f32 .add total v) rest w)) (tail-drop i (f32 .nil ∷ bs)))
+                      ∙ ap (λ (w : List (Scorer Float)). record { secs = w; found = z .found }) (sym (append-snoc (scorersBetween x (h .places) 1 i) (seek 128 c s) (z .secs)))
+                      ∙ ap (λ (w : List (Scorer Float)). behind w z) (sym front)
+                      ∙ rw add-one (ap (λ (w : List (Scorer Float)). behind (scorersBetween x (h′ .places) 1 (suc i)) (tryCandidate 128 f32 c t (f32 .add total v) w (drop (suc i) (f32 .nil ∷ bs)))) (sym rest-stays));
+                }

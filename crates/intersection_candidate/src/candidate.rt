@@ -1,4 +1,5 @@
 // A candidate of the leader against the secondaries, one after the other.
+use block_search::Answer;
 use slot_rows::place::Blocks;
 use slot_rows::place::Places;
 use term_scorer::score::Leg;
@@ -21,7 +22,7 @@ pub enum Candidate {
     Passed,
 }
 
-// Each secondary seeks the candidate, unless it is past it.
+// Each secondary seeks the candidate; one that is past it stays, and misses.
 // The total goes on as long as the bounds of the rest may lift it above the threshold.
 pub fn try_candidate(
     file: &[u8],
@@ -49,11 +50,10 @@ pub fn try_candidate(
     while i < n {
         let q = order[i];
         let at = slot::doc(q, places, blocks);
-        if at > doc {
-            return Candidate::Passed;
-        }
-        if slot::seek(file, lists, q, at, doc, places, blocks) != doc {
-            return Candidate::Passed;
+        let found = slot::seek(file, lists, q, at, doc, places, blocks);
+        match found {
+            Answer::Miss(_) => return Candidate::Passed,
+            Answer::Hit(_) => {}
         }
         let score = slot_scores::score(file, leg.similarity, lists, norms, q, doc, places, blocks);
         total_score = total_score + score;

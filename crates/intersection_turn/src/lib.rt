@@ -1,5 +1,5 @@
 // One turn of the intersection, by its stage.
-use block_search::search_block;
+use block_search::count_below;
 use intersection_candidate::candidate::try_candidate;
 use intersection_candidate::leader::Candidates;
 use intersection_candidate::leader::Next;
@@ -71,7 +71,7 @@ fn window_turn(
             let similarity = leg.similarity;
             keep_scores(file, similarity, lists, norms, q, places, blocks, floats);
             sum_rests(v.len, order, floats);
-            let next = search_block(&blocks[q][DOCS], doc);
+            let next = count_below(&blocks[q][DOCS], doc);
             let stage = within(next, window_end, leg.threshold - block_max_sum);
             quiet(v, doc, stage)
         }

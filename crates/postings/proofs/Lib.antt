@@ -1,2 +1,3 @@
 -- Laws of one list's postings that belong to no one function.
+pub mod Answers
 pub mod Moves

@@ -183,35 +183,26 @@ module _ {file : List ℕ} {x : Part} (L : ListIn file x) (p : SegmentPostings) 
       unfolding cursorOf
       far s = rw (doc-at (P .holds) s (p .cur) (P .inside), lt-leb t (getD (docsOf block) (p .cur) 0) (h .here), next-is refl, doc-at (P .holds) s next (omega arith), lt-leb t (getD (docsOf block) next 0) (h .next))
 
-      module _ {q : SegmentPostings} (Q : Moved file x shallow q block) where
-        block-found : (s : Scoring) → q .«skip_reader» .block ≡ shallow s .blk
-        unfolding cursorOf
-        block-found s = ap (λ (c : Cursor). c .blk) (Q .cursor-is s)
+      -- in the block that may hold the target, loaded, the search ends on the route's place
+      module _ (r : SegmentPostings) {block′ : List (List ℕ)} (R : Placed file x r block′) (found : (s : Scoring) → r .«skip_reader» .block ≡ shallow s .blk) where
+        reaches : t ≤ 2147483647 → t ≤ r .«skip_reader» .«last_doc_in_block»
+        reaches k = subst (λ (z : ℕ). t ≤ z) (ap (endOf (listOf Unstepped file x) 128) (sym (found Unstepped)) ∙ end-here file x L r (R .stands) Unstepped) (seek-covers (listOf Unstepped file x) t k (cursorOf p))
 
-        pub reaches : t ≤ 2147483647 → t ≤ q .«skip_reader» .«last_doc_in_block»
-        reaches k = subst (λ (z : ℕ). t ≤ z) (ap (endOf (listOf Unstepped file x) 128) (sym (block-found Unstepped)) ∙ end-here file x L q (Q .placed .stands) Unstepped) (seek-covers (listOf Unstepped file x) t k (cursorOf p))
-
-        pub sought-far : {r : SegmentPostings} {block′ : List (List ℕ)} → Moved file x (λ s. loadAt (listOf s file x) 128 t (q .«skip_reader» .block)) r block′ → Moved file x sought r block′
+        sought-far : {z : SegmentPostings} → Moved file x (λ s. loadAt (listOf s file x) 128 t (r .«skip_reader» .block)) z block′ → Moved file x sought z block′
         sought-far M = record {
-          cursor-is = λ s. M .cursor-is s ∙ ap (loadAt (listOf s file x) 128 t) (block-found s) ∙ sym (far s);
+          cursor-is = λ s. M .cursor-is s ∙ ap (loadAt (listOf s file x) 128 t) (found s) ∙ sym (far s);
           placed = M .placed;
         }
 
-      -- the skip reader's block may hold the target
-      module _ (r : t ≤ p .«skip_reader» .«last_doc_in_block») where
-        pub sought-loading : {q : SegmentPostings} {block′ : List (List ℕ)} → Moved file x (λ s. loadAt (listOf s file x) 128 t (p .«skip_reader» .block)) q block′ → Moved file x sought q block′
-        sought-loading M = sought-far (stays file x L p (P .stands) t r block P) M
-
-        -- and is loaded
-        pub sought-within : p .«block_loaded» ≡ true → {cur : ℕ} → cur ≡ countBelow 128 (docsOf block) t
-            → Moved file x sought (record { «skip_reader» = p .«skip_reader»; «block_loaded» = p .«block_loaded»; decoded = p .decoded; cur = cur }) block
-        sought-within on {cur} c =
-            let d = P .loaded-is on in
-            let D : Decoded file x (p .«skip_reader» .block) block = subst (λ (b : ℕ). Decoded file x b block) d (P .holds) in
-            subst (λ (q : SegmentPostings). Moved file x sought q block)
-            (ap (λ (z : Bool). record { «skip_reader» = p .«skip_reader»; «block_loaded» = z; decoded = p .«skip_reader» .block; cur = cur }) (sym on)
-            ∙ ap (λ (z : ℕ). record { «skip_reader» = p .«skip_reader»; «block_loaded» = p .«block_loaded»; decoded = z; cur = cur }) (sym d))
-            (sought-loading (lands L p P D t r c))
+        pub sought-loaded : t ≤ 2147483647 → r .«block_loaded» ≡ true → {cur : ℕ} → cur ≡ countBelow 128 (docsOf block′) t
+            → Moved file x sought (record { «skip_reader» = r .«skip_reader»; «block_loaded» = r .«block_loaded»; decoded = r .decoded; cur = cur }) block′
+        sought-loaded k on {cur} c =
+            let d = R .loaded-is on in
+            let D : Decoded file x (r .«skip_reader» .block) block′ = subst (λ (b : ℕ). Decoded file x b block′) d (R .holds) in
+            subst (λ (z : SegmentPostings). Moved file x sought z block′)
+            (ap (λ (z : Bool). record { «skip_reader» = r .«skip_reader»; «block_loaded» = z; decoded = r .«skip_reader» .block; cur = cur }) (sym on)
+            ∙ ap (λ (z : ℕ). record { «skip_reader» = r .«skip_reader»; «block_loaded» = r .«block_loaded»; decoded = z; cur = cur }) (sym d))
+            (sought-far (lands L r R D t (reaches k) c))
 
   -- the next posting
   abbrev advanced : Scoring → Cursor

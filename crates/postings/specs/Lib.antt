@@ -1,2 +1,3 @@
 -- What the contracts of `postings` cite.
+pub mod Seek
 pub mod Inner

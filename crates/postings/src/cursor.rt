@@ -1,20 +1,18 @@
 // A scorer's place in its list: the block cursor and the place in the block that it decoded last.
-use block_search::search_block;
 use notefile::block::Block;
 use notefile::block::DOCS;
 use notefile::part::Part;
 use skip_reader::block::load_block;
 use skip_reader::skip::SkipReader;
-ghost use mathlib.Core.Path.{_≡_};
-ghost use Prim.Native.Nat.{min, suc, _≤_, _<_};
+ghost use Prim.Native.Nat.{suc, _≤_, _<_};
 ghost use Rattle.arrays.specs.Lent.{before, after};
-ghost use Rattle.route.specs.Cursor.{Cursor, advanceIn, fresh, loadAt, seekBlockIn, seekIn};
+ghost use Rattle.route.specs.Cursor.{Cursor, advanceIn, fresh, seekBlockIn};
 ghost use Rattle.bm25.specs.declared.Scoring.{Scoring};
 ghost use Rattle.notefile.specs.Lists.{fullBlocks};
 ghost use Rattle.decoded.specs.Lists.{listOf};
 ghost use Rattle.skip_reader.specs.Inner.Decoded.{ListIn};
 ghost use Rattle.skip_reader.specs.Inner.Reader.{Stands};
-ghost use Rattle.postings.specs.Inner.Places.{Behind, Here, Moved, Placed, Shallow, cursorOf};
+ghost use Rattle.postings.specs.Inner.Places.{Here, Moved, Placed, Shallow, cursorOf};
 
 // The Rust's block cursor and its `cur`. The decoded block stands in two arrays beside it, and `decoded` is its number.
 pub struct SegmentPostings {
@@ -22,14 +20,6 @@ pub struct SegmentPostings {
     pub block_loaded: bool,
     pub decoded: usize,
     pub cur: usize,
-}
-
-// The place after a place of a block, or its last.
-pub fn next_place(cur: usize) -> usize
-    requires { ⌜ cur < 128 ⌝ }
-    ensures { λ r. ⌜ (r ≡ min (suc cur) 127) × (r < 128) ⌝ }
-{
-    if cur < 127 { cur + 1 } else { 127 }
 }
 
 impl SegmentPostings {
@@ -74,37 +64,6 @@ impl SegmentPostings {
             decoded: self.decoded,
             cur: self.cur,
         }
-    }
-
-    // The skip reader's block, loaded, and the first posting in it from the target on.
-    pub fn load_at(self, file: &[u8], x: Part, target: u32, block: &mut Block) -> SegmentPostings
-        requires { ⌜ ListIn (now file) x × Placed (now file) x self (now block)
-            × (target ≤ self .«skip_reader» .«last_doc_in_block») ⌝ }
-        ensures { λ r.
-            let to : Scoring → Cursor = λ scoring. loadAt (listOf scoring (before file) x) 128 target (self .«skip_reader» .block) in
-            ⌜ Moved (before file) x to r (after block) ⌝ }
-    {
-        let skip_reader = self.skip_reader;
-        load_block(file, x, skip_reader, block);
-        let cur = search_block(&block[DOCS], target);
-        SegmentPostings {
-            skip_reader,
-            block_loaded: true,
-            decoded: skip_reader.block,
-            cur,
-        }
-    }
-
-    // From a block that ends before the target to the first posting from the target on.
-    pub fn seek_far(self, file: &[u8], x: Part, target: u32, block: &mut Block) -> SegmentPostings
-        requires { ⌜ ListIn (now file) x × Placed (now file) x self (now block) × Behind self (now block) target
-            × (self .«skip_reader» .«last_doc_in_block» < target) × (target ≤ 2147483647) ⌝ }
-        ensures { λ r.
-            let to : Scoring → Cursor = λ scoring. seekIn (listOf scoring (before file) x) 128 target (cursorOf self) in
-            ⌜ Moved (before file) x to r (after block) ⌝ }
-    {
-        let p = self.seek_block(file, x, target);
-        p.load_at(file, x, target, block)
     }
 
     // On to the next posting. Behind a block's last place the next block is loaded.

@@ -57,6 +57,15 @@ module _ {file : List ℕ} {similarity : Similarity} {lists : List (List ℕ)} {
       abbrev To : Scoring → Cursor
       To s = seekIn (listAt s file lists q) 128 (x .doc) (cursorAt (h .places) q)
 
+      -- what `slot::doc` asks there, and what it reads
+      pub cur-then : getD (getD (h′ .places) q []) 6 0 < 128
+      cur-then = cur-inside file (getD lists q []) (getD (h′ .places) q []) (R .kept .slot .list) (M .moved .place)
+
+      pub read-then : {r : ℕ} → r ≡ getD (docsOf (getD (h′ .blocks) q [])) (getD (getD (h′ .places) q []) 6 0) 0 → MovedSlot file lists q To h h′ r
+      read-then e =
+          subst (MovedSlot file lists q To h h′)
+          (M .moved .doc-is ∙ doc-in-array file (getD lists q []) (getD (h′ .places) q []) (R .kept .slot .list) (M .moved .place) ∙ sym e) M
+
       sixteen-then : Sixteen (h′ .places) × Sixteen (h′ .blocks)
       sixteen-then =
           let s = R .kept .slot .sixteen in

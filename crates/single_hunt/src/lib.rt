@@ -52,7 +52,8 @@ fn enter(
 {
     let q = single.slot;
     let here = slot::doc(q, places, blocks);
-    let doc = slot::seek(file, lists, q, here, single.doc, places, blocks);
+    slot::seek(file, lists, q, here, single.doc, places, blocks);
+    let doc = slot::doc(q, places, blocks);
     if doc == TERMINATED {
         return Single {
             slot: q,

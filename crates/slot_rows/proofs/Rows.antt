@@ -7,6 +7,7 @@ use native.Mathlib.Omega.{arith}
 use lib.Dec.{eqb}
 use lib.ListN.{getD, set}
 use lib.Ieee.{Float}
+use Rattle.block_search.specs.declared.Answer.{Answer}
 use Rattle.route.specs.Postings.{Postings}
 use Rattle.route.specs.Cursor.{Cursor}
 use Rattle.bm25.specs.declared.Scoring.{Scoring}
@@ -17,12 +18,13 @@ use Rattle.notefile.specs.declared.part.Part.{Part}
 use Rattle.decoded.specs.Lists.{listOf}
 use Rattle.skip_reader.specs.Inner.Decoded.{docIn, doc-is, ListIn}
 use Rattle.skip_reader.specs.Inner.Reader.{lastIn, placeIn, previousIn, readerAt, Stands}
+use Rattle.postings.specs.Seek.{seekAnswer}
 use Rattle.postings.specs.Inner.Places.{cursorOf, Placed, Moved, Shallow, Here}
 use Rattle.skip_reader.specs.declared.skip.SkipReader.{SkipReader}
 use Rattle.postings.specs.declared.cursor.SegmentPostings.{SegmentPostings}
 use Rattle.skip_reader.proofs.Readers.{block-is, stands-on}
 use Rattle.postings.proofs.Moves.{doc-here}
-use Rattle.slot_rows.specs.Inner.Rows.{partIn, partRow, flag, placeRow, Narrow, cursorIn, postingsIn, Standing, PlaceIn, MovedRow, ShallowRow}
+use Rattle.slot_rows.specs.Inner.Rows.{partIn, partRow, flag, placeRow, Narrow, cursorIn, postingsIn, Standing, PlaceIn, MovedRow, ShallowRow, SoughtRow}
 
 flag-back : (b : Bool) → eqb (flag b) 1 ≡ b
 flag-back true = refl
@@ -197,6 +199,9 @@ module _ (file list row : List ℕ) (move : Postings Float → Cursor → Cursor
     set-cur : (cur : ℕ) → set row 6 cur ≡ placeRow (at-cur cur) (getD row 7 0) (getD row 8 0) (getD row 9 0)
     set-cur cur = ap (λ (z : List ℕ). set z 6 cur) (P .standing .row-is)
 
+    pub cur-set : (cur : ℕ) → getD (set row 6 cur) 6 0 ≡ cur
+    cur-set cur = ap (λ (z : List ℕ). getD z 6 0) (set-cur cur)
+
     same-block : (cur : ℕ) → (cursorOf (at-cur cur) .blk ≡ cursorIn row .blk) × (cursorOf (at-cur cur) .loaded ≡ cursorIn row .loaded) × (cursorOf (at-cur cur) .dec ≡ cursorIn row .dec)
     unfolding cursorOf cursorIn postingsIn readerAt
     same-block cur = (refl, refl, refl)
@@ -230,3 +235,34 @@ module _ (file list row : List ℕ) (L : ListIn file (partIn list)) {block : Lis
   doc-in-array =
       sym (here file (partIn list) (postingsIn file (partIn list) row) (P .placed) (doc-here (postingsIn file (partIn list) row) block)
       ∙ ap (λ (c : Cursor). docIn file (partIn list) (c .at)) (cursor-is file (partIn list) row))
+
+module _ (file : List ℕ) (x : Part) where
+  -- one move behind another
+  pub moved-on : {f g : Scoring → Cursor} {row row₁ row₂ : List ℕ} {block block₂ : List (List ℕ)} {d e : ℕ} → MovedRow file x f row row₁ block d → MovedRow file x g row₁ row₂ block₂ e → MovedRow file x g row row₂ block₂ e
+  moved-on M N = record {
+    place = N .place;
+    cursor-is = N .cursor-is;
+    doc-is = N .doc-is;
+    bound-is = λ k. let n = N .bound-is k in let m = M .bound-is (n .0) in (m .0, n .1 ∙ m .1, n .2 ∙ m .2);
+    scores-is = λ k. let n = N .scores-is k in let m = M .scores-is (n .0) in (m .0, n .1 ∙ m .1);
+    ahead-is = λ b u. M .ahead-is b (N .ahead-is b u);
+  }
+
+  -- a move by the document on which it ended
+  pub moved-to : {to : Scoring → Cursor} {row row′ : List ℕ} {block : List (List ℕ)} {doc : ℕ} → MovedRow file x to row row′ block doc → MovedRow file x to row row′ block (docIn file x (cursorIn row′ .at))
+  moved-to {to} {row} {row′} {block} M = subst (MovedRow file x to row row′ block) (M .doc-is) M
+
+  -- and by the place
+  pub settled : {to : Scoring → Cursor} {row row′ : List ℕ} {block : List (List ℕ)} {doc : ℕ} → MovedRow file x to row row′ block doc → MovedRow file x (λ _. cursorIn row′) row row′ block (docIn file x (cursorIn row′ .at))
+  settled M = record { place = M .place; cursor-is = λ _. refl; doc-is = refl; bound-is = M .bound-is; scores-is = M .scores-is; ahead-is = M .ahead-is }
+
+  -- and a seek's answer of it
+  pub sought-row : (t : ℕ) {to : Scoring → Cursor} {row row′ : List ℕ} {block : List (List ℕ)} {doc : ℕ} {r : Answer} → MovedRow file x to row row′ block doc
+      → r ≡ seekAnswer t doc (getD row′ 6 0) → SoughtRow file x t to row row′ block r
+  sought-row t {row′ = row′} M e = record {
+    moved = moved-to M;
+    answer-is = e ∙ ap (λ (d : ℕ). seekAnswer t d (getD row′ 6 0)) (M .doc-is);
+  }
+
+  pub told-by : (t : ℕ) {to : Scoring → Cursor} {row row′ : List ℕ} {block : List (List ℕ)} {r r′ : Answer} → SoughtRow file x t to row row′ block r → r′ ≡ r → SoughtRow file x t to row row′ block r′
+  told-by t S e = record { moved = S .moved; answer-is = e ∙ S .answer-is }

@@ -5,13 +5,14 @@ use Prim.Native.Nat.{ℕ, _≤_, _<_}
 use native.Mathlib.Omega.{arith}
 use lib.ListN.{getD, set}
 use lib.Seq.{getD-set-same, set-getD}
+use Rattle.block_search.specs.declared.Answer.{Answer}
 use Rattle.route.specs.Cursor.{Cursor, fresh, seekBlockIn}
 use Rattle.bm25.specs.declared.Scoring.{Scoring}
 use Rattle.notefile.specs.declared.part.Part.{Part}
-use Rattle.slot_rows.specs.Inner.Rows.{cursorIn, partIn, partRow, PartRow, MovedRow, ShallowRow, Unkept}
+use Rattle.slot_rows.specs.Inner.Rows.{cursorIn, partIn, partRow, PartRow, MovedRow, ShallowRow, SoughtRow, Unkept}
 use Rattle.slot_rows.proofs.Rows.{part-back}
 use Rattle.slot_moves.proofs.Moves.{stays-shallow}
-use Rattle.term_scorer.specs.Inner.Slots.{Held, Sixteen, SlotIn, StandingIn, cursorAt, held, listAt, partAt, MovedSlot, Shallowed, Opened}
+use Rattle.term_scorer.specs.Inner.Slots.{Held, Sixteen, SlotIn, StandingIn, cursorAt, held, listAt, partAt, MovedSlot, SoughtSlot, Shallowed, Opened}
 
 -- the row that was put into a slot
 same-row : {A : Type 0} (xss : List (List A)) (q : ℕ) (xs : List A) → q < 16 → Sixteen xss → getD (set xss q xs) q [] ≡ xs
@@ -37,6 +38,15 @@ module _ (file : List ℕ) (lists : List (List ℕ)) (q : ℕ) (h : q < 16) wher
     places-only = only-row places q p h lp;
     blocks-only = only-row blocks q b h lb;
     moved = rw (same-row places q p h lp, same-row blocks q b h lb) M;
+  }
+
+  -- a seek
+  pub sought-slot : (t : ℕ) (to : Scoring → Cursor) {places : List (List ℕ)} {blocks : List (List (List ℕ))} → Sixteen places × Sixteen blocks → {p : List ℕ} {b : List (List ℕ)} {r : Answer}
+      → SoughtRow file (partAt lists q) t to (getD places q []) p b r
+      → SoughtSlot file lists q t to (held places blocks) (held (set places q p) (set blocks q b)) r
+  sought-slot t to {places} {blocks} (lp, lb) {p} {b} S = record {
+    moved = rw (same-row places q p h lp) (moved-slot to (lp, lb) (S .moved));
+    answer-is = rw (same-row places q p h lp) (S .answer-is);
   }
 
   -- within its block

@@ -1,4 +1,5 @@
 // A scorer's moves by its slot. The other slots stay as they are.
+use block_search::Answer;
 use notefile::block::DOCS;
 use notefile::part::Part;
 use slot_rows::place::BLOCK;
@@ -22,7 +23,7 @@ ghost use Rattle.notefile.specs.declared.part.Part.{Part};
 ghost use Rattle.skip_reader.specs.Inner.Decoded.{docIn, ListIn};
 ghost use Rattle.slot_rows.specs.Inner.Rows.{firstOf};
 ghost use Rattle.term_scorer.specs.Inner.Slots.{cursorAt, held, lastAt, listAt, partAt};
-ghost use Rattle.term_scorer.specs.Inner.Slots.{MovedSlot, Opened, Shallowed, SlotIn, StandingIn, Sixteen};
+ghost use Rattle.term_scorer.specs.Inner.Slots.{MovedSlot, Opened, Shallowed, SlotIn, SoughtSlot, StandingIn, Sixteen};
 
 // A list's scorer in slot q, on the list's first posting, and beside it the bits of its list bound.
 pub fn open(
@@ -102,7 +103,7 @@ pub fn shallow_seek(
     seek_block(file, lists, q, target, places);
 }
 
-// On to the first posting from the target on.
+// On to the first posting from the target on: a hit if the target is there, else a miss.
 pub fn seek(
     file: &[u8],
     lists: &[[usize; 8]; 16],
@@ -111,14 +112,14 @@ pub fn seek(
     target: u32,
     places: &mut Places,
     blocks: &mut Blocks,
-) -> u32
+) -> Answer
     requires { let slots = held (now places) (now blocks) in
         ⌜ (q < 16) × SlotIn (now file) (now lists) slots q
         × (doc ≡ docIn (now file) (partAt (now lists) q) (cursorAt (now places) q .at)) × (target ≤ 2147483647) ⌝ }
     ensures { λ r.
         let old = held (before places) (before blocks) in
         let new = held (after places) (after blocks) in
-        ⌜ MovedSlot (before file) (before lists) q
+        ⌜ SoughtSlot (before file) (before lists) q target
         (λ s. seekIn (listAt s (before file) (before lists) q) 128 target (cursorAt (before places) q))
         old new r ⌝ }
 {

@@ -1,4 +1,5 @@
 // The scorers before the pivot come onto it, or one goes past it.
+use block_search::Answer;
 use slot_order::restore::put_back;
 use slot_rows::place::Blocks;
 use slot_rows::place::Places;
@@ -28,7 +29,7 @@ pub fn align_scorers(
     blocks: &mut Blocks,
 ) -> Alignment
     requires { let slots = held (now places) (now blocks) in
-        ⌜ («before_pivot_len» < n) × (n ≤ 16) × («pivot_doc» ≤ 2147483647) × Sixteen (now order)
+        ⌜ («before_pivot_len» < n) × (n ≤ 16) × («pivot_doc» < 2147483647) × Sixteen (now order)
         × Lined (now file) (now lists) slots (take n (now order)) ⌝ }
     ensures { λ r.
         let old = held (before places) (before blocks) in
@@ -40,13 +41,16 @@ pub fn align_scorers(
         i -= 1;
         let q = order[i];
         let at = slot::doc(q, places, blocks);
-        let doc = slot::seek(file, lists, q, at, pivot_doc, places, blocks);
-        if doc != pivot_doc {
-            let len = put_back(order, n, i, places, blocks);
-            return Alignment {
-                len,
-                on_pivot: false,
-            };
+        let found = slot::seek(file, lists, q, at, pivot_doc, places, blocks);
+        match found {
+            Answer::Hit(_) => {}
+            Answer::Miss(_) => {
+                let len = put_back(order, n, i, places, blocks);
+                return Alignment {
+                    len,
+                    on_pivot: false,
+                };
+            }
         }
     }
     Alignment {

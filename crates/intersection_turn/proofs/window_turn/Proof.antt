@@ -93,17 +93,17 @@ sum-rests-requires c κs =
     let O = start (windowed (opened (k .before))) .pre .0 .order in
     (O .leader, O .few, O .long, (λ i h. slot-small O h), k .keep-scores .ensures .rows)
 
-mul-search-block : tie.Need-mul-search-block
-mul-search-block c = omega (arith, leader-small (windowed (opened (after-keep-scores c .before))))
+mul-count-below : tie.Need-mul-count-below
+mul-count-below c = omega (arith, leader-small (windowed (opened (after-keep-scores c .before))))
 
-index-1-search-block : tie.Need-index-1-search-block
-index-1-search-block c = omega (arith, leader-small (windowed (opened (after-keep-scores c .before))))
+index-1-count-below : tie.Need-index-1-count-below
+index-1-count-below c = omega (arith, leader-small (windowed (opened (after-keep-scores c .before))))
 
-index-2-search-block : tie.Need-index-2-search-block
-index-2-search-block c = search needs
+index-2-count-below : tie.Need-index-2-count-below
+index-2-count-below c = search needs
 
-search-block-requires : tie.Need-search-block-requires
-search-block-requires c κs =
+count-below-requires : tie.Need-count-below-requires
+count-below-requires c κs =
     let n = windowed (opened (after-keep-scores (c .before) .before)) in
     let a = start n in
     let O = a .pre .0 .order in
@@ -138,7 +138,7 @@ returns-3 c =
     let w = opened (k .before) in
     let n = windowed w in
     let a = start n in
-    window-open _ (a .args .leg .threshold) (a .pre .0) (a .pre .1) {h′ = moved n} {bounds = bounds n} (n .next-window .ensures) (w .window2 .given .1) {places₂ = places₂ k} {floats₂ = floats₂ k} (k .keep-scores .ensures) (u .sum-rests .ensures) (b .search-block .ensures)
+    window-open _ (a .args .leg .threshold) (a .pre .0) (a .pre .1) {h′ = moved n} {bounds = bounds n} (n .next-window .ensures) (w .window2 .given .1) {places₂ = places₂ k} {floats₂ = floats₂ k} (k .keep-scores .ensures) (u .sum-rests .ensures) (b .count-below .ensures .0)
     (c .quiet3 .ensures ∙ ap (quietly (a .args .v) (a .args .v .doc)) (i .within .ensures))
 
 pub window-turn-spec : {M : Type 1} → statement M
@@ -156,10 +156,10 @@ window-turn-spec =
     element-copy-out-q
     keep-scores-requires
     sum-rests-requires
-    mul-search-block
-    index-1-search-block
-    index-2-search-block
-    search-block-requires
+    mul-count-below
+    index-1-count-below
+    index-2-count-below
+    count-below-requires
     within-requires
     quiet-requires-3
     returns

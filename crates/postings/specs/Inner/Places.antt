@@ -3,8 +3,12 @@ use mathlib.Core.Path.{_≡_}
 use mathlib.Core.Bool.{true}
 use mathlib.Core.List.{List}
 use Prim.Native.Nat.{ℕ, suc, min, _+_, _≤_, _<_}
+use lib.Dec.{ltb}
 use lib.ListN.{getD}
-use Rattle.route.specs.Postings.{start}
+use Rattle.block_search.specs.Search.{answerIf}
+use Rattle.block_search.specs.declared.Answer.{Answer}
+use Rattle.block_search.specs.declared.Answer.the-variants.{Hit, Miss}
+use Rattle.route.specs.Postings.{TERMINATED, start}
 use Rattle.route.specs.Cursor.{Cursor, docHere}
 use Rattle.bm25.specs.declared.Scoring.{Scoring}
 use Rattle.notefile.specs.Lists.{fullBlocks}
@@ -45,3 +49,8 @@ abbrev pub Here : SegmentPostings → List (List ℕ) → ℕ → Type 0
 Here p block doc =
     (file : List ℕ) (x : Part) → Placed file x p block
     → (scoring : Scoring) → doc ≡ docHere (listOf scoring file x) (cursorOf p)
+
+-- a search's answer, to a seek: `TERMINATED` is never a hit
+abbrev pub liveAnswer : ℕ → Answer → Answer
+liveAnswer target (Hit i) = answerIf (ltb target TERMINATED) i
+liveAnswer target (Miss n) = Miss n

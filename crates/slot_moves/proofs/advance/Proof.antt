@@ -45,7 +45,7 @@ index-1-result : tie.Need-index-1-result
 index-1-result c = search needs
 
 index-2-result : tie.Need-index-2-result
-index-2-result c = next-inside c
+index-2-result c = omega (arith, next-inside c)
 
 returns : tie.Need-returns
 returns c =

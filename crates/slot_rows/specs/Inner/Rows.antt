@@ -5,13 +5,16 @@ use mathlib.Core.List.{List, [], _∷_}
 use Prim.Native.Nat.{ℕ, suc, _+_, _≤_, _<_}
 use lib.Dec.{eqb}
 use lib.ListN.{getD}
+use Rattle.block_search.specs.declared.Answer.{Answer}
 use Rattle.route.specs.Postings.{start}
-use Rattle.route.specs.Cursor.{Cursor}
+use Rattle.route.specs.Cursor.{Cursor, seekBlockIn}
 use Rattle.bm25.specs.declared.Scoring.{Scoring}
 use Rattle.notefile.specs.Lists.{fullBlocks}
 use Rattle.notefile.specs.declared.part.Part.{Part}
+use Rattle.decoded.specs.Lists.{listOf}
 use Rattle.skip_reader.specs.Inner.Decoded.{docIn}
 use Rattle.skip_reader.specs.Inner.Reader.{readerAt}
+use Rattle.postings.specs.Seek.{seekAnswer}
 use Rattle.postings.specs.Inner.Places.{Placed}
 use Rattle.postings.specs.declared.cursor.SegmentPostings.{SegmentPostings}
 
@@ -103,7 +106,18 @@ module _ (file : List ℕ) (x : Part) where
     pub scores-is : getD row′ 8 0 ≡ 1 → (getD row 8 0 ≡ 1) × (cursorIn row′ .dec ≡ cursorIn row .dec)
     pub ahead-is : (b : ℕ) → getD row′ 9 0 ≡ suc b → getD row 9 0 ≡ suc b
 
-  -- the same of a move that leaves the decoded block and the document as they are, whatever they are
+  -- the skip reader stands on the block that may hold the target, and it is loaded
+  pub record Reached (target : ℕ) (row row′ : List ℕ) (block′ : List (List ℕ)) : Type 0 where
+    pub moved : MovedRow (λ _. cursorIn row′) row row′ block′ (docIn file x (cursorIn row′ .at))
+    pub block-is : (scoring : Scoring) → cursorIn row′ .blk ≡ seekBlockIn (listOf scoring file x) 128 target (cursorIn row) .blk
+    pub loaded : cursorIn row′ .loaded ≡ true
+
+  -- after a seek: where the route's cursor is, and the answer of the document there
+  pub record SoughtRow (target : ℕ) (to : Scoring → Cursor) (row row′ : List ℕ) (block′ : List (List ℕ)) (r : Answer) : Type 0 where
+    pub moved : MovedRow to row row′ block′ (docIn file x (cursorIn row′ .at))
+    pub answer-is : r ≡ seekAnswer target (docIn file x (cursorIn row′ .at)) (getD row′ 6 0)
+
+  -- a move that leaves the decoded block and the document as they are, whatever they are: what `MovedRow` says
   abbrev pub ShallowRow : (Scoring → Cursor) → List ℕ → List ℕ → Type 0
   ShallowRow to row row′ =
       (block : List (List ℕ)) → PlaceIn row block → MovedRow to row row′ block (docIn file x (cursorIn row .at))

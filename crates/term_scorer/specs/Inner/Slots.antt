@@ -4,12 +4,14 @@ use mathlib.Core.List.{List, [], _∷_, map}
 use Prim.Native.Nat.{ℕ, zero, suc, _≤_, _<_}
 use lib.ListN.{length, getD, set}
 use lib.Ieee.{Float}
+use Rattle.block_search.specs.declared.Answer.{Answer}
 use Rattle.route.specs.Postings.{Postings}
 use Rattle.route.specs.Cursor.{Cursor, fresh}
 use Rattle.bm25.specs.declared.Scoring.{Scoring}
 use Rattle.notefile.specs.declared.part.Part.{Part}
 use Rattle.decoded.specs.Lists.{listOf}
-use Rattle.skip_reader.specs.Inner.Decoded.{ListIn}
+use Rattle.skip_reader.specs.Inner.Decoded.{docIn, ListIn}
+use Rattle.postings.specs.Seek.{seekAnswer}
 use Rattle.slot_rows.specs.Inner.Rows.{partIn, partRow, PartRow, cursorIn, Standing, PlaceIn, MovedRow, ShallowRow, Unkept}
 
 -- an array of 16 slots
@@ -76,6 +78,12 @@ module _ (file : List ℕ) (lists : List (List ℕ)) where
     pub blocks-only : after .blocks ≡ set (before .blocks) q (getD (after .blocks) q [])
     pub moved : MovedRow file (partAt lists q) to (getD (before .places) q [])
         (getD (after .places) q []) (getD (after .blocks) q []) doc
+
+  -- slot q's scorer has sought the target: it has moved, and the answer is that of the document there
+  pub record SoughtSlot (q target : ℕ) (to : Scoring → Cursor) (before after : Held) (r : Answer) : Type 0 where
+    pub moved : MovedSlot q to before after (docIn file (partAt lists q) (cursorAt (after .places) q .at))
+    pub answer-is : r
+        ≡ seekAnswer target (docIn file (partAt lists q) (cursorAt (after .places) q .at)) (getD (getD (after .places) q []) 6 0)
 
   -- slot q's skip reader has moved
   pub record Shallowed (q : ℕ) (to : Scoring → Cursor) (before after : List (List ℕ)) : Type 0 where

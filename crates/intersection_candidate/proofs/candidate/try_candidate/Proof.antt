@@ -3,10 +3,11 @@ use Prim.Native.Nat.{_-_, _<_}
 use native.Mathlib.Omega.{arith}
 use lib.ListN.{getD}
 use borrow.Author.Needs.{needs}
+use Rattle.postings.proofs.Answers.{off-target, on-target}
 use Rattle.term_scorer.specs.Inner.Slots.{held, Held}
 use Rattle.intersection_order.specs.Inner.Scorers.{query, InOrder}
 use Rattle.intersection_order.proofs.Seats.{cur-small, doc-here, slot-small}
-use Rattle.intersection_candidate.proofs.Trying.{Trying, begun, due, goes-on, missed, not-above, past, seated-there, too-low, on-candidate}
+use Rattle.intersection_candidate.proofs.Trying.{Trying, begun, due, goes-on, missed, not-above, seated-there, too-low, on-candidate}
 use Rattle.intersection_candidate.proofs.candidate.try_candidate.Statement.{statement}
 use Rattle.intersection_candidate.proofs.candidate.try_candidate.Tie as tie
 
@@ -22,20 +23,23 @@ abbrev μ-loop : tie.MeasureT-loop
 abbrev start : tie.In-loop Inv-loop μ-loop → tie.Start Inv-loop μ-loop
 start c = c .before .before .before
 
-abbrev else-of : tie.After-score-arg2 Inv-loop μ-loop → tie.Else2 Inv-loop μ-loop
-else-of c = c .before .before
-
-abbrev scored : tie.After-struct-known Inv-loop μ-loop → tie.After-score Inv-loop μ-loop
-scored c = c .before .before
-
-abbrev after-doc : tie.After-seek-arg2 Inv-loop μ-loop → tie.After-doc Inv-loop μ-loop
-after-doc c = c .before .before .before
-
 abbrev in-loop : tie.After-doc-arg2 Inv-loop μ-loop → tie.In-loop Inv-loop μ-loop
 in-loop d = d .before .before .before
 
-abbrev not-past : tie.After-seek Inv-loop μ-loop → tie.Else1 Inv-loop μ-loop
-not-past m = m .before .before .before
+abbrev after-doc : tie.After-seek-arg2 Inv-loop μ-loop → tie.After-doc Inv-loop μ-loop
+after-doc c = c .before .before
+
+abbrev loop-of : tie.After-seek Inv-loop μ-loop → tie.In-loop Inv-loop μ-loop
+loop-of m = in-loop (after-doc (m .before) .before)
+
+abbrev hit-of : tie.After-score-arg2 Inv-loop μ-loop → tie.After-enum-told2 Inv-loop μ-loop
+hit-of c = c .before .before
+
+abbrev seek-of : tie.After-enum-told2 Inv-loop μ-loop → tie.After-seek Inv-loop μ-loop
+seek-of e = e .before .before
+
+abbrev scored : tie.After-struct-known Inv-loop μ-loop → tie.After-score Inv-loop μ-loop
+scored c = c .before .before
 
 -- the slots that a seek left
 abbrev sought : tie.After-seek Inv-loop μ-loop → Held
@@ -64,42 +68,42 @@ doc-requires c κs =
     let l = in-loop c in
     (small l, cur-small (l .before .loop .inv .seated) (within l))
 
-returns : tie.Need-returns Inv-loop μ-loop
-returns c =
-    let l = in-loop (c .before .before) in
-    past _ _ _ _ _ _ (order-in l) (l .before .loop .inv) (l .loop-test .taken) (doc-here (l .before .loop .inv .seated) (within l) (c .before .doc .ensures)) (c .if1 .taken)
-
 seek-requires : tie.Need-seek-requires Inv-loop μ-loop
 seek-requires c κs =
     let d = after-doc c in
     let l = in-loop (d .before) in
     (small l, l .before .loop .inv .seated .slot _ (within l), doc-here (l .before .loop .inv .seated) (within l) (d .doc .ensures), omega (arith, start l .pre .2))
 
-returns-2 : tie.Need-returns-2 Inv-loop μ-loop
-returns-2 c =
-    let m = c .before in
-    let d = not-past m .before in
-    let l = in-loop (d .before) in
-    missed _ _ _ _ _ _ (order-in l) (l .before .loop .inv) (l .loop-test .taken) (doc-here (l .before .loop .inv .seated) (within l) (d .doc .ensures)) (not-past m .if1 .left) {h′ = sought m} (m .seek .ensures) (c .if2 .taken)
+enum-told : tie.Need-enum-told Inv-loop μ-loop
+enum-told c = search needs
+
+returns : tie.Need-returns Inv-loop μ-loop
+returns c =
+    let m = c .before .before in
+    let l = loop-of m in
+    missed _ _ _ _ _ _ (order-in l) (l .before .loop .inv) (l .loop-test .taken) {h′ = sought m} (m .seek .ensures .moved) (off-target _ _ _ (m .seek .ensures .answer-is) (start l .pre .2) (c .enum-told .given .1))
+
+enum-told-2 : tie.Need-enum-told-2 Inv-loop μ-loop
+enum-told-2 c = search needs
 
 score-requires : tie.Need-score-requires Inv-loop μ-loop
 score-requires c κs =
-    let e = else-of c in
-    let m = e .before in
-    let d = not-past m .before in
-    let l = in-loop (d .before) in
+    let e = hit-of c in
+    let m = seek-of e in
+    let l = loop-of m in
     let a = start l in
-    let S = seated-there _ _ _ _ _ _ (order-in l) (l .before .loop .inv) (l .loop-test .taken) (doc-here (l .before .loop .inv .seated) (within l) (d .doc .ensures)) (not-past m .if1 .left) {h′ = sought m} (m .seek .ensures) in
-    (small l, a .pre .0 .norms-are, S .slot _ (within l), a .pre .0 .weighed _ (within l), on-candidate _ _ _ _ _ _ (order-in l) (l .before .loop .inv) (l .loop-test .taken) (doc-here (l .before .loop .inv .seated) (within l) (d .doc .ensures)) (not-past m .if1 .left) {h′ = sought m} (m .seek .ensures) (e .if2 .left), a .pre .2)
+    let S = seated-there _ _ _ _ _ _ (order-in l) (l .before .loop .inv) (l .loop-test .taken) {h′ = sought m} (m .seek .ensures .moved) in
+    let on = on-target _ _ _ (m .seek .ensures .answer-is) (e .enum-told2 .given .1) in
+    (small l, a .pre .0 .norms-are, S .slot _ (within l), a .pre .0 .weighed _ (within l), on-candidate _ _ _ _ _ _ (order-in l) (l .before .loop .inv) (l .loop-test .taken) {h′ = sought m} (m .seek .ensures .moved) on, a .pre .2)
 
-mul-if3 : tie.Need-mul-if3 Inv-loop μ-loop
-mul-if3 c = search needs
+mul-if1 : tie.Need-mul-if1 Inv-loop μ-loop
+mul-if1 c = search needs
 
-element-copy-out-if3 : tie.Need-element-copy-out-if3 Inv-loop μ-loop
-element-copy-out-if3 c = search needs
+element-copy-out-if1 : tie.Need-element-copy-out-if1 Inv-loop μ-loop
+element-copy-out-if1 c = search needs
 
 add-i : tie.Need-add-i Inv-loop μ-loop
-add-i c = search needs
+add-i c = let l = loop-of (seek-of (hit-of (scored (c .before) .before))) in omega (arith, l .loop-test .taken, order-in l .few)
 
 loop-less : tie.Need-loop-less Inv-loop μ-loop
 loop-less c = search needs
@@ -107,32 +111,30 @@ loop-less c = search needs
 loop-again : tie.Need-loop-again Inv-loop μ-loop
 loop-again c =
     let v = scored (c .before) in
-    let e = else-of (v .before) in
-    let m = e .before in
-    let d = not-past m .before in
-    let l = in-loop (d .before) in
-    goes-on _ _ _ _ _ _ (order-in l) (l .before .loop .inv) (l .loop-test .taken) (doc-here (l .before .loop .inv .seated) (within l) (d .doc .ensures)) (not-past m .if1 .left) {h′ = sought m} (m .seek .ensures) (e .if2 .left) (v .score .ensures) (c .if3 .taken)
+    let e = hit-of (v .before) in
+    let m = seek-of e in
+    let l = loop-of m in
+    goes-on _ _ _ _ _ _ (order-in l) (l .before .loop .inv) (l .loop-test .taken) {h′ = sought m} (m .seek .ensures .moved) (on-target _ _ _ (m .seek .ensures .answer-is) (e .enum-told2 .given .1)) (v .score .ensures) (c .if1 .taken)
+
+returns-2 : tie.Need-returns-2 Inv-loop μ-loop
+returns-2 c =
+    let v = scored (c .before) in
+    let e = hit-of (v .before) in
+    let m = seek-of e in
+    let l = loop-of m in
+    too-low _ _ _ _ _ _ (order-in l) (l .before .loop .inv) (l .loop-test .taken) {h′ = sought m} (m .seek .ensures .moved) (on-target _ _ _ (m .seek .ensures .answer-is) (e .enum-told2 .given .1)) (v .score .ensures) (c .if1 .left)
 
 returns-3 : tie.Need-returns-3 Inv-loop μ-loop
 returns-3 c =
-    let v = scored (c .before) in
-    let e = else-of (v .before) in
-    let m = e .before in
-    let d = not-past m .before in
-    let l = in-loop (d .before) in
-    too-low _ _ _ _ _ _ (order-in l) (l .before .loop .inv) (l .loop-test .taken) (doc-here (l .before .loop .inv .seated) (within l) (d .doc .ensures)) (not-past m .if1 .left) {h′ = sought m} (m .seek .ensures) (e .if2 .left) (v .score .ensures) (c .if3 .left)
+    let e = c .before .before in
+    let l = e .before in
+    due _ _ _ _ _ _ (l .before .before .pre .0) (l .loop .inv) (e .loop-test .left) (c .if2 .taken)
 
 returns-4 : tie.Need-returns-4 Inv-loop μ-loop
 returns-4 c =
     let e = c .before .before in
     let l = e .before in
-    due _ _ _ _ _ _ (l .before .before .pre .0) (l .loop .inv) (e .loop-test .left) (c .if4 .taken)
-
-returns-5 : tie.Need-returns-5 Inv-loop μ-loop
-returns-5 c =
-    let e = c .before .before in
-    let l = e .before in
-    not-above _ _ _ _ _ _ (l .before .before .pre .0) (l .loop .inv) (e .loop-test .left) (c .if4 .left)
+    not-above _ _ _ _ _ _ (l .before .before .pre .0) (l .loop .inv) (e .loop-test .left) (c .if2 .left)
 
 pub try-candidate-spec : {M : Type 1} → statement M
 try-candidate-spec =
@@ -144,15 +146,16 @@ try-candidate-spec =
     mul-q
     element-copy-out-q
     doc-requires
-    returns
     seek-requires
-    returns-2
+    enum-told
+    returns
+    enum-told-2
     score-requires
-    mul-if3
-    element-copy-out-if3
+    mul-if1
+    element-copy-out-if1
     add-i
     loop-less
     loop-again
+    returns-2
     returns-3
-    returns-4
-    returns-5)
+    returns-4)

@@ -9,6 +9,7 @@ use lib.Seq.{getD-take}
 use borrow.Author.Needs.{needs}
 use Rattle.bm25.specs.declared.Scoring.{Scoring}
 use Rattle.bm25.specs.declared.Scoring.the-variants.{Unstepped}
+use Rattle.postings.proofs.Answers.{off-target, on-target}
 use Rattle.term_scorer.specs.Inner.Slots.{held, Held, Sixteen}
 use Rattle.union_moves.specs.Inner.Seats.{Lined, Stand, termAt}
 use Rattle.union_moves.proofs.Alignments.{Seeking, all-on, goes-past, seeking, seeks, stand-before, still-readable}
@@ -30,8 +31,8 @@ read-in c = c .before .before .before
 abbrev after-doc : tie.After-seek-arg2 Inv-loop μ-loop → tie.After-doc Inv-loop μ-loop
 after-doc c = c .before .before
 
-abbrev then-of : tie.After-put-back-arg3 Inv-loop μ-loop → tie.Then1 Inv-loop μ-loop
-then-of c = c .before .before .before
+abbrev missed-at : tie.After-put-back-arg3 Inv-loop μ-loop → tie.After-enum-told2 Inv-loop μ-loop
+missed-at c = c .before .before .before
 
 abbrev start : tie.At-loop Inv-loop μ-loop → tie.Start Inv-loop μ-loop
 start l = l .before .before
@@ -92,25 +93,31 @@ seek-requires c κs =
     let d = after-doc c in
     let b = read-in (d .before) in
     let S = stand-in b in
-    (S .slot-in, S .slot, doc-known _ _ Unstepped (now b) _ S (d .doc .ensures), start (b .before) .pre .2)
+    (S .slot-in, S .slot, doc-known _ _ Unstepped (now b) _ S (d .doc .ensures), omega (arith, start (b .before) .pre .2))
+
+enum-told : tie.Need-enum-told Inv-loop μ-loop
+enum-told c = search needs
+
+enum-told-2 : tie.Need-enum-told-2 Inv-loop μ-loop
+enum-told-2 c = search needs
 
 put-back-requires : tie.Need-put-back-requires Inv-loop μ-loop
 put-back-requires c κs =
-    let k = then-of c .before in
+    let k = missed-at c .before .before in
     let b = in-loop k in
     let a = start (b .before) in
-    (omega arith, a .pre .1, sixteen (b .before), still-readable _ _ _ Unstepped (first a) (slots (b .before)) _ (lined (b .before)) (inside (b .before)) (b .before .loop .inv .2 Unstepped) (omega arith) {h″ = sought k} _ (here b) (k .seek .ensures))
+    (omega arith, a .pre .1, sixteen (b .before), still-readable _ _ _ Unstepped (first a) (slots (b .before)) _ (lined (b .before)) (inside (b .before)) (b .before .loop .inv .2 Unstepped) (omega arith) {h″ = sought k} _ (here b) (k .seek .ensures .moved))
 
 returns : tie.Need-returns Inv-loop μ-loop
 returns c =
-    let t = then-of (c .before) in
-    let k = t .before in
+    let t = missed-at (c .before) in
+    let k = t .before .before in
     let b = in-loop k in
     let l = b .before in
     let a = start l in
     let D = c .put-back .ensures in
     record {
-      by = λ s. goes-past _ _ _ s (first a) (slots l) _ (lined l) (inside l) (l .loop .inv .2 s) (omega arith) {h″ = sought k} _ (here b) (k .seek .ensures) (t .if1 .taken) _ (D .are) (ap (take (a .args .n)) (l .loop .inv .1));
+      by = λ s. goes-past _ _ _ s (first a) (slots l) _ (lined l) (inside l) (l .loop .inv .2 s) (omega arith) {h″ = sought k} _ (here b) (k .seek .ensures .moved) (off-target _ _ _ (k .seek .ensures .answer-is) (a .pre .2) (t .enum-told2 .given .1)) _ (D .are) (ap (take (a .args .n)) (l .loop .inv .1));
       few = D .few;
       all = λ e. absurd (true≢false (sym e));
       long = D .long;
@@ -121,11 +128,11 @@ loop-less c = search needs
 
 loop-again : tie.Need-loop-again Inv-loop μ-loop
 loop-again c =
-    let k = c .before in
+    let k = c .before .before in
     let b = in-loop k in
     let l = b .before in
     let a = start l in
-    (omega arith, l .loop .inv .1, λ s. seeks _ _ _ s (first a) (slots l) _ (lined l) (inside l) (l .loop .inv .2 s) (omega arith) {h″ = sought k} _ (here b) (k .seek .ensures) (omega arith))
+    (omega arith, l .loop .inv .1, λ s. seeks _ _ _ s (first a) (slots l) _ (lined l) (inside l) (l .loop .inv .2 s) (omega arith) {h″ = sought k} _ (here b) (k .seek .ensures .moved) (on-target _ _ _ (k .seek .ensures .answer-is) (c .enum-told .given .1)))
 
 returns-2 : tie.Need-returns-2 Inv-loop μ-loop
 returns-2 c =
@@ -145,8 +152,10 @@ align-scorers-spec =
     element-copy-out-q
     doc-requires
     seek-requires
-    put-back-requires
-    returns
+    enum-told
     loop-less
     loop-again
+    enum-told-2
+    put-back-requires
+    returns
     returns-2)

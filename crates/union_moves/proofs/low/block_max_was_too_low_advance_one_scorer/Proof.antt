@@ -139,7 +139,7 @@ in-order-requires c κs =
     let k = after-seek c in
     let f = from-seek k in
     let a = first f in
-    (a .pre .2, a .pre .3, a .pre .5, moved-readable _ _ Unstepped (slots a) (f .scorer-to-seek .result) _ _ {h′ = sought k} (a .pre .4) (in-slots f) _ (here f) (k .seek .ensures))
+    (a .pre .2, a .pre .3, a .pre .5, moved-readable _ _ Unstepped (slots a) (f .scorer-to-seek .result) _ _ {h′ = sought k} (a .pre .4) (in-slots f) _ (here f) (k .seek .ensures .moved))
 
 restored-requires : tie.Need-restored-requires
 restored-requires c κs =
@@ -172,7 +172,7 @@ returns c =
     record {
       one = λ s T.
           let L = a .pre .4 .stands s in
-          one-on _ _ s (slots a) (f .scorer-to-seek .result) _ _ {h′ = sought k} (a .pre .4) (in-slots f) _ (here f) (k .seek .ensures) (a .args .pivot-len) (a .pre .0) (omega (arith, whole a))
+          one-on _ _ s (slots a) (f .scorer-to-seek .result) _ _ {h′ = sought k} (a .pre .4) (in-slots f) _ (here f) (k .seek .ensures .moved) (a .args .pivot-len) (a .pre .0) (omega (arith, whole a))
           (place-read (a .args .file .now) (a .args .lists .now) s (now a) (a .args .order .now) (a .pre .1) L T (f .scorer-to-seek .ensures (a .args .places .now) (a .args .blocks .now)))
           (least-read (a .args .file .now) (a .args .lists .now) s (now a) (a .args .order .now) (a .pre .1) L T (e .least-doc .ensures (a .args .lists .now)) (b .behind .ensures) (d .least-last-doc .ensures))
           T (i .in-order .ensures .1) (rw n at (c .keep-order .ensures .are) ∙ ap (map slotOf) (rw m at (R .1 .first .are)));
