@@ -70,7 +70,7 @@ fn segment(values: &[u32; 128], base: usize, step: usize, target: u32) -> usize
 // How many values of a sorted block are below the target, from 0 to 128.
 pub fn count_below(values: &[u32; 128], target: u32) -> usize
     requires { ⌜ Sorted (now values) ⌝ }
-    ensures { λ r. ⌜ (r ≡ countBelow 128 (before values) target) × (r ≤ 128) ⌝ }
+    ensures { λ r. ⌜ r ≡ countBelow 128 (before values) target ⌝ }
 {
     let far = 16 * segment(values, 0, 16, target);
     let near = far + 2 * segment(values, far, 2, target);

@@ -248,19 +248,15 @@ module _ (file : List ℕ) (x : Part) where
     ahead-is = λ b u. M .ahead-is b (N .ahead-is b u);
   }
 
-  -- a move by the document on which it ended
-  pub moved-to : {to : Scoring → Cursor} {row row′ : List ℕ} {block : List (List ℕ)} {doc : ℕ} → MovedRow file x to row row′ block doc → MovedRow file x to row row′ block (docIn file x (cursorIn row′ .at))
-  moved-to {to} {row} {row′} {block} M = subst (MovedRow file x to row row′ block) (M .doc-is) M
-
-  -- and by the place
+  -- a move by the place to which it came
   pub settled : {to : Scoring → Cursor} {row row′ : List ℕ} {block : List (List ℕ)} {doc : ℕ} → MovedRow file x to row row′ block doc → MovedRow file x (λ _. cursorIn row′) row row′ block (docIn file x (cursorIn row′ .at))
   settled M = record { place = M .place; cursor-is = λ _. refl; doc-is = refl; bound-is = M .bound-is; scores-is = M .scores-is; ahead-is = M .ahead-is }
 
-  -- and a seek's answer of it
+  -- a seek by its move and the answer of the document there
   pub sought-row : (t : ℕ) {to : Scoring → Cursor} {row row′ : List ℕ} {block : List (List ℕ)} {doc : ℕ} {r : Answer} → MovedRow file x to row row′ block doc
       → r ≡ seekAnswer t doc (getD row′ 6 0) → SoughtRow file x t to row row′ block r
-  sought-row t {row′ = row′} M e = record {
-    moved = moved-to M;
+  sought-row t {to} {row} {row′} {block} M e = record {
+    moved = subst (MovedRow file x to row row′ block) (M .doc-is) M;
     answer-is = e ∙ ap (λ (d : ℕ). seekAnswer t d (getD row′ 6 0)) (M .doc-is);
   }
 

@@ -73,8 +73,7 @@ returns c =
     let t = in-near n in
     let p1 = first-end (a .args .values .now) (a .pre) (a .args .target) near 1 near (omega (arith, t .low)) (omega arith) (omega (arith, f .segment .ensures .1, t .few)) (b .below .ensures .0) in
     let p2 = next-end (a .args .values .now) (a .pre) (a .args .target) (near + 1) p1 (omega arith) (omega (arith, f .segment .ensures .1, t .few)) (c .below2 .ensures .0) in
-    let e = last-two (b .below .result) (c .below2 .result) p2 (omega (arith, t .high)) in
-    (e, omega (arith, e, at-most (a .args .values .now) (a .pre) (a .args .target)))
+    last-two (b .below .result) (c .below2 .result) p2 (omega (arith, t .high))
 
 pub count-below-spec : {M : Type 1} → statement M
 count-below-spec =

@@ -23,7 +23,7 @@ returns c =
     let a = n .before in
     c .answer-if .ensures
     ∙ ap (λ (b : Bool). answerIf b (n .count-below .result)) (h .holds .ensures)
-    ∙ ap (λ (k : ℕ). answerIf (holdsAt (a .args .values .now) (a .args .target) k) k) (n .count-below .ensures .0)
+    ∙ ap (λ (k : ℕ). answerIf (holdsAt (a .args .values .now) (a .args .target) k) k) (n .count-below .ensures)
 
 pub search-block-spec : {M : Type 1} → statement M
 search-block-spec =

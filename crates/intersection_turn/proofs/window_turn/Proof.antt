@@ -138,7 +138,7 @@ returns-3 c =
     let w = opened (k .before) in
     let n = windowed w in
     let a = start n in
-    window-open _ (a .args .leg .threshold) (a .pre .0) (a .pre .1) {h′ = moved n} {bounds = bounds n} (n .next-window .ensures) (w .window2 .given .1) {places₂ = places₂ k} {floats₂ = floats₂ k} (k .keep-scores .ensures) (u .sum-rests .ensures) (b .count-below .ensures .0)
+    window-open _ (a .args .leg .threshold) (a .pre .0) (a .pre .1) {h′ = moved n} {bounds = bounds n} (n .next-window .ensures) (w .window2 .given .1) {places₂ = places₂ k} {floats₂ = floats₂ k} (k .keep-scores .ensures) (u .sum-rests .ensures) (b .count-below .ensures)
     (c .quiet3 .ensures ∙ ap (quietly (a .args .v) (a .args .v .doc)) (i .within .ensures))
 
 pub window-turn-spec : {M : Type 1} → statement M
