@@ -1,4 +1,4 @@
-/* The ranking of a note file, its best notes, and its writing. Every call returns; no argument is assumed to be right.
+/* The ranking of a note file, and its writing. Every call returns; no argument is assumed to be right.
    Pointers point to as many elements as the length beside them says; buffers that are written must not overlap with any other argument. */
 #ifndef NOTERANK_H
 #define NOTERANK_H

@@ -23,6 +23,7 @@ extern "C" {
         count: *mut u32,
     ) -> u32;
 
+    #[allow(dead_code)] // The bindings do not call it.
     pub fn noterank_find(
         file: *const u8,
         file_len: usize,

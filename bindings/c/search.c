@@ -1,4 +1,4 @@
-/* search FILE LIST..: the ten best notes in any of the lists, the best first.
+/* search FILE LIST..: the ten best documents in any of the lists, the best first.
    Exit status: 0 answered, 1 refused, 2 wrong usage or a file that cannot be read. */
 #include <errno.h>
 #include <stdio.h>
@@ -7,17 +7,22 @@
 
 #include "noterank.h"
 
-enum { UNION = 0, STEPPED = 1, ROWS_FULL = 12, BEST = 10 };
+enum { SKIPPING = 0, UNION = 0, STEPPED = 1, BEST_K = 1, ROWS_FULL = 12, BEST = 10 };
 
 struct file {
     uint8_t *bytes;
     size_t length;
 };
 
-struct notes {
-    uint32_t documents[BEST];
-    float scores[BEST];
+struct rows {
+    uint32_t *documents;
+    float *scores;
     uint32_t count;
+};
+
+struct hit {
+    uint32_t document;
+    float score;
 };
 
 static void fail(const char *what, const char *why)
@@ -62,36 +67,50 @@ static uint32_t list_number(const char *word)
     return (uint32_t)number;
 }
 
-/* Makes the report rows longer until every report has one: at most as many as the file has documents. */
-static uint32_t find(struct file file, const uint32_t *lists, size_t list_count, struct notes *notes)
+/* Makes the rows longer until every report has one: at most as many as the file has documents. */
+static uint32_t run(struct file file, const uint32_t *lists, size_t list_count, struct rows *rows)
 {
-    uint32_t refusal, *documents = NULL;
-    float *scores = NULL;
+    uint32_t refusal;
     size_t length = 64;
     do {
-        documents = grown(documents, length * sizeof *documents);
-        scores = grown(scores, length * sizeof *scores);
-        refusal = noterank_find(file.bytes, file.length, lists, list_count,
-                                UNION, STEPPED, 0.0f, BEST,
-                                documents, length, scores, length,
-                                notes->documents, BEST, notes->scores, BEST, &notes->count);
+        rows->documents = grown(rows->documents, length * sizeof *rows->documents);
+        rows->scores = grown(rows->scores, length * sizeof *rows->scores);
+        refusal = noterank_run(file.bytes, file.length, lists, list_count,
+                               SKIPPING, UNION, STEPPED,
+                               BEST_K, 0.0f, BEST, NULL, 0,
+                               rows->documents, length, rows->scores, length, &rows->count);
         length *= 2;
     } while (refusal == ROWS_FULL);
-    free(documents);
-    free(scores);
     return refusal;
 }
 
-static void print_notes(const struct notes *notes)
+/* The better score first; of equal scores the lower document. */
+static int by_rank(const void *left, const void *right)
 {
+    const struct hit *a = left, *b = right;
+    if (a->score != b->score)
+        return a->score > b->score ? -1 : 1;
+    return a->document < b->document ? -1 : a->document > b->document;
+}
+
+/* The rows are every report, in document order: the best are among them. */
+static void print_best(const struct rows *rows)
+{
+    struct hit *hits = grown(NULL, (rows->count + 1) * sizeof *hits);
+    for (uint32_t i = 0; i < rows->count; i++) {
+        hits[i].document = rows->documents[i];
+        hits[i].score = rows->scores[i];
+    }
+    qsort(hits, rows->count, sizeof *hits, by_rank);
     printf("rank  document            score\n");
-    for (uint32_t i = 0; i < notes->count; i++)
-        printf("%4lu  %8lu  %15.10f\n", i + 1ul, (unsigned long)notes->documents[i], notes->scores[i]);
+    for (uint32_t i = 0; i < rows->count && i < BEST; i++)
+        printf("%4lu  %8lu  %15.10f\n", i + 1ul, (unsigned long)hits[i].document, hits[i].score);
+    free(hits);
 }
 
 int main(int argc, char **argv)
 {
-    struct notes notes;
+    struct rows rows = {NULL, NULL, 0};
     if (argc < 2)
         fail("usage", "search FILE LIST..");
     struct file file = read_file(argv[1]);
@@ -99,15 +118,17 @@ int main(int argc, char **argv)
     uint32_t *lists = grown(NULL, (list_count + 1) * sizeof *lists);
     for (size_t i = 0; i < list_count; i++)
         lists[i] = list_number(argv[i + 2]);
-    /* A search checks the file too; asking first parts a bad file from a bad query. */
+    /* A run checks the file too; asking first parts a bad file from a bad query. */
     uint32_t refusal = noterank_check(file.bytes, file.length);
     const char *what = refusal == 0 ? "query" : "file";
     if (refusal == 0)
-        refusal = find(file, lists, list_count, &notes);
+        refusal = run(file, lists, list_count, &rows);
     if (refusal == 0)
-        print_notes(&notes);
+        print_best(&rows);
     else
         fprintf(stderr, "search: %s refused with %lu\n", what, (unsigned long)refusal);
+    free(rows.documents);
+    free(rows.scores);
     free(lists);
     free(file.bytes);
     return refusal == 0 ? 0 : 1;

@@ -1,28 +1,27 @@
-//! Finds the archive: in the folder that NOTERANK_ARCHIVE names, else in `dist/`, else where the
-//! toolchain leaves it.
+//! Finds the archive: in the folder that NOTERANK_ARCHIVE names, else in `dist/`, where `./build`
+//! puts it.
 
 use std::env;
 use std::path::{Path, PathBuf};
 
 const ARCHIVE: &str = "libnoterank.a";
 
-fn folders(root: &Path) -> Vec<PathBuf> {
+fn folder(root: &Path) -> PathBuf {
     match env::var_os("NOTERANK_ARCHIVE") {
-        Some(folder) => vec![PathBuf::from(folder)],
-        None => vec![root.join("dist"), root.join("target/staticlib")],
+        Some(folder) => PathBuf::from(folder),
+        None => root.join("dist"),
     }
 }
 
 fn main() {
     println!("cargo:rerun-if-env-changed=NOTERANK_ARCHIVE");
     let package = PathBuf::from(env::var_os("CARGO_MANIFEST_DIR").expect("cargo names the folder"));
-    let folders = folders(&package.join("../.."));
-    for folder in &folders {
-        println!("cargo:rerun-if-changed={}", folder.join(ARCHIVE).display());
+    let folder = folder(&package.join("../.."));
+    let archive = folder.join(ARCHIVE);
+    println!("cargo:rerun-if-changed={}", archive.display());
+    if !archive.is_file() {
+        panic!("no {}: run ./build, or set NOTERANK_ARCHIVE", archive.display());
     }
-    match folders.iter().find(|folder| folder.join(ARCHIVE).is_file()) {
-        Some(folder) => println!("cargo:rustc-link-search=native={}", folder.display()),
-        None => panic!("no {ARCHIVE} in {folders:?}: run ./build, or set NOTERANK_ARCHIVE"),
-    }
+    println!("cargo:rustc-link-search=native={}", folder.display());
     println!("cargo:rustc-link-lib=static=noterank");
 }

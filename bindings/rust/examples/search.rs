@@ -1,8 +1,8 @@
-//! `search FILE LIST..`: the ten best notes in any of the lists, the best first.
+//! `search FILE LIST..`: the ten best documents in any of the lists, the best first.
 
 use std::error::Error;
 
-use noterank::{Mode, NoteFile, Search};
+use noterank::{best, Mode, NoteFile, Query, Rule};
 
 const BEST: u32 = 10;
 
@@ -12,8 +12,10 @@ fn main() -> Result<(), Box<dyn Error>> {
     let lists = words.map(|word| word.parse()).collect::<Result<Vec<u32>, _>>()?;
 
     let file = NoteFile::check(&bytes)?;
-    for note in file.find(&Search::new(Mode::Union, &lists, BEST))? {
-        println!("document {}, score {}", note.document, note.score);
+    let rule = Rule::Best { start: 0.0, k: BEST };
+    let query = Query { rule, ..Query::new(Mode::Union, &lists) };
+    for hit in best(file.run(&query)?, BEST as usize) {
+        println!("document {}, score {}", hit.document, hit.score);
     }
     Ok(())
 }

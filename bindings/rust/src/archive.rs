@@ -1,7 +1,7 @@
 //! The archive's functions, called safely. All unsafe code of this package is here.
 
 use crate::contents::{norm_numbers, Rows};
-use crate::{Contents, Query, Search};
+use crate::{Contents, Query};
 
 #[path = "../../../include/noterank.rs"]
 mod c;
@@ -36,43 +36,6 @@ pub fn run(file: &[u8], query: &Query, documents: &mut [u32], scores: &mut [f32]
             k,
             script.as_ptr(),
             script.len(),
-            documents.as_mut_ptr(),
-            documents.len(),
-            scores.as_mut_ptr(),
-            scores.len(),
-            &mut count,
-        )
-    };
-    (number, count)
-}
-
-/// The number that a search returns, and its count of notes.
-pub fn find(
-    file: &[u8],
-    search: &Search,
-    report_documents: &mut [u32],
-    report_scores: &mut [f32],
-    documents: &mut [u32],
-    scores: &mut [f32],
-) -> (u32, u32) {
-    let mut count = 0;
-    // Sound, as above: file and lists are borrowed until the call returns and are only read; the
-    // four rows are borrowed exclusively, so none overlaps with another or with what is read; each
-    // pointer comes with its own slice's length; count is a variable of this function.
-    let number = unsafe {
-        c::noterank_find(
-            file.as_ptr(),
-            file.len(),
-            search.lists.as_ptr(),
-            search.lists.len(),
-            search.mode as u32,
-            search.scoring as u32,
-            search.start,
-            search.k,
-            report_documents.as_mut_ptr(),
-            report_documents.len(),
-            report_scores.as_mut_ptr(),
-            report_scores.len(),
             documents.as_mut_ptr(),
             documents.len(),
             scores.as_mut_ptr(),

@@ -1,22 +1,24 @@
 //! A safe wrapper over the proved ranking of a note file, and over its proved writer.
 //!
-//! The archive `libnoterank.a` checks the file, runs the query, finds the best notes and writes
-//! files; what it promises is written in the repository's technical file. This package passes
-//! arguments and gathers rows: it is tested, not proved.
+//! The archive `libnoterank.a` checks the file, runs the query and writes files; what it promises
+//! is written in the repository's technical file. This package passes arguments and gathers rows:
+//! it is tested, not proved.
 //!
 //! ```
-//! use noterank::{Mode, NoteFile, Refusal, Search};
+//! use noterank::{best, Mode, NoteFile, Query, Refusal, Rule};
 //!
 //! let bytes = std::fs::read("../../crates/print/stdin").unwrap();
 //! let file = NoteFile::check(&bytes)?;
+//! let rule = Rule::Best { start: 0.0, k: 2 };
+//! let query = Query { rule, ..Query::new(Mode::Union, &[0, 1]) };
 //!
-//! // The two best notes, the best first.
-//! let notes = file.find(&Search::new(Mode::Union, &[0, 1], 2))?;
-//! assert_eq!(notes.iter().map(|note| note.document).collect::<Vec<_>>(), [3, 1]);
-//! assert_eq!(notes[0].score * 1024.0, 1_262_696.0);
+//! // Reports come in document order; the two best of them are the answer.
+//! let hits = best(file.run(&query)?, 2);
+//! assert_eq!(hits[0].document, 3);
+//! assert_eq!(hits[0].score * 1024.0, 1_262_696.0);
 //!
 //! // What is wrong is refused, and says why.
-//! let refusal = file.find(&Search::new(Mode::Union, &[7], 2)).unwrap_err();
+//! let refusal = file.run(&Query::new(Mode::Union, &[7])).unwrap_err();
 //! assert_eq!(refusal, Refusal::Query);
 //! assert!(refusal.to_string().starts_with("The query does not fit"));
 //! # Ok::<(), Refusal>(())
@@ -35,12 +37,10 @@ pub mod sample;
 pub mod text;
 
 pub use contents::{write, write_into, Contents, List, Norms, Posting};
-pub use query::{Mode, Query, Rule, Scoring, Search, Walk};
+pub use query::{Mode, Query, Rule, Scoring, Walk};
 pub use refusal::Refusal;
 
-use query::MOST_NOTES;
-
-/// A reported document, or a note that a search found.
+/// A reported document.
 #[derive(Clone, Copy, Debug, PartialEq)]
 pub struct Hit {
     /// Its number, from 0.
@@ -49,12 +49,12 @@ pub struct Hit {
     pub score: f32,
 }
 
-/// What a run or a search left in the caller's rows.
+/// What a run left in the caller's rows.
 #[derive(Clone, Copy, Debug, PartialEq, Eq)]
 pub struct Outcome {
-    /// How many rows were written, from the first on; of a search the note rows.
+    /// How many rows were written, from the first on.
     pub count: usize,
-    /// None if the rows are the whole answer.
+    /// None if the rows are the whole list.
     pub refusal: Option<Refusal>,
 }
 
@@ -68,16 +68,7 @@ pub struct NoteFile<'a> {
 fn refusal(number: u32) -> Option<Refusal> {
     match number {
         0 => None,
-        _ => Some(Refusal::from_number(number).expect("the archive returns 0 to 14")),
-    }
-}
-
-/// The rows below the count.
-fn hits(documents: Vec<u32>, scores: Vec<f32>, outcome: Outcome) -> Result<Vec<Hit>, Refusal> {
-    let rows = documents.into_iter().zip(scores).take(outcome.count);
-    match outcome.refusal {
-        None => Ok(rows.map(|(document, score)| Hit { document, score }).collect()),
-        Some(refusal) => Err(refusal),
+        _ => Some(Refusal::from_number(number).expect("the archive returns 0 to 13")),
     }
 }
 
@@ -110,7 +101,11 @@ impl<'a> NoteFile<'a> {
         let rows = self.documents() as usize;
         let (mut documents, mut scores) = (vec![0; rows], vec![0.0; rows]);
         let outcome = self.run_into(query, &mut documents, &mut scores);
-        hits(documents, scores, outcome)
+        let rows = documents.into_iter().zip(scores).take(outcome.count);
+        match outcome.refusal {
+            None => Ok(rows.map(|(document, score)| Hit { document, score }).collect()),
+            Some(refusal) => Err(refusal),
+        }
     }
 
     /// A run into the caller's rows, as many as the shorter buffer has. If they do not suffice,
@@ -119,39 +114,11 @@ impl<'a> NoteFile<'a> {
         let (number, count) = archive::run(self.bytes, query, documents, scores);
         Outcome { count: count as usize, refusal: refusal(number) }
     }
+}
 
-    /// The k best notes, by falling score, then rising document. There is a report row for each
-    /// document and a row for each note, so that a search is refused with 10 or 11 or not at all.
-    pub fn find(&self, search: &Search) -> Result<Vec<Hit>, Refusal> {
-        let reports = self.documents() as usize;
-        let (mut report_documents, mut report_scores) = (vec![0; reports], vec![0.0; reports]);
-        // A larger k is refused with 11 before its rows are counted.
-        let notes = search.k.min(MOST_NOTES) as usize;
-        let (mut documents, mut scores) = (vec![0; notes], vec![0.0; notes]);
-        let outcome = self.find_into(
-            search,
-            &mut report_documents,
-            &mut report_scores,
-            &mut documents,
-            &mut scores,
-        );
-        hits(documents, scores, outcome)
-    }
-
-    /// A search into the caller's rows: its reports into the first two, its notes into the last
-    /// two; of each pair the shorter counts. With fewer than k note rows it is refused with 14, and
-    /// no row is written. If the report rows do not suffice it is refused with 12: they hold the
-    /// first reports, and no note row is written.
-    pub fn find_into(
-        &self,
-        search: &Search,
-        report_documents: &mut [u32],
-        report_scores: &mut [f32],
-        documents: &mut [u32],
-        scores: &mut [f32],
-    ) -> Outcome {
-        let (number, count) =
-            archive::find(self.bytes, search, report_documents, report_scores, documents, scores);
-        Outcome { count: count as usize, refusal: refusal(number) }
-    }
+/// The k best of the hits, the best first; of equal scores the lower document first.
+pub fn best(mut hits: Vec<Hit>, k: usize) -> Vec<Hit> {
+    hits.sort_by(|a, b| b.score.total_cmp(&a.score).then(a.document.cmp(&b.document)));
+    hits.truncate(k);
+    hits
 }

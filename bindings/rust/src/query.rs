@@ -1,4 +1,4 @@
-//! What a run or a search is asked for. The enums' numbers are those of the C interface.
+//! What a run is asked for. The enums' numbers are those of the C interface.
 
 /// Which documents match.
 #[derive(Clone, Copy, Debug, PartialEq, Eq)]
@@ -78,30 +78,5 @@ impl<'a> Query<'a> {
     pub fn new(mode: Mode, lists: &'a [u32]) -> Query<'a> {
         let rule = Rule::Script { start: 0.0, entries: &[] };
         Query { lists, mode, walk: Walk::Skipping, scoring: Scoring::Stepped, rule }
-    }
-}
-
-/// The most notes that a search gives.
-pub(crate) const MOST_NOTES: u32 = 64;
-
-/// A search for the best notes. Anything may stand in it: what is wrong is refused.
-#[derive(Clone, Copy, Debug, PartialEq)]
-pub struct Search<'a> {
-    /// List numbers from 0, at most 16; a list named twice counts twice.
-    pub lists: &'a [u32],
-    /// Which documents match.
-    pub mode: Mode,
-    /// What a score is.
-    pub scoring: Scoring,
-    /// Only scores above this count.
-    pub start: f32,
-    /// How many notes, from 1 to 64.
-    pub k: u32,
-}
-
-impl<'a> Search<'a> {
-    /// A stepped search for the k best of all matching documents that score above 0.
-    pub fn new(mode: Mode, lists: &'a [u32], k: u32) -> Search<'a> {
-        Search { lists, mode, scoring: Scoring::Stepped, start: 0.0, k }
     }
 }

@@ -3,9 +3,8 @@
 use std::error::Error;
 use std::fmt;
 
-/// Why a file (1 to 9), a query (10), a rule (11), a run without rows left (12), contents (1 to
-/// 9), an output that is too short for their file (13) or a search whose note rows are too few
-/// (14) is refused.
+/// Why a file (1 to 9), a query (10), a rule (11), a run without rows left (12), contents (1 to 9)
+/// or an output that is too short for their file (13) is refused.
 #[derive(Clone, Copy, Debug, PartialEq, Eq)]
 pub enum Refusal {
     /// The header.
@@ -34,12 +33,10 @@ pub enum Refusal {
     Rows = 12,
     /// The output.
     Output = 13,
-    /// The note rows.
-    NoteRows = 14,
 }
 
 /// Each refusal with its condition in words, in number order.
-const TABLE: [(Refusal, &str); 14] = [
+const TABLE: [(Refusal, &str); 13] = [
     (
         Refusal::Header,
         "The header is wrong: under 9 bytes, a version other than 1, the spare bit set, over 16 \
@@ -90,7 +87,6 @@ const TABLE: [(Refusal, &str); 14] = [
     ),
     (Refusal::Rows, "A report is due and every row is full."),
     (Refusal::Output, "The output is too short for the file."),
-    (Refusal::NoteRows, "Fewer than k note rows are lent."),
 ];
 
 /// Those that contents meet in other words than a file does.
@@ -115,7 +111,7 @@ const OF_CONTENTS: [(Refusal, &str); 5] = [
 ];
 
 impl Refusal {
-    /// The refusal of a number; None for 0 and for numbers past 14.
+    /// The refusal of a number; None for 0 and for numbers past 13.
     pub fn from_number(number: u32) -> Option<Refusal> {
         TABLE.iter().map(|row| row.0).find(|refusal| refusal.number() == number)
     }
@@ -151,11 +147,11 @@ mod tests {
 
     #[test]
     fn numbers_go_both_ways() {
-        for number in 1..=14 {
+        for number in 1..=13 {
             assert_eq!(Refusal::from_number(number).map(Refusal::number), Some(number));
         }
         assert_eq!(Refusal::from_number(0), None);
-        assert_eq!(Refusal::from_number(15), None);
+        assert_eq!(Refusal::from_number(14), None);
     }
 
     #[test]

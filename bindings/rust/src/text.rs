@@ -18,7 +18,7 @@
 
 use std::fmt::Write;
 
-use crate::{write_into, Contents, List, Norms, Posting, Refusal};
+use crate::{write, write_into, Contents, List, Norms, NoteFile, Posting, Refusal};
 
 /// Norm codes on a line of shown text.
 const CODES: usize = 20;
@@ -277,10 +277,20 @@ pub fn shown(contents: &Contents) -> String {
     text
 }
 
+/// The text of a file's contents. Its first line tells whether the file is the one that is written
+/// from it.
+pub fn of_file(file: &NoteFile) -> String {
+    let contents = Contents::read(file);
+    let first = match write(&contents).as_deref() == Ok(file.bytes()) {
+        true => "# house form: written from this text, the file is the same byte for byte",
+        false => "# not house form: written from this text, the file has other bytes",
+    };
+    format!("{first}\n{}", shown(&contents))
+}
+
 #[cfg(test)]
 mod tests {
     use super::*;
-    use crate::write;
 
     const SMALL: &str = "documents 4\naverage 8\nnorm 1\nlist 1000\n1 1\n3 3\nlist 500\n0 1\n3 1\n";
 

@@ -1,6 +1,6 @@
 //! Runs over the small file and the larger sample, through the safe wrapper.
 
-use noterank::{sample, Mode, NoteFile, Outcome, Query, Refusal, Rule, Scoring, Walk};
+use noterank::{best, sample, Hit, Mode, NoteFile, Outcome, Query, Refusal, Rule, Scoring, Walk};
 
 fn bytes(name: &str) -> Vec<u8> {
     let mut samples = sample::all().into_iter();
@@ -117,6 +117,37 @@ fn the_smallest_file_has_no_lists_and_no_documents() {
     assert_eq!((file.documents(), file.lists()), (0, 0));
     assert_eq!(file.run(&Query::new(Mode::Union, &[])), Ok(vec![]));
     assert_eq!(file.run(&Query::new(Mode::Union, &[0])), Err(Refusal::Query));
+}
+
+/// Best k, ranked, is the front of all reports, ranked.
+#[test]
+fn the_best_are_those_of_the_whole_list() {
+    let dryer = sample::dryer();
+    let file = NoteFile::check(&dryer).unwrap();
+    for (mode, lists) in [
+        (Mode::Union, &[0, 1, 2, 3, 4][..]),
+        (Mode::Union, &[3, 3, 1]),
+        (Mode::Intersection, &[0, 2]),
+        (Mode::Single, &[0]),
+    ] {
+        let query = Query::new(mode, lists);
+        let all = file.run(&query).unwrap();
+        for k in [1, 2, 10, 64] {
+            let rule = Rule::Best { start: 0.0, k };
+            for walk in [Walk::Skipping, Walk::Plain] {
+                let reports = file.run(&Query { rule, walk, ..query }).unwrap();
+                assert_eq!(best(reports, k as usize), best(all.clone(), k as usize));
+            }
+        }
+    }
+}
+
+#[test]
+fn equal_scores_are_ranked_by_document() {
+    let hit = |document, score| Hit { document, score };
+    let hits = vec![hit(1, 2.0), hit(4, 3.0), hit(5, 2.0), hit(9, 3.0)];
+    assert_eq!(best(hits.clone(), 3), [hit(4, 3.0), hit(9, 3.0), hit(1, 2.0)]);
+    assert_eq!(best(hits, 0), []);
 }
 
 #[test]

@@ -1,7 +1,7 @@
 //! Files written through the safe wrapper, and contents that are refused.
 
 use noterank::{
-    sample, write, write_into, Contents, List, Mode, Norms, NoteFile, Posting, Query, Refusal,
+    best, sample, write, write_into, Contents, List, Mode, Norms, NoteFile, Posting, Query, Refusal,
 };
 
 const MOST_DOCUMENTS: u32 = 1_048_576;
@@ -106,8 +106,8 @@ fn a_file_of_another_form_keeps_its_contents() {
     assert_eq!(read(&file), contents);
     assert_eq!(write(&read(&file)), Ok(file.clone()));
     let query = Query::new(Mode::Union, &[0, 1, 2, 3, 4]);
-    let reports = |file: &[u8]| NoteFile::check(file).unwrap().run(&query).unwrap();
-    assert_eq!(reports(&file), reports(&other));
+    let hits = |file: &[u8]| best(NoteFile::check(file).unwrap().run(&query).unwrap(), 1000);
+    assert_eq!(hits(&file), hits(&other));
 }
 
 #[test]

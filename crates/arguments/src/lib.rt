@@ -1,4 +1,6 @@
 // What the numbers of a call of the C interface stand for.
+#![tactic(auto)]
+
 ghost use Rattle.std.specs.Prelude.{◌≡◌, ◌<◌};
 ghost use Rattle.arguments.specs.Numbers.{mode_at, rule_at, scoring_at};
 

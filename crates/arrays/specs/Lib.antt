@@ -1,4 +1,3 @@
 -- What contracts over lent arrays cite.
-pub mod Lent
 pub mod Every
 pub mod Inner

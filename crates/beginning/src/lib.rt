@@ -1,6 +1,7 @@
 // A run as it begins: its lists opened in slots of their own, and its machine at the route's first place.
+#![tactic(auto)]
+
 ghost use Rattle.std.specs.Prelude.{◌≡◌, ◌≤◌};
-ghost use Rattle.arrays.specs.Lent.{before, after};
 ghost use Rattle.notefile.specs.Header.{norm_reader};
 ghost use Rattle.term_scorer.specs.Inner.Slots.{Sixteen};
 ghost use Rattle.query.specs.Inner.Openings as opening;
@@ -22,14 +23,14 @@ use term_scorer::TermScorer;
 use term_scorer::score::Similarity;
 
 // The skipping run of its mode, or the plain scan.
-#[derive(Drop)]
+#[derive(Clone, Copy)]
 pub enum Way {
     Skipping,
     Plain,
 }
 
 // How a query is run.
-#[derive(Drop)]
+#[derive(Clone, Copy)]
 pub struct Settings {
     pub mode: Mode,
     pub scoring: Scoring,
@@ -69,7 +70,7 @@ fn begin_single(only: TermScorer) -> Machine
 // The union: empty lists drop out; of one that is left the single scan runs.
 fn begin_union(scorers: [TermScorer; 16], n: usize, order: &mut [usize; 16]) -> Machine
     requires { (n ≤ 16) × Sixteen order.old }
-    ensures { UnionBegun scorers n result (before order) (after order) }
+    ensures { UnionBegun scorers n result order.old order.new }
 {
     let live = retain(scorers, n);
     if live.len == 1 {
@@ -97,8 +98,8 @@ fn begin_machine(
     requires { let opened = opening.tables lists.now norms.now places.now blocks.now in
         (similarity.norms ≡ norm_reader file.now) × Right file.now query.now settings.mode × Sixteen order.old
         × Opens similarity file.now query.now opened scorers }
-    ensures { let opened = opening.tables (before lists) (before norms) (before places) (before blocks) in
-        Began settings.way similarity (before file) (before query) settings.mode opened (after order) result }
+    ensures { let opened = opening.tables lists.now norms.now places.now blocks.now in
+        Began settings.way similarity file.now query.now settings.mode opened order.new result }
 {
     let n = query.len();
     let mode = settings.mode;
@@ -132,8 +133,8 @@ pub fn begin(
 ) -> Task
     requires { let room = opening.tables lists.old norms.old places.old blocks.old in
         Right file.now query.now settings.mode × Sixteen order.old × Room room }
-    ensures { let opened = opening.tables (after lists) (after norms) (after places) (after blocks) in
-        TaskBegun settings (before file) (before query) opened (after order) result }
+    ensures { let opened = opening.tables lists.new norms.new places.new blocks.new in
+        TaskBegun settings file.now query.now opened order.new result }
 {
     let h = read_header(file);
     let reader = norm_reader(file, h);

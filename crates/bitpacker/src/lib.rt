@@ -1,8 +1,9 @@
 // Rows of a packed block: four values, one of each lane. The lane is a value's place in its row, the bit place is carried from row to row,
 // and no index is divided.
+#![tactic(auto)]
+
 ghost use Rattle.std.specs.Prelude.{◌≡◌, ◌⊎◌, ℕ, ◌+◌, ◌*◌, ◌/◌, ◌%◌, ◌^◌, ◌≤◌, ◌<◌, length};
 ghost use Rattle.std.specs.Int.Bits.{bit_and};
-ghost use Rattle.arrays.specs.Lent.{before, after};
 ghost use Rattle.codec.specs.Bits.{word_at};
 ghost use Rattle.bitpacker.specs.Packed.{bit_place};
 ghost use Rattle.bitpacker.specs.Inner.Rows.{Across, EachLane, First, InBytes, InNext, in_lane, set_four, Unpacked, Whole};
@@ -10,7 +11,7 @@ ghost use Rattle.bitpacker.specs.Inner.Rows.{Across, EachLane, First, InBytes, I
 use codec::bits::read_u32;
 
 // One number of each lane.
-#[derive(Drop)]
+#[derive(Clone, Copy)]
 pub struct Four {
     pub a: u32,
     pub b: u32,
@@ -19,7 +20,7 @@ pub struct Four {
 }
 
 // The bit place that is carried from row to row: of the words before `next`, the bits that are still to come in each lane, and how many.
-#[derive(Drop)]
+#[derive(Clone, Copy)]
 pub struct BitPlace {
     pub rest: Four,
     pub left: u32,
@@ -29,7 +30,7 @@ pub struct BitPlace {
 // The lanes' words at p.
 fn words_at(s: &[u8], p: usize) -> Four
     requires { p + 16 ≤ length s.now }
-    ensures { EachLane (λ n. word_at (before s) (p + 4 * n)) result }
+    ensures { EachLane (λ n. word_at s.now (p + 4 * n)) result }
 {
     Four {
         a: read_u32(s, p),
@@ -68,7 +69,7 @@ fn shifted(x: Four, by: u32) -> Four
 // Each lane's lowest bits, as the values from i on.
 fn put(x: Four, mask: u32, i: usize, out: &mut [u32; 128])
     requires { (i + 4 ≤ 128) × (length out.old ≡ 128) }
-    ensures { after out ≡ set_four (before out) i (λ n. bit_and (in_lane x n) mask) }
+    ensures { out.new ≡ set_four out.old i (λ n. bit_and (in_lane x n) mask) }
 {
     out[i] = x.a & mask;
     out[i + 1] = x.b & mask;
@@ -79,7 +80,7 @@ fn put(x: Four, mask: u32, i: usize, out: &mut [u32; 128])
 // A row whose values end in the words before `next`.
 fn whole(place: BitPlace, width: u32, mask: u32, i: usize, out: &mut [u32; 128]) -> BitPlace
     requires { (width < 32) × (width ≤ place.left) × (i + 4 ≤ 128) × (length out.old ≡ 128) }
-    ensures { Whole place width mask i (before out) (after out) result }
+    ensures { Whole place width mask i out.old out.new result }
 {
     put(place.rest, mask, i, out);
     BitPlace {
@@ -99,7 +100,7 @@ fn across(
     out: &mut [u32; 128],
 ) -> BitPlace
     requires { (width < 32) × (place.left < width) × InNext (length s.now) place × (i + 4 ≤ 128) × (length out.old ≡ 128) }
-    ensures { Across (before s) place width mask i (before out) (after out) result }
+    ensures { Across s.now place width mask i out.old out.new result }
 {
     let words = words_at(s, place.next);
     put(joined(place.rest, words, place.left), mask, i, out);
@@ -114,8 +115,8 @@ fn across(
 // The next row, in whichever words it ends.
 fn row(s: &[u8], place: BitPlace, width: u32, mask: u32, i: usize, out: &mut [u32; 128]) -> BitPlace
     requires { (width < 32) × (place.left < width → InNext (length s.now) place) × (i + 4 ≤ 128) × (length out.old ≡ 128) }
-    ensures { ((width ≤ place.left) × Whole place width mask i (before out) (after out) result)
-        ⊎ ((place.left < width) × Across (before s) place width mask i (before out) (after out) result) }
+    ensures { ((width ≤ place.left) × Whole place width mask i out.old out.new result)
+        ⊎ ((place.left < width) × Across s.now place width mask i out.old out.new result) }
 {
     if width <= place.left {
         return whole(place, width, mask, i, out);
@@ -136,7 +137,7 @@ pub fn eight(
 )
     requires { InBytes (length s.now) at width × (start < 32) × (i + 32 ≤ 128) × (i % 4 ≡ 0)
         × (32 * word + start ≡ bit_place width i) × First s.now at width i out.old }
-    ensures { First (before s) at width (i + 32) (after out) }
+    ensures { First s.now at width (i + 32) out.new }
 {
     let unit: u32 = 1 << width;
     let mask = unit - 1;
@@ -157,7 +158,7 @@ pub fn eight(
 // The values of a block of width 32 are its words.
 pub fn copy(s: &[u8], at: usize, out: &mut [u32; 128])
     requires { (at + 512 ≤ length s.now) × (length out.old ≡ 128) }
-    ensures { Unpacked (before s) at 32 (after out) }
+    ensures { Unpacked s.now at 32 out.new }
 {
     let mut p = at;
     let mut i: usize = 0;

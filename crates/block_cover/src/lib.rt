@@ -1,6 +1,7 @@
 // Whether a bound lies below no score of a block: scores are compared in the loop that makes them, and no array of them is written.
+#![tactic(auto)]
+
 ghost use Rattle.std.specs.Prelude.{◌≡◌, true, ◌≤◌};
-ghost use Rattle.arrays.specs.Lent.{before};
 ghost use Rattle.bm25.specs.Bound.{all_covered};
 ghost use Rattle.block_norms.specs.Inner.Codes.{Below};
 ghost use Rattle.bm25_block.specs.Inner.Block.{ExactWhere, all_exact, posting_score, weighed_at};
@@ -14,7 +15,7 @@ use fieldnorm::FieldNormReader;
 // Whether the bound lies below none of the first n scores, where f32 holds each frequency.
 fn exact_covered(weight: f32, norms: &[f32; 128], freqs: &[u32; 128], n: usize, bound: f32) -> bool
     requires { (n ≤ 128) × (all_exact freqs.now ≡ true) }
-    ensures { result ≡ all_covered bound n (weighed_at weight (before freqs) (before norms)) }
+    ensures { result ≡ all_covered bound n (weighed_at weight freqs.now norms.now) }
 {
     let mut right = true;
     let mut i = 0usize;
@@ -37,7 +38,7 @@ fn rounded_covered(
     bound: f32,
 ) -> bool
     requires { n ≤ 128 }
-    ensures { result ≡ all_covered bound n (weighed_at weight (before freqs) (before norms)) }
+    ensures { result ≡ all_covered bound n (weighed_at weight freqs.now norms.now) }
 {
     let mut right = true;
     let mut i = 0usize;
@@ -61,7 +62,7 @@ fn norms_covered(
     bound: f32,
 ) -> bool
     requires { (n ≤ 128) × ExactWhere small freqs.now }
-    ensures { result ≡ all_covered bound n (weighed_at weight (before freqs) (before norms)) }
+    ensures { result ≡ all_covered bound n (weighed_at weight freqs.now norms.now) }
 {
     if all_exact(small, freqs) {
         return exact_covered(weight, norms, freqs, n, bound);
@@ -80,7 +81,7 @@ pub fn covered(
     bound: f32,
 ) -> bool
     requires { n ≤ 128 }
-    ensures { result ≡ all_covered bound n (posting_score reader (before file) w (before docs) (before freqs)) }
+    ensures { result ≡ all_covered bound n (posting_score reader file.now w docs.now freqs.now) }
 {
     let mut norms = [0.0f32; 128];
     read_norms(file, reader, &w.cache, docs, &mut norms);
@@ -103,7 +104,7 @@ pub fn block_covered(
     max_score: f32,
 ) -> bool
     requires { Below limit docs.now × ExactWhere small freqs.now }
-    ensures { result ≡ block_covered reader (before file) w (before docs) (before freqs) norm_code freq_code max_score }
+    ensures { result ≡ block_covered reader file.now w docs.now freqs.now norm_code freq_code max_score }
 {
     let code = norm_code as usize;
     let own = bm25::bound_at(Scoring::Unstepped, w.weight, w.cache[code], freq_code);

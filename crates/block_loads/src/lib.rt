@@ -1,6 +1,7 @@
 // The blocks of an accepted list, loaded without tests.
+#![tactic(auto)]
+
 ghost use Rattle.std.specs.Prelude.{◌≡◌, true};
-ghost use Rattle.arrays.specs.Lent.{before, after};
 ghost use Rattle.notefile.specs.Lists.{full_blocks, tail_at};
 ghost use Rattle.notefile.specs.Conditions.{postings_right};
 ghost use Rattle.notefile.specs.Inner.Structs.{skip_entry_of};
@@ -16,7 +17,7 @@ use unpacking::unpack;
 
 // TERMINATED in the places from n on.
 pub fn pad(values: &mut [u32; 128], n: usize)
-    ensures { Padded (before values) n (after values) }
+    ensures { Padded values.old n values.new }
 {
     let end = (&values[..]).len();
     let mut i = n;
@@ -37,7 +38,7 @@ pub fn load_packed(
     block: &mut Block,
 )
     requires { PackedIn file.now x b at × (e ≡ skip_entry_of file.now x b) × BlockRight file.now x b previous }
-    ensures { Loaded (before file) x b (docs_of (after block)) (freqs_of (after block)) }
+    ensures { Loaded file.now x b (docs_of block.new) (freqs_of block.new) }
 {
     sized(block);
     unpack(file, at, e.doc_bits, &mut block[DOCS]);
@@ -49,7 +50,7 @@ pub fn load_packed(
 pub fn load_tail(file: &[u8], x: Part, at: usize, previous: u32, block: &mut Block)
     requires { Skipped file.now x × (at ≡ tail_at file.now x) × (postings_right file.now x ≡ true)
         × BlockRight file.now x (full_blocks x) previous }
-    ensures { Loaded (before file) x (full_blocks x) (docs_of (after block)) (freqs_of (after block)) }
+    ensures { Loaded file.now x (full_blocks x) (docs_of block.new) (freqs_of block.new) }
 {
     sized(block);
     let n = x.count % 128;

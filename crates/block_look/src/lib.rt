@@ -1,9 +1,10 @@
 // A full block of contents judged and measured in two loops: rows 7 and 8 of the table, and the two least widths.
+#![tactic(auto)]
+
 pub mod found;
 
 ghost use Rattle.std.specs.Prelude.{◌≡◌, ◌+◌, ◌-◌, ◌≤◌, true, length, slice_index};
 ghost use Rattle.std.specs.Int.Count.{count_leading_zeros};
-ghost use Rattle.arrays.specs.Lent.{before};
 ghost use Rattle.compression.specs.Documents.{start_of, rising_below};
 ghost use Rattle.frequencies.specs.Frequencies.{freqs_right};
 ghost use Rattle.block_look.specs.Inner.Joint.{steps, less_one, Joint};
@@ -24,7 +25,7 @@ fn base_of(first: bool, previous: u32) -> u32
 // All bits of the documents' differences less 1, the first counted from `base`, each modulo 2^32.
 fn doc_or(docs: &[u32], at: usize, base: u32) -> u32
     requires { (at + 128 ≤ length docs.now) × (base ≤ 1048577) }
-    ensures { Joint (steps (λ i. slice_index (before docs) (at + i)) base) result }
+    ensures { Joint (steps (λ i. slice_index docs.now (at + i)) base) result }
 {
     let mut all = wrapping_sub_u32(docs[at], base);
     let mut i: usize = 1;
@@ -38,7 +39,7 @@ fn doc_or(docs: &[u32], at: usize, base: u32) -> u32
 // All bits of the frequencies less 1, each modulo 2^32.
 fn freq_or(freqs: &[u32], at: usize) -> u32
     requires { at + 128 ≤ length freqs.now }
-    ensures { Joint (less_one (λ i. slice_index (before freqs) (at + i))) result }
+    ensures { Joint (less_one (λ i. slice_index freqs.now (at + i))) result }
 {
     let mut all: u32 = 0;
     let mut i: usize = 0;
@@ -53,7 +54,7 @@ fn freq_or(freqs: &[u32], at: usize) -> u32
 fn docs_fine(docs: &[u32], at: usize, first: bool, previous: u32, limit: u32, all: u32) -> bool
     requires { (at + 128 ≤ length docs.now) × (previous ≤ 1048576) × (limit ≤ 1048576)
         × Joint (steps (λ i. slice_index docs.now (at + i)) (start_of true previous first)) all }
-    ensures { result ≡ rising_below (λ i. slice_index (before docs) (at + i)) first previous 128 limit }
+    ensures { result ≡ rising_below (λ i. slice_index docs.now (at + i)) first previous 128 limit }
 {
     if 1048576 <= all {
         return false;
@@ -64,7 +65,7 @@ fn docs_fine(docs: &[u32], at: usize, first: bool, previous: u32, limit: u32, al
 // Whether row 8 lets the frequencies through. Each is looked at only if one of them is above 2^30, or 0.
 fn freqs_fine(freqs: &[u32], at: usize, all: u32) -> bool
     requires { (at + 128 ≤ length freqs.now) × Joint (less_one (λ i. slice_index freqs.now (at + i))) all }
-    ensures { result ≡ freqs_right (λ i. slice_index (before freqs) (at + i)) 128 }
+    ensures { result ≡ freqs_right (λ i. slice_index freqs.now (at + i)) 128 }
 {
     if all < 1073741824 {
         return true;
@@ -82,7 +83,7 @@ fn bits(x: u32) -> u32
 // A full block's refusal, and its two widths if there is none.
 pub fn look(docs: &[u32], freqs: &[u32], at: usize, first: bool, previous: u32, limit: u32) -> Look
     requires { (at + 128 ≤ length docs.now) × (at + 128 ≤ length freqs.now) × (limit ≤ 1048576) × (previous ≤ 1048576) }
-    ensures { Looked (before docs) (before freqs) at first previous limit result }
+    ensures { Looked docs.now freqs.now at first previous limit result }
 {
     let all_docs = doc_or(docs, at, base_of(first, previous));
     if !docs_fine(docs, at, first, previous, limit, all_docs) {

@@ -1,13 +1,14 @@
 // The norms of a block's postings, by their documents' codes.
+#![tactic(auto)]
+
 ghost use Rattle.std.specs.Prelude.{◌≡◌, true, ◌+◌, ◌<◌, ◌≤◌, get_or, length};
-ghost use Rattle.arrays.specs.Lent.{before, after};
 ghost use Rattle.block_norms.specs.Inner.Block.{all_at_most, Gathered};
 ghost use Rattle.block_norms.specs.Inner.Codes.{Below, CodesIn};
 
 use fieldnorm::FieldNormReader;
 
 // Norm codes that stand in a file: so many documents have theirs from this place on.
-#[derive(Drop)]
+#[derive(Clone, Copy)]
 struct Codes {
     start: usize,
     count: u32,
@@ -23,7 +24,7 @@ fn place(id: u8) -> usize
 // A document's code, which stands in the file, as a place in the cache.
 fn code_at(file: &[u8], start: usize, doc: u32) -> usize
     requires { start + doc < length file.now }
-    ensures { (result ≡ get_or (before file) (start + doc) 0) × (result < 256) }
+    ensures { (result ≡ get_or file.now (start + doc) 0) × (result < 256) }
 {
     place(file[start + doc as usize])
 }
@@ -40,7 +41,7 @@ fn counted(n: usize) -> u32
 
 // The codes that stand in a file; none where one code serves all documents.
 fn codes_of(file: &[u8], reader: FieldNormReader) -> Codes
-    ensures { CodesIn reader (before file) result }
+    ensures { CodesIn reader file.now result }
 {
     match reader {
         FieldNormReader::FromData(start) => {
@@ -56,7 +57,7 @@ fn codes_of(file: &[u8], reader: FieldNormReader) -> Codes
 
 // Whether no number is over the limit.
 pub fn all_at_most(xs: &[u32; 128], limit: u32) -> bool
-    ensures { result ≡ all_at_most limit (before xs) }
+    ensures { result ≡ all_at_most limit xs.now }
 {
     let mut ok = true;
     let mut i = 0usize;
@@ -71,7 +72,7 @@ pub fn all_at_most(xs: &[u32; 128], limit: u32) -> bool
 
 // Whether every document is one of the first `count`.
 fn all_below(docs: &[u32; 128], count: u32) -> bool
-    ensures { result ≡ true → Below count (before docs) }
+    ensures { result ≡ true → Below count docs.now }
 {
     if count == 0 {
         return false;
@@ -89,7 +90,7 @@ fn read_within(
     norms: &mut [f32; 128],
 )
     requires { CodesIn reader file.now codes × Below codes.count docs.now }
-    ensures { Gathered reader (before file) (before cache) (before docs) (after norms) }
+    ensures { Gathered reader file.now cache.now docs.now norms.new }
 {
     let start = codes.start;
     let n = (&norms[..]).len();
@@ -109,7 +110,7 @@ fn read_each(
     docs: &[u32; 128],
     norms: &mut [f32; 128],
 )
-    ensures { Gathered reader (before file) (before cache) (before docs) (after norms) }
+    ensures { Gathered reader file.now cache.now docs.now norms.new }
 {
     let n = (&norms[..]).len();
     let mut i = 0usize;
@@ -128,7 +129,7 @@ pub fn read_norms(
     docs: &[u32; 128],
     norms: &mut [f32; 128],
 )
-    ensures { Gathered reader (before file) (before cache) (before docs) (after norms) }
+    ensures { Gathered reader file.now cache.now docs.now norms.new }
 {
     let codes = codes_of(file, reader);
     if all_below(docs, codes.count) {
@@ -148,7 +149,7 @@ pub fn read_norms_below(
     norms: &mut [f32; 128],
 )
     requires { Below limit docs.now }
-    ensures { Gathered reader (before file) (before cache) (before docs) (after norms) }
+    ensures { Gathered reader file.now cache.now docs.now norms.new }
 {
     let codes = codes_of(file, reader);
     if limit <= codes.count {

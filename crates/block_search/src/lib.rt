@@ -1,13 +1,14 @@
 // The search in a block: the count of values below a target, by eight segments, eight segments of one of these, and two values;
 // then a look at the value there.
+#![tactic(auto)]
+
 ghost use Rattle.std.specs.Prelude.{◌≡◌, ◌+◌, ◌*◌, ◌≤◌, ◌<◌, ltb};
-ghost use Rattle.arrays.specs.Lent.{before};
 ghost use Rattle.block_search.specs.Search.{answer_if, count_below, holds_at, one_if, search_answer};
 ghost use Rattle.block_search.specs.Inner.Answers.{index_of, is_hit};
 ghost use Rattle.block_search.specs.Inner.Segments.{Sorted, ends_below};
 
 // What a search answers: a hit with its index, or a miss with the count of values below the target.
-#[derive(Drop)]
+#[derive(Clone, Copy)]
 pub enum Answer {
     Hit(usize),
     Miss(usize),
@@ -55,7 +56,7 @@ fn below(x: u32, target: u32) -> usize
 // count lies.
 fn segment(values: &[u32; 128], base: usize, step: usize, target: u32) -> usize
     requires { (0 < step) × (base + 8 * step ≤ 128) }
-    ensures { (result ≡ ends_below 7 (before values) base step target) × (result ≤ 7) }
+    ensures { (result ≡ ends_below 7 values.now base step target) × (result ≤ 7) }
 {
     below(values[base + step - 1], target)
         + below(values[base + 2 * step - 1], target)
@@ -69,7 +70,7 @@ fn segment(values: &[u32; 128], base: usize, step: usize, target: u32) -> usize
 // How many values of a sorted block are below the target, from 0 to 128.
 pub fn count_below(values: &[u32; 128], target: u32) -> usize
     requires { Sorted values.now }
-    ensures { result ≡ count_below 128 (before values) target }
+    ensures { result ≡ count_below 128 values.now target }
 {
     let far = 16 * segment(values, 0, 16, target);
     let near = far + 2 * segment(values, far, 2, target);
@@ -78,7 +79,7 @@ pub fn count_below(values: &[u32; 128], target: u32) -> usize
 
 // Whether the value at the count is the target. Behind the last there is none.
 fn holds(values: &[u32; 128], count: usize, target: u32) -> bool
-    ensures { result ≡ holds_at (before values) target count }
+    ensures { result ≡ holds_at values.now target count }
 {
     if count < 128 {
         return values[count] == target;
@@ -89,7 +90,7 @@ fn holds(values: &[u32; 128], count: usize, target: u32) -> bool
 // The search in a sorted block: the value at the count decides between hit and miss.
 pub fn search_block(values: &[u32; 128], target: u32) -> Answer
     requires { Sorted values.now }
-    ensures { result ≡ search_answer (before values) target }
+    ensures { result ≡ search_answer values.now target }
 {
     let count = count_below(values, target);
     let hit = holds(values, count, target);

@@ -1,7 +1,6 @@
 // Where a run begins.
 ghost use Rattle.std.specs.Prelude.{◌≡◌, ◌≤◌, ◌<◌, take};
 ghost use Rattle.arrays.specs.Every.{All};
-ghost use Rattle.arrays.specs.Lent.{before, after};
 ghost use Rattle.term_scorer.specs.Inner.Slots.{held, Sixteen};
 ghost use Rattle.term_scorer.specs.Inner.Weights.{TopRead};
 ghost use Rattle.intersection_order.specs.Inner.Scorers.{query};
@@ -16,7 +15,7 @@ use term_scorer::{score, slot};
 // `leader_max_score + secondaries_global_max_sum`.
 fn max_score_sum(lists: &[[usize; 8]; 16], n: usize, order: &[usize; 16]) -> f32
     requires { (0 < n) × (n ≤ 16) × Sixteen order.now × All (TopRead lists.now) (take n order.now) }
-    ensures { result ≡ top_sum (before lists) n (before order) }
+    ensures { result ≡ top_sum lists.now n order.now }
 {
     let mut sum = 0.0f32;
     let mut i = 1usize;
@@ -40,8 +39,8 @@ pub fn begin(
 ) -> Intersection
     requires { let asked = query similarity file.now lists.now norms.now n order.old in
         FreshSlots asked (held places.now blocks.now) }
-    ensures { let asked = query similarity (before file) (before lists) (before norms) n (after order) in
-        Begins asked (held (before places) (before blocks)) result }
+    ensures { let asked = query similarity file.now lists.now norms.now n order.new in
+        Begins asked (held places.now blocks.now) result }
 {
     by_size(n, lists, order);
     let max_sum = max_score_sum(lists, n, order);

@@ -1,9 +1,10 @@
 // The intersection's skipping run, by turns: windows in which all block bounds hold, and in each the leader's candidates
 // against the secondaries. A run goes on from where it stands, and what it needs to do so stands in lent tables and a small struct.
+#![tactic(auto)]
+
 pub mod begin;
 
 ghost use Rattle.std.specs.Prelude.{◌≡◌};
-ghost use Rattle.arrays.specs.Lent.{before, after};
 ghost use Rattle.term_scorer.specs.Inner.Slots.{held};
 ghost use Rattle.intersection_order.specs.Inner.Scorers.{query};
 ghost use Rattle.intersection_turn.specs.Inner.Stands.{Stands};
@@ -17,7 +18,7 @@ use term_scorer::Floats;
 use term_scorer::score::Leg;
 
 // Where a run stands behind its turns, how many they were, and why it stands.
-#[derive(Drop)]
+#[derive(Clone, Copy)]
 pub struct Gone {
     pub intersection: Intersection,
     pub taken: usize,
@@ -48,10 +49,10 @@ pub fn go(
 ) -> Gone
     requires { let asked = query leg.similarity file.now lists.now norms.now intersection.len order.now in
         Stands asked intersection (held places.old blocks.old) floats.old }
-    ensures { let asked = query leg.similarity (before file) (before lists) (before norms) intersection.len (before order) in
-        let old = held (before places) (before blocks) in
-        let new = held (after places) (after blocks) in
-        Goes asked leg.threshold leg.turns intersection old (before floats) result new (after floats) }
+    ensures { let asked = query leg.similarity file.now lists.now norms.now intersection.len order.now in
+        let old = held places.old blocks.old in
+        let new = held places.new blocks.new in
+        Goes asked leg.threshold leg.turns intersection old floats.old result new floats.new }
 {
     let mut v = intersection;
     let mut taken = 0usize;

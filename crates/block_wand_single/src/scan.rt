@@ -1,6 +1,5 @@
 // The scan by turns: to the next report, to its end, or as far as the turns lead.
 ghost use Rattle.std.specs.Prelude.{◌≡◌, false, ◌<◌};
-ghost use Rattle.arrays.specs.Lent.{before, after};
 ghost use Rattle.term_scorer.specs.Inner.Slots.{held};
 ghost use Rattle.single_hunt.specs.Inner.Places.{is_done, on_walk};
 ghost use Rattle.single_hunt.specs.Inner.Stands.{Stands};
@@ -74,10 +73,10 @@ fn stride(
     requires { let slots = held places.old blocks.old in
         Stands file.now leg.similarity lists.now norms.now single slots floats.old
         × (is_done single.phase ≡ false) × (0 < leg.turns) }
-    ensures { let old = held (before places) (before blocks) in
-        let new = held (after places) (after blocks) in
-        Steps (before file) leg.similarity (before lists) (before norms) leg.threshold leg.turns
-        single old result new (after floats) }
+    ensures { let old = held places.old blocks.old in
+        let new = held places.new blocks.new in
+        Steps file.now leg.similarity lists.now norms.now leg.threshold leg.turns
+        single old result new floats.new }
 {
     let phase = single.phase;
     if on_walk(phase) {
@@ -114,10 +113,10 @@ pub fn go(
 ) -> Gone
     requires { let slots = held places.old blocks.old in
         Stands file.now leg.similarity lists.now norms.now single slots floats.old }
-    ensures { let old = held (before places) (before blocks) in
-        let new = held (after places) (after blocks) in
-        Goes (before file) leg.similarity (before lists) (before norms) leg.threshold leg.turns
-        single old result new (after floats) }
+    ensures { let old = held places.old blocks.old in
+        let new = held places.new blocks.new in
+        Goes file.now leg.similarity lists.now norms.now leg.threshold leg.turns
+        single old result new floats.new }
 {
     let mut single = single;
     let mut taken = 0usize;

@@ -1,8 +1,9 @@
 // The union's skipping run: `block_wand` over two or more scorers. Their slots stand in a lent row, in their order.
+#![tactic(auto)]
+
 pub mod walk;
 
 ghost use Rattle.std.specs.Prelude.{◌≤◌};
-ghost use Rattle.arrays.specs.Lent.{after};
 ghost use Rattle.term_scorer.specs.Inner.Slots.{Sixteen};
 ghost use Rattle.union_moves.specs.Inner.Seats.{alive};
 ghost use Rattle.block_wand_union.specs.Inner.Runs.{Begins};
@@ -13,7 +14,7 @@ use slot_pivot::structs::keep_order;
 use union_turn::{Stage, Union};
 
 // Where a run stands after `taken` turns, and why it took no more.
-#[derive(Drop)]
+#[derive(Clone, Copy)]
 pub struct Gone {
     pub union: Union,
     pub taken: usize,
@@ -23,7 +24,7 @@ pub struct Gone {
 // Scorers that were just opened, in the order of their documents: where a run begins.
 pub fn begin(scorers: Scorers, order: &mut [usize; 16]) -> Union
     requires { (scorers.len ≤ 16) × Sixteen order.old }
-    ensures { Begins (alive scorers) scorers.len result (after order) }
+    ensures { Begins (alive scorers) scorers.len result order.new }
 {
     let array = scorers.scorers;
     let sorted = sort_by_doc(array, scorers.len);

@@ -1,6 +1,5 @@
 // Turns in a row, under one threshold.
 ghost use Rattle.std.specs.Prelude.{◌≡◌};
-ghost use Rattle.arrays.specs.Lent.{before, after};
 ghost use Rattle.route.specs.F32.{f32};
 ghost use Rattle.route.specs.Union.{is_over, union_turn};
 ghost use Rattle.notefile.specs.Header.{norm_reader};
@@ -56,10 +55,10 @@ pub fn go(
         (leg.similarity.norms ≡ norm_reader file.now)
         × Stands file.now lists.now (terms scoring norms.now floats.old) union order.old slots }
     ensures { let scoring = leg.similarity.scoring in
-        let slots = held (after places) (after blocks) in
-        let from = place_of (before file) (before lists) scoring union (before order) (before places) in
-        let to = place_of (before file) (before lists) scoring result.union (after order) (after places) in
-        Stands (before file) (before lists) (terms scoring (before norms) (after floats)) result.union (after order) slots
+        let slots = held places.new blocks.new in
+        let from = place_of file.now lists.now scoring union order.old places.old in
+        let to = place_of file.now lists.now scoring result.union order.new places.new in
+        Stands file.now lists.now (terms scoring norms.now floats.new) result.union order.new slots
         × Went (union_turn 128 f32) union_ended leg.threshold from leg.turns result.taken to result.event }
 {
     let mut now = union;

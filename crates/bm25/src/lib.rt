@@ -1,10 +1,11 @@
 // BM25 over ready weights: norms, scores and bounds, unstepped or stepped.
+#![tactic(auto)]
+
 mod lengths;
 
 ghost use Rattle.std.specs.Prelude.{◌≡◌, ℕ, not, T};
 ghost use Rattle.std.specs.Float.{binary32};
 ghost use Rattle.std.specs.Float.Ieee.{add, mul, div, nan_bits, of_bits};
-ghost use Rattle.arrays.specs.Lent.{after};
 ghost use Rattle.floats.specs.Whole.{whole_f32};
 ghost use Rattle.bm25.specs.Score.{norm_of, score_at};
 ghost use Rattle.bm25.specs.Scoring.{scored};
@@ -23,14 +24,14 @@ const MAX_FIELDNORM_ID: u8 = 255;
 const MAX_TERM_FREQ: u32 = 2013265944;
 
 // Whether scores and bounds are cut down to multiples of 1/1024.
-#[derive(Drop)]
+#[derive(Clone, Copy)]
 pub enum Scoring {
     Unstepped,
     Stepped,
 }
 
 // Weight, average and the 256 cached norms of one list.
-#[derive(Drop)]
+#[derive(Clone, Copy)]
 pub struct Bm25Weight {
     pub weight: f32,
     pub average: f32,
@@ -61,7 +62,7 @@ pub fn compute_tf_cache(average: f32) -> [f32; 256]
 // The norms of an average, made again only where those at hand are another's. Averages are told apart by their bits.
 pub fn renew_tf_cache(average: u32, at_hand: u32, cache: &mut [f32; 256])
     requires { T (not (nan_bits binary32 average)) × NormsOf (of_bits binary32 at_hand) cache.old }
-    ensures { NormsOf (of_bits binary32 average) (after cache) }
+    ensures { NormsOf (of_bits binary32 average) cache.new }
 {
     if average == at_hand {
         return;

@@ -1,6 +1,7 @@
 // The scores of a block's postings: each posting's norm is read first, and the float work is a loop of its own.
+#![tactic(auto)]
+
 ghost use Rattle.std.specs.Prelude.{◌≡◌, true, ◌≤◌};
-ghost use Rattle.arrays.specs.Lent.{before, after};
 ghost use Rattle.floats.specs.Whole.{whole_f32};
 ghost use Rattle.bm25.specs.declared.Scoring.TheVariants.{Unstepped, Stepped};
 ghost use Rattle.block_norms.specs.Inner.Codes.{Below};
@@ -13,7 +14,7 @@ use fieldnorm::FieldNormReader;
 // Whether every frequency is a whole number that f32 holds. Where `small` says so, they are not looked at.
 pub fn all_exact(small: bool, term_freqs: &[u32; 128]) -> bool
     requires { ExactWhere small term_freqs.now }
-    ensures { result ≡ all_exact (before term_freqs) }
+    ensures { result ≡ all_exact term_freqs.now }
 {
     if small {
         return true;
@@ -32,7 +33,7 @@ pub fn exact(n: u32) -> f32
 // Scores in place of norms, where f32 holds each frequency.
 fn weigh_exact(weight: f32, term_freqs: &[u32; 128], scores: &mut [f32; 128])
     requires { all_exact term_freqs.now ≡ true }
-    ensures { Weighed weight (before term_freqs) (before scores) (after scores) }
+    ensures { Weighed weight term_freqs.now scores.old scores.new }
 {
     let n = (&scores[..]).len();
     let mut i = 0usize;
@@ -45,7 +46,7 @@ fn weigh_exact(weight: f32, term_freqs: &[u32; 128], scores: &mut [f32; 128])
 
 // Scores in place of norms, each frequency rounded to the nearest f32.
 fn weigh_rounded(weight: f32, term_freqs: &[u32; 128], scores: &mut [f32; 128])
-    ensures { Weighed weight (before term_freqs) (before scores) (after scores) }
+    ensures { Weighed weight term_freqs.now scores.old scores.new }
 {
     let n = (&scores[..]).len();
     let mut i = 0usize;
@@ -59,7 +60,7 @@ fn weigh_rounded(weight: f32, term_freqs: &[u32; 128], scores: &mut [f32; 128])
 // Scores in place of norms. Nearly every block has no frequency above 2^24, and then the loop has no branch.
 fn weigh(weight: f32, small: bool, term_freqs: &[u32; 128], scores: &mut [f32; 128])
     requires { ExactWhere small term_freqs.now }
-    ensures { Weighed weight (before term_freqs) (before scores) (after scores) }
+    ensures { Weighed weight term_freqs.now scores.old scores.new }
 {
     if all_exact(small, term_freqs) {
         weigh_exact(weight, term_freqs, scores);
@@ -70,7 +71,7 @@ fn weigh(weight: f32, small: bool, term_freqs: &[u32; 128], scores: &mut [f32; 1
 
 // Each score cut down to the grid.
 fn step_all(scores: &mut [f32; 128])
-    ensures { CutDown (before scores) (after scores) }
+    ensures { CutDown scores.old scores.new }
 {
     let n = (&scores[..]).len();
     let mut i = 0usize;
@@ -93,7 +94,7 @@ fn score_unstepped(
     scores: &mut [f32; 128],
 )
     requires { Below limit docs.now × ExactWhere small term_freqs.now }
-    ensures { ScoredBy reader (before file) (before cache) weight Unstepped (before docs) (before term_freqs) (after scores) }
+    ensures { ScoredBy reader file.now cache.now weight Unstepped docs.now term_freqs.now scores.new }
 {
     read_norms_below(file, reader, cache, docs, limit, scores);
     weigh(weight, small, term_freqs, scores);
@@ -112,7 +113,7 @@ fn score_stepped(
     scores: &mut [f32; 128],
 )
     requires { Below limit docs.now × ExactWhere small term_freqs.now }
-    ensures { ScoredBy reader (before file) (before cache) weight Stepped (before docs) (before term_freqs) (after scores) }
+    ensures { ScoredBy reader file.now cache.now weight Stepped docs.now term_freqs.now scores.new }
 {
     score_unstepped(
         file, reader, cache, weight, limit, small, docs, term_freqs, scores,
@@ -135,7 +136,7 @@ pub fn score_block(
     scores: &mut [f32; 128],
 )
     requires { Below limit docs.now × ExactWhere small term_freqs.now }
-    ensures { Scored reader (before file) w scoring (before docs) (before term_freqs) (after scores) }
+    ensures { Scored reader file.now w scoring docs.now term_freqs.now scores.new }
 {
     let weight = w.weight;
     match scoring {

@@ -1,4 +1,6 @@
 // What the table asks of a weight and an average, tested on the bits that the file has, before any float is made of them.
+#![tactic(auto)]
+
 ghost use Rattle.std.specs.Prelude.{◌≡◌};
 ghost use Rattle.std.specs.Float.{binary32};
 ghost use Rattle.std.specs.Float.Ieee.{of_bits};

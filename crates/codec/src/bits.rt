@@ -1,6 +1,5 @@
 // Whole numbers in bytes: most significant first, or little-endian.
 ghost use Rattle.std.specs.Prelude.{◌≡◌, ◌+◌, ◌*◌, ◌≤◌, ◌<◌, length};
-ghost use Rattle.arrays.specs.Lent.{before};
 ghost use Rattle.codec.specs.Bits.{bits_at, word_at};
 
 // A byte as a wider number.
@@ -13,7 +12,7 @@ pub fn wide(b: u8) -> u32
 // The number in n whole bytes, most significant first.
 pub fn read_be(s: &[u8], at: usize, n: usize) -> u64
     requires { (n ≤ 8) × (at + n ≤ length s.now) }
-    ensures { result ≡ bits_at (before s) (8 * at) (8 * n) }
+    ensures { result ≡ bits_at s.now (8 * at) (8 * n) }
 {
     let mut v: u64 = 0;
     let mut i: usize = 0;
@@ -27,7 +26,7 @@ pub fn read_be(s: &[u8], at: usize, n: usize) -> u64
 // A little-endian u32.
 pub fn read_u32(s: &[u8], at: usize) -> u32
     requires { at + 4 ≤ length s.now }
-    ensures { (result ≡ word_at (before s) at) × (result < 4294967296) }
+    ensures { (result ≡ word_at s.now at) × (result < 4294967296) }
 {
     let a = wide(s[at]);
     let b = wide(s[at + 1]);

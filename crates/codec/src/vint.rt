@@ -1,20 +1,19 @@
 // VInts: seven bits a byte, low first, the high bit on the last byte.
 ghost use Rattle.std.specs.Prelude.{◌≡◌, ◌≤◌, length};
-ghost use Rattle.arrays.specs.Lent.{before, after};
 ghost use Rattle.codec.specs.VInt.{vint_at};
 ghost use Rattle.codec.specs.Inner.VIntRows.{VIntsRead};
 
 use crate::bits::wide;
 
 // What stands at a place: a whole VInt, its value and the place after it; or none.
-#[derive(Drop)]
+#[derive(Clone, Copy)]
 pub enum VInt {
     Value(u32, usize),
     Broken,
 }
 
 // Where a row of VInts ends, or that one of them is broken.
-#[derive(Drop)]
+#[derive(Clone, Copy)]
 pub enum VInts {
     End(usize),
     Broken,
@@ -23,7 +22,7 @@ pub enum VInts {
 // The VInt at a place of the bytes below end.
 pub fn read_vint(s: &[u8], end: usize, at: usize) -> VInt
     requires { end ≤ length s.now }
-    ensures { result ≡ vint_at (before s) end at }
+    ensures { result ≡ vint_at s.now end at }
 {
     let mut v: u64 = 0;
     let mut shift: u32 = 0;
@@ -50,7 +49,7 @@ pub fn read_vint(s: &[u8], end: usize, at: usize) -> VInt
 // The values of n VInts one after another, into the first n places.
 pub fn read_vints(s: &[u8], end: usize, at: usize, n: usize, out: &mut [u32; 128]) -> VInts
     requires { (end ≤ length s.now) × (n ≤ 128) × (length out.old ≡ 128) }
-    ensures { VIntsRead (before s) end at n (before out) result (after out) }
+    ensures { VIntsRead s.now end at n out.old result out.new }
 {
     let mut p = at;
     let mut i: usize = 0;

@@ -1,6 +1,5 @@
 // Documents by differences: prefix sums in place, and whether the documents are right.
 ghost use Rattle.std.specs.Prelude.{◌≡◌, ℕ, ◌+◌, ◌-◌, ◌%◌, ◌<◌, ◌≤◌, true, length, nat_lt, slice_index};
-ghost use Rattle.arrays.specs.Lent.{before, after};
 ghost use Rattle.arrays.specs.Every.{every};
 ghost use Rattle.compression.specs.Documents.{gap_of, start_of};
 ghost use Rattle.compression.specs.Inner.Sums.{FourSums, Summed, Narrow, Checked};
@@ -45,7 +44,7 @@ fn four_sums(p: u32, gap: u32, a: u32, b: u32, c: u32, d: u32) -> Four
 // The values of a block turned into its documents, each in 32 bits.
 pub fn sums(values: &mut [u32; 128], strict: bool, first: bool, previous: u32)
     requires { length values.old ≡ 128 }
-    ensures { Summed (before values) strict first previous (after values) }
+    ensures { Summed values.old strict first previous values.new }
 {
     let add = gap(strict);
     let mut p = before(first, previous, strict);
@@ -71,7 +70,7 @@ pub fn sums(values: &mut [u32; 128], strict: bool, first: bool, previous: u32)
 // Whether each of the first n is above the one before it.
 fn rising(docs: &[u32; 128], n: usize) -> bool
     requires { n ≤ 128 }
-    ensures { result ≡ every (n - 1) (λ i. nat_lt (slice_index (before docs) i) (slice_index (before docs) (i + 1))) }
+    ensures { result ≡ every (n - 1) (λ i. nat_lt (slice_index docs.now i) (slice_index docs.now (i + 1))) }
 {
     let mut right = true;
     let mut i: usize = 0;
@@ -97,7 +96,7 @@ pub fn documents(
 ) -> bool
     requires { (n ≤ 128) × (length values.old ≡ 128) × ((k : ℕ) → k < n → slice_index values.old k < 4294967296)
         × (narrow ≡ true → Narrow values.old n strict previous) }
-    ensures { Checked (before values) n strict first previous limit result (after values) }
+    ensures { Checked values.old n strict first previous limit result values.new }
 {
     sums(values, strict, first, previous);
     if n == 0 {

@@ -1,2 +1,4 @@
 // Documents by differences.
+#![tactic(auto)]
+
 pub mod documents;

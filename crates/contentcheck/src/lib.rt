@@ -1,7 +1,8 @@
 // Rows 1 to 4 of the table, tried on contents, and where their norm codes are read.
+#![tactic(auto)]
+
 ghost use Rattle.std.specs.Prelude.{◌≡◌, List, ℕ, ◌≤◌, ◌<◌, eqb, Float, length, get_or};
 ghost use Rattle.std.specs.Float.{nan};
-ghost use Rattle.arrays.specs.Lent.{before};
 ghost use Rattle.arrays.specs.Every.{every};
 ghost use Rattle.bm25.specs.Limits.{weight_ok, average_ok};
 ghost use Rattle.notefile.specs.Conditions.{list_fits};
@@ -55,7 +56,7 @@ fn weight_right(weight: f32) -> bool
 // All postings that the counts of at most 16 lists state.
 fn total(counts: &[u32]) -> usize
     requires { length counts.now ≤ 16 }
-    ensures { (c : Contents) → c.counts ≡ before counts → result ≡ list_at c (lists c) }
+    ensures { (c : Contents) → c.counts ≡ counts.now → result ≡ list_at c (lists c) }
 {
     let mut sum: usize = 0;
     let mut l: usize = 0;
@@ -76,7 +77,7 @@ fn buffers_right(
     freqs: &[u32],
 ) -> bool
     requires { length counts.now ≤ 16 }
-    ensures { result ≡ buffers_right (contents_of h (before norms) (before weights) (before counts) (before docs) (before freqs)) }
+    ensures { result ≡ buffers_right (contents_of h norms.now weights.now counts.now docs.now freqs.now) }
 {
     let bytes = if h.kind == 0 { h.documents as usize } else { 0 };
     if norms.len() != bytes {
@@ -105,7 +106,7 @@ fn list_right(weight: f32, count: u32, documents: u32) -> bool
 // Whether row 4 lets every list's weight and count through.
 fn lists_right(documents: u32, weights: &[f32], counts: &[u32]) -> bool
     requires { length weights.now ≡ length counts.now }
-    ensures { result ≡ every (length (before counts)) (λ l. list_fits (get_or (before weights) l nan) (get_or (before counts) l 0) documents) }
+    ensures { result ≡ every (length counts.now) (λ l. list_fits (get_or weights.now l nan) (get_or counts.now l 0) documents) }
 {
     let mut right = true;
     let mut l: usize = 0;
@@ -127,7 +128,7 @@ pub fn head_refusal(
     docs: &[u32],
     freqs: &[u32],
 ) -> u32
-    ensures { result ≡ head_refusal (contents_of h (before norms) (before weights) (before counts) (before docs) (before freqs)) }
+    ensures { result ≡ head_refusal (contents_of h norms.now weights.now counts.now docs.now freqs.now) }
 {
     if !head_right(h, counts.len()) {
         return 1;

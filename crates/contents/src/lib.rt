@@ -1,9 +1,10 @@
 // What a note file is written from: the numbers handed in beside the buffers, and what is found out before anything is written.
+#![tactic(auto)]
+
 ghost use Rattle.std.specs.Prelude.{◌≡◌, false, cond, ◌-◌, ◌≤◌, ◌<◌, length, get_or};
-ghost use Rattle.arrays.specs.Lent.{before};
 
 // How many documents there are, the norm kind with its code, and the average.
-#[derive(Drop)]
+#[derive(Clone, Copy)]
 pub struct Head {
     pub documents: u32,
     pub kind: u32,
@@ -12,7 +13,7 @@ pub struct Head {
 }
 
 // The refusal of contents; where there is none, the length of each list's postings and of the whole file.
-#[derive(Drop)]
+#[derive(Clone, Copy)]
 pub struct Price {
     pub refusal: u32,
     pub postings: [usize; 16],
@@ -25,7 +26,7 @@ pub type Tops = [u8; 131072];
 // The document before a place; 0 before a list's first.
 pub fn doc_before(docs: &[u32], at: usize, first: bool) -> u32
     requires { (first ≡ false → 0 < at) × (at ≤ length docs.now) }
-    ensures { result ≡ cond first 0 (get_or (before docs) (at - 1) 0) }
+    ensures { result ≡ cond first 0 (get_or docs.now (at - 1) 0) }
 {
     if first {
         return 0;

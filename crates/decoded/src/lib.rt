@@ -1,1 +1,2 @@
 // No code: a file's decoded lists as the route takes them, and what acceptance gives of them.
+#![tactic(auto)]

@@ -1,6 +1,7 @@
 // The one loop that drives the machine of any mode: rows are written and the threshold is moved here alone.
+#![tactic(auto)]
+
 ghost use Rattle.std.specs.Prelude.{◌≡◌};
-ghost use Rattle.arrays.specs.Lent.{before, after};
 ghost use Rattle.rule.specs.Inner.Follows.{Keeps};
 ghost use Rattle.notefile.specs.Header as header;
 ghost use Rattle.notefile.specs.Header.{norm_reader};
@@ -16,7 +17,7 @@ use term_scorer::Floats;
 use term_scorer::score::{Leg, Similarity};
 
 // Where the run stopped, whether a report found every row full, and how many rows are written.
-#[derive(Drop)]
+#[derive(Clone, Copy)]
 pub struct Driven {
     pub machine: Machine,
     pub full: bool,
@@ -66,10 +67,10 @@ pub fn drive(
         (task.similarity.norms ≡ norm_reader file.now) × Keeps task.rule
         × StandsIn file.now task.similarity lists.now norms.now old task.machine
         × KeptIn (header.documents file.now) (place_in file.now task.similarity lists.now norms.now old task.machine) }
-    ensures { let old = tables (before order) (before places) (before blocks) (before floats) in
-        let new = tables (after order) (after places) (after blocks) (after floats) in
-        Drives (before file) (before script) (before lists) (before norms) task old (before documents) (before scores)
-        new (after documents) (after scores) result }
+    ensures { let old = tables order.old places.old blocks.old floats.old in
+        let new = tables order.new places.new blocks.new floats.new in
+        Drives file.now script.now lists.now norms.now task old documents.old scores.old
+        new documents.new scores.new result }
 {
     let rule = task.rule;
     let room = rows(documents, scores);

@@ -1,6 +1,5 @@
 // The header and the lists' entries, made of bit fields.
 ghost use Rattle.std.specs.Prelude.{◌+◌, ◌≤◌, length};
-ghost use Rattle.arrays.specs.Lent.{before, after};
 ghost use Rattle.pieces.specs.Inner.Written.{Put};
 ghost use Rattle.encode.specs.Fields.{field_bytes, header_fields, entry_fields};
 ghost use Rattle.encode.specs.Inner.FieldsFit.{Fit};
@@ -18,7 +17,7 @@ pub fn write_header(
     average: u64,
 )
     requires { Fit (header_fields kind lists code documents average) × (at + 9 ≤ length out.old) }
-    ensures { Put (before out) at (field_bytes 9 (header_fields kind lists code documents average)) (after out) }
+    ensures { Put out.old at (field_bytes 9 (header_fields kind lists code documents average)) out.new }
 {
     write_be5(
         out,
@@ -39,7 +38,7 @@ pub fn write_entry(
     postings: u64,
 )
     requires { Fit (entry_fields weight count kind skips postings) × (at + 13 ≤ length out.old) }
-    ensures { Put (before out) at (field_bytes 13 (entry_fields weight count kind skips postings)) (after out) }
+    ensures { Put out.old at (field_bytes 13 (entry_fields weight count kind skips postings)) out.new }
 {
     write_be4(out, at, weight);
     write_be5(out, at + 4, count * 524288 + kind * 262144 + skips / 64);

@@ -1,6 +1,5 @@
 // Skip entries.
 ghost use Rattle.std.specs.Prelude.{◌≡◌, ◌+◌, ◌≤◌, ◌<◌, length};
-ghost use Rattle.arrays.specs.Lent.{before, after};
 ghost use Rattle.pieces.specs.Inner.Written.{Put};
 ghost use Rattle.encode.specs.SkipEntry.{skip_entry};
 
@@ -24,7 +23,7 @@ pub fn write_skip_entry(
     freq_code: u8,
 )
     requires { (doc_bits < 32) × (freq_bits ≤ 32) × (at + 8 ≤ length out.old) }
-    ensures { Put (before out) at (skip_entry last doc_bits freq_bits norm_code freq_code) (after out) }
+    ensures { Put out.old at (skip_entry last doc_bits freq_bits norm_code freq_code) out.new }
 {
     write_low(out, at, wide(last));
     out[at + 4] = (doc_bits + 64) as u8;

@@ -1,6 +1,5 @@
 // The values of a block: its documents' differences.
 ghost use Rattle.std.specs.Prelude.{◌≡◌, ℕ, ◌+◌, ◌-◌, ◌≤◌, ◌<◌, length, get_or};
-ghost use Rattle.arrays.specs.Lent.{before, after};
 ghost use Rattle.compression.specs.Documents.{gap_of, start_of};
 ghost use Rattle.encode.specs.Differences.{differ};
 ghost use Rattle.encode.specs.Inner.Fronted.{Rising, Fronted};
@@ -27,7 +26,7 @@ pub fn differences(
 )
     requires { (n ≤ 128) × (from + n ≤ length docs.now) × (length out.old ≡ 128) × (previous + gap_of strict < 4294967296)
         × Rising (λ i. get_or docs.now (from + i) 0) strict first previous n }
-    ensures { Fronted (differ (λ i. get_or (before docs) (from + i) 0) strict first previous) n (before out) (after out) }
+    ensures { Fronted (differ (λ i. get_or docs.now (from + i) 0) strict first previous) n out.old out.new }
 {
     if n == 0 {
         return;
@@ -45,7 +44,7 @@ pub fn differences(
 pub fn lowered(freqs: &[u32], from: usize, n: usize, strict: bool, out: &mut [u32; 128])
     requires { (n ≤ 128) × (from + n ≤ length freqs.now) × (length out.old ≡ 128)
         × ((i : ℕ) → i < n → gap_of strict ≤ get_or freqs.now (from + i) 0) }
-    ensures { Fronted (λ i. get_or (before freqs) (from + i) 0 - gap_of strict) n (before out) (after out) }
+    ensures { Fronted (λ i. get_or freqs.now (from + i) 0 - gap_of strict) n out.old out.new }
 {
     let less = gap(strict);
     let mut i: usize = 0;

@@ -1,6 +1,5 @@
 // VInts in their shortest form.
 ghost use Rattle.std.specs.Prelude.{◌≡◌, ℕ, ◌+◌, ◌≤◌, length, get_or};
-ghost use Rattle.arrays.specs.Lent.{before, after};
 ghost use Rattle.pieces.specs.Inner.Written.{Put};
 ghost use Rattle.encode.specs.ShortVInt.{short_vint, vint_row};
 ghost use Rattle.encode.specs.Inner.VIntBytes.{vint_length, row_length};
@@ -25,7 +24,7 @@ pub fn vint_len(v: u32) -> usize
 // How many bytes the first n numbers of a block have.
 pub fn vints_len(values: &[u32; 128], n: usize) -> usize
     requires { (n ≤ 128) × (length values.now ≡ 128) }
-    ensures { result ≡ row_length n (λ k. get_or (before values) k 0) }
+    ensures { result ≡ row_length n (λ k. get_or values.now k 0) }
 {
     let mut sum: usize = 0;
     let mut i: usize = 0;
@@ -39,7 +38,7 @@ pub fn vints_len(values: &[u32; 128], n: usize) -> usize
 // The number written at a place, and the place after it.
 pub fn write_vint(out: &mut [u8], at: usize, v: u32) -> usize
     requires { at + vint_length v ≤ length out.old }
-    ensures { (result ≡ at + vint_length v) × Put (before out) at (short_vint v) (after out) }
+    ensures { (result ≡ at + vint_length v) × Put out.old at (short_vint v) out.new }
 {
     let mut rest = v;
     let mut n: usize = 0;
@@ -55,8 +54,8 @@ pub fn write_vint(out: &mut [u8], at: usize, v: u32) -> usize
 // The first n numbers of a block, one VInt after another, and the place after them.
 pub fn write_vints(values: &[u32; 128], n: usize, out: &mut [u8], at: usize) -> usize
     requires { (n ≤ 128) × (length values.now ≡ 128) × (at + row_length n (λ k. get_or values.now k 0) ≤ length out.old) }
-    ensures { let numbers : ℕ → ℕ = λ k. get_or (before values) k 0 in
-        (result ≡ at + row_length n numbers) × Put (before out) at (vint_row n numbers) (after out) }
+    ensures { let numbers : ℕ → ℕ = λ k. get_or values.now k 0 in
+        (result ≡ at + row_length n numbers) × Put out.old at (vint_row n numbers) out.new }
 {
     let mut p = at;
     let mut i: usize = 0;

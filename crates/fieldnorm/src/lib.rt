@@ -1,6 +1,7 @@
 // Field lengths as codes of one byte: the 256 lengths, and where a document's code is read.
+#![tactic(auto)]
+
 ghost use Rattle.std.specs.Prelude.{◌≡◌};
-ghost use Rattle.arrays.specs.Lent.{before};
 ghost use Rattle.fieldnorm.specs.Code.{fieldnorm};
 ghost use Rattle.fieldnorm.specs.Reader.{fieldnorm_id};
 
@@ -37,7 +38,7 @@ pub fn id_to_fieldnorm(id: u8) -> u32
 }
 
 // Where the norm codes of a file's documents stand.
-#[derive(Drop)]
+#[derive(Clone, Copy)]
 pub enum FieldNormReader {
     // A byte per document, the first at this place of the file.
     FromData(usize),
@@ -48,7 +49,7 @@ pub enum FieldNormReader {
 impl FieldNormReader {
     // A document's norm code; 0 past the file's end.
     pub fn fieldnorm_id(self, file: &[u8], doc: u32) -> u8
-        ensures { result ≡ fieldnorm_id self (before file) doc }
+        ensures { result ≡ fieldnorm_id self file.now doc }
     {
         match self {
             FieldNormReader::FromData(start) => {

@@ -1,6 +1,7 @@
 // A whole note file written, from contents that have been priced.
+#![tactic(auto)]
+
 ghost use Rattle.std.specs.Prelude.{◌≡◌, ◌≤◌, length};
-ghost use Rattle.arrays.specs.Lent.{before, after};
 ghost use Rattle.pieces.specs.Inner.Written.{Put};
 ghost use Rattle.contents.specs.Refusal.{contents_refusal};
 ghost use Rattle.contents.specs.Inner.Handed.{contents_of};
@@ -26,8 +27,8 @@ pub fn write_file(
 )
     requires { let c = contents_of h norms.now weights.now counts.now docs.now freqs.now in
         (contents_refusal c ≡ 0) × PricedWhole c p tops.now × (length (house_file c) ≤ length out.old) }
-    ensures { let c = contents_of h (before norms) (before weights) (before counts) (before docs) (before freqs) in
-        Put (before out) 0 (house_file c) (after out) }
+    ensures { let c = contents_of h norms.now weights.now counts.now docs.now freqs.now in
+        Put out.old 0 (house_file c) out.new }
 {
     let postings = p.postings;
     write_front(h, norms, weights, counts, &postings, out);

@@ -1,5 +1,4 @@
 -- Bounds through rounded operations on finite f32 values of clear sign: a bound that the format holds, once it holds before the rounding, holds after it.
---
 use mathlib.Core.Path.{◌≡◌, refl, sym, ap, ◌∙◌, subst}
 use mathlib.Core.Logic.{◌⊎◌, inl, inr}
 use mathlib.Core.Bool.{Bool, true, false, not, cond, true≢false}

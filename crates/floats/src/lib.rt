@@ -1,4 +1,6 @@
 // Whole numbers as f32, the step of scores to multiples of 1/1024, the larger of two, and the thresholds of stepped runs.
+#![tactic(auto)]
+
 ghost use Rattle.std.specs.Prelude.{◌≡◌, ◌^◌, ◌<◌};
 ghost use Rattle.std.specs.Float.Ieee.Nearest.{closest};
 ghost use Rattle.floats.specs.Whole.{whole_f32};

@@ -1,6 +1,7 @@
 // Frequencies, and whether they are right.
+#![tactic(auto)]
+
 ghost use Rattle.std.specs.Prelude.{◌≡◌, ℕ, ◌<◌, ◌≤◌, length, slice_index};
-ghost use Rattle.arrays.specs.Lent.{before, after};
 ghost use Rattle.frequencies.specs.Frequencies.{freq_right};
 ghost use Rattle.frequencies.specs.Inner.Counts.{Counted};
 
@@ -18,7 +19,7 @@ fn in_range(f: u32) -> bool
 // the test sees it.
 pub fn frequencies(values: &mut [u32; 128], n: usize, strict: bool) -> bool
     requires { (n ≤ 128) × (length values.old ≡ 128) × ((k : ℕ) → k < n → slice_index values.old k < 4294967296) }
-    ensures { Counted (before values) n strict result (after values) }
+    ensures { Counted values.old n strict result values.new }
 {
     let add = gap(strict);
     let mut right = true;

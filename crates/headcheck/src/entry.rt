@@ -1,6 +1,5 @@
 // Row 4 of the table: the lists' entries.
 ghost use Rattle.std.specs.Prelude.{◌≡◌, ◌<◌};
-ghost use Rattle.arrays.specs.Lent.{before};
 ghost use Rattle.arrays.specs.Every.{every};
 ghost use Rattle.notefile.specs.Conditions.{entry_right};
 ghost use Rattle.notefile.specs.Inner.Given.{HeaderIn};
@@ -11,7 +10,7 @@ use notefile::header::{ENTRY_LENGTH, HEADER_LENGTH, Header};
 // Whether row 4 lets list l's entry through.
 fn entry_right(file: &[u8], h: Header, l: usize) -> bool
     requires { HeaderIn file.now h × (l < h.lists) }
-    ensures { result ≡ entry_right (before file) l }
+    ensures { result ≡ entry_right file.now l }
 {
     let e = HEADER_LENGTH + ENTRY_LENGTH * l;
     let weight = read_be(file, e, 4) as u32;
@@ -25,7 +24,7 @@ fn entry_right(file: &[u8], h: Header, l: usize) -> bool
 // Whether row 4 lets every list's entry through.
 pub fn entries_right(file: &[u8], h: Header) -> bool
     requires { HeaderIn file.now h }
-    ensures { result ≡ every h.lists (entry_right (before file)) }
+    ensures { result ≡ every h.lists (entry_right file.now) }
 {
     let lists = h.lists;
     let mut right = true;

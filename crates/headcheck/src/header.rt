@@ -1,6 +1,5 @@
 // Row 1 of the table: the header.
 ghost use Rattle.std.specs.Prelude.{◌≡◌};
-ghost use Rattle.arrays.specs.Lent.{before};
 ghost use Rattle.notefile.specs.Conditions.{header_right};
 
 use notefile::header::{HEADER_LENGTH, read_header};
@@ -14,7 +13,7 @@ const MAX_DOCUMENTS: u32 = 1048576;
 
 // Whether row 1 lets the header through.
 pub fn header_right(file: &[u8]) -> bool
-    ensures { result ≡ header_right (before file) }
+    ensures { result ≡ header_right file.now }
 {
     if file.len() < HEADER_LENGTH {
         return false;

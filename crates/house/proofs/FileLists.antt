@@ -92,7 +92,7 @@ module _ (c : Contents) (Y : Typed c) (H : HeadOk c) (s : List ℕ) (P : Housed 
     where
       go : (z : Bool) → fieldnorm_id (reader_of c z) c.norms d < 256
       go true = Y.norm-bytes (0 + d)
-      go false = H.Code-in
+      go false = H.code_in
 
   module _ (l : ℕ) (h : l < lists c) where
     abbrev x : Part

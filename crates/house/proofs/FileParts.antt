@@ -63,7 +63,7 @@ module _ (c : Contents) (Y : Typed c) (H : HeadOk c) (s : List ℕ) (P : Housed 
     omega arith,
     (
       omega (arith, H.kind-in),
-      (omega (arith, H.few-lists), (H.Code-in, (omega (arith, H.few-documents), (omega arith, (average-bits, tt))))),
+      (omega (arith, H.few-lists), (H.code_in, (omega (arith, H.few-documents), (omega arith, (average-bits, tt))))),
     ),
   )
 

@@ -1,1 +1,2 @@
 // The house form: no code.
+#![tactic(auto)]

@@ -1,6 +1,5 @@
 // A candidate of the leader against the secondaries, one after the other.
 ghost use Rattle.std.specs.Prelude.{◌<◌};
-ghost use Rattle.arrays.specs.Lent.{before, after};
 ghost use Rattle.term_scorer.specs.Inner.Slots.{held};
 ghost use Rattle.intersection_order.specs.Inner.Scorers.{query, InOrder, SlotsIn};
 ghost use Rattle.intersection_candidate.specs.Inner.Candidates.{Tries};
@@ -11,14 +10,14 @@ use term_scorer::score::Leg;
 use term_scorer::slot;
 
 // A posting of the leader, by its document and its score.
-#[derive(Drop)]
+#[derive(Clone, Copy)]
 pub struct Posting {
     pub doc: u32,
     pub score: f32,
 }
 
 // Due with its score, or passed: a secondary lacks it, or it cannot exceed the threshold.
-#[derive(Drop)]
+#[derive(Clone, Copy)]
 pub enum Candidate {
     Due(f32),
     Passed,
@@ -40,10 +39,10 @@ pub fn try_candidate(
 ) -> Candidate
     requires { let asked = query leg.similarity file.now lists.now norms.now n order.now in
         InOrder asked × SlotsIn asked (held places.old blocks.old) × (candidate.doc < 2147483647) }
-    ensures { let asked = query leg.similarity (before file) (before lists) (before norms) n (before order) in
-        let old = held (before places) (before blocks) in
-        let new = held (after places) (after blocks) in
-        Tries asked candidate.doc candidate.score leg.threshold (before rests) old new result }
+    ensures { let asked = query leg.similarity file.now lists.now norms.now n order.now in
+        let old = held places.old blocks.old in
+        let new = held places.new blocks.new in
+        Tries asked candidate.doc candidate.score leg.threshold rests.now old new result }
 {
     let doc = candidate.doc;
     let mut total_score = candidate.score;

@@ -1,6 +1,5 @@
 // The candidates of a window, from the leader's block.
 ghost use Rattle.std.specs.Prelude.{ℕ, ◌≤◌, Float};
-ghost use Rattle.arrays.specs.Lent.{before};
 ghost use Rattle.route.specs.Postings.{Postings};
 ghost use Rattle.intersection_candidate.specs.Inner.Candidates.{BlockRows, Finds};
 
@@ -8,7 +7,7 @@ use crate::candidate::Posting;
 use notefile::block::TERMINATED;
 
 // The candidates left of an open window: from place `next` of the leader's block on, up to document window_end, above score_threshold.
-#[derive(Drop)]
+#[derive(Clone, Copy)]
 pub struct Candidates {
     pub next: usize,
     pub window_end: u32,
@@ -16,7 +15,7 @@ pub struct Candidates {
 }
 
 // The first of them, with the place behind it; or none is left.
-#[derive(Drop)]
+#[derive(Clone, Copy)]
 pub enum Next {
     At(usize, Posting),
     Nowhere,
@@ -25,7 +24,7 @@ pub enum Next {
 // On to the first candidate: the leader's score has to be above score_threshold. Both rows are of its block, by place.
 pub fn next_candidate(left: Candidates, docs: &[u32; 128], scores: &[f32; 128]) -> Next
     requires { left.next ≤ 128 }
-    ensures { (l : Postings Float) (b : ℕ) → BlockRows l b (before docs) (before scores) → Finds l b left result }
+    ensures { (l : Postings Float) (b : ℕ) → BlockRows l b docs.now scores.now → Finds l b left result }
 {
     let window_end = left.window_end;
     let score_threshold = left.score_threshold;

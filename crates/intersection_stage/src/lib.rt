@@ -1,4 +1,6 @@
 // Where an intersection's run stands: its struct, by the stage, and the steps from a stage to the next.
+#![tactic(auto)]
+
 ghost use Rattle.std.specs.Prelude.{cond, ◌≡◌};
 ghost use Rattle.route.specs.F32.{f32};
 ghost use Rattle.intersection_candidate.specs.Inner.Candidates.{behind};
@@ -9,7 +11,7 @@ use intersection_candidate::candidate::{Candidate, Posting};
 use intersection_candidate::leader::Candidates;
 
 // At the early exit; at `while doc < TERMINATED`; at the candidates left of a window; behind a call of the callback; returned.
-#[derive(Drop)]
+#[derive(Clone, Copy)]
 pub enum Stage {
     Early,
     Window,
@@ -19,7 +21,7 @@ pub enum Stage {
 }
 
 // How many scorers there are, where the window begins, `leader_max_score + secondaries_global_max_sum`, and the stage.
-#[derive(Drop)]
+#[derive(Clone, Copy)]
 pub struct Intersection {
     pub len: usize,
     pub doc: u32,
@@ -28,14 +30,14 @@ pub struct Intersection {
 }
 
 // A report is due, its document and its score; or none.
-#[derive(Drop)]
+#[derive(Clone, Copy)]
 pub enum Due {
     Report(u32, f32),
     Nothing,
 }
 
 // Where a run stands behind a turn, and the turn's report.
-#[derive(Drop)]
+#[derive(Clone, Copy)]
 pub struct Turned {
     pub intersection: Intersection,
     pub due: Due,

@@ -1,6 +1,7 @@
 // One turn of the intersection, by its stage.
+#![tactic(auto)]
+
 ghost use Rattle.std.specs.Prelude.{◌<◌};
-ghost use Rattle.arrays.specs.Lent.{before, after};
 ghost use Rattle.term_scorer.specs.Inner.Slots.{held};
 ghost use Rattle.intersection_order.specs.Inner.Scorers.{query};
 ghost use Rattle.intersection_turn.specs.Inner.Stands.{AtCandidates, AtWindow, Stands};
@@ -31,9 +32,9 @@ fn window_turn(
 ) -> Turned
     requires { let asked = query leg.similarity file.now lists.now norms.now v.len order.now in
         Stands asked v (held places.old blocks.old) floats.old × AtWindow v × (v.doc < 2147483647) }
-    ensures { let asked = query leg.similarity (before file) (before lists) (before norms) v.len (before order) in
-        TakesTurn asked leg.threshold v (held (before places) (before blocks)) (before floats)
-        result (held (after places) (after blocks)) (after floats) }
+    ensures { let asked = query leg.similarity file.now lists.now norms.now v.len order.now in
+        TakesTurn asked leg.threshold v (held places.old blocks.old) floats.old
+        result (held places.new blocks.new) floats.new }
 {
     let doc = v.doc;
     let window = next_window(
@@ -78,10 +79,10 @@ fn within_turn(
 ) -> Turned
     requires { let asked = query leg.similarity file.now lists.now norms.now v.len order.now in
         Stands asked v (held places.old blocks.old) floats.now × AtCandidates v left }
-    ensures { let asked = query leg.similarity (before file) (before lists) (before norms) v.len (before order) in
-        let old = held (before places) (before blocks) in
-        let new = held (after places) (after blocks) in
-        TakesTurn asked leg.threshold v old (before floats) result new (before floats) }
+    ensures { let asked = query leg.similarity file.now lists.now norms.now v.len order.now in
+        let old = held places.old blocks.old in
+        let new = held places.new blocks.new in
+        TakesTurn asked leg.threshold v old floats.now result new floats.now }
 {
     let leader = order[0];
     let found = next_candidate(left, &blocks[leader][DOCS], &floats[SCORES + leader]);
@@ -119,10 +120,10 @@ pub fn turn(
 ) -> Turned
     requires { let asked = query leg.similarity file.now lists.now norms.now v.len order.now in
         Stands asked v (held places.old blocks.old) floats.old }
-    ensures { let asked = query leg.similarity (before file) (before lists) (before norms) v.len (before order) in
-        let old = held (before places) (before blocks) in
-        let new = held (after places) (after blocks) in
-        TakesTurn asked leg.threshold v old (before floats) result new (after floats) }
+    ensures { let asked = query leg.similarity file.now lists.now norms.now v.len order.now in
+        let old = held places.old blocks.old in
+        let new = held places.new blocks.new in
+        TakesTurn asked leg.threshold v old floats.old result new floats.new }
 {
     let stage = v.stage;
     match stage {

@@ -1,5 +1,5 @@
 -- `gather`'s loop: the skip readers before place i have gone on, and those from it on stand where they stood.
-use mathlib.Core.Bool.{Bool, false, not, true, true≢false}
+use mathlib.Core.Bool.{Bool, false, true, true≢false}
 use mathlib.Core.List.{List, map, [], ◌∷◌}
 use mathlib.Core.Logic.{inl, inr}
 use mathlib.Core.Path.{ap, refl, sym, ◌∙◌, ◌≡◌}
@@ -45,10 +45,6 @@ least-min a b (c ∷ l) = let m : min a (min b c) ≡ min (min a b) c = omega ar
 least-is : (s : Scorer Float) (ss : List (Scorer Float)) → least_last_doc 128 s ss ≡ least_of (last_doc_in_block 128 s) (map (last_doc_in_block 128) ss)
 least-is s [] = refl
 least-is s (y ∷ ss) = ap (min (last_doc_in_block 128 s)) (least-is y ss) ∙ least-min (last_doc_in_block 128 s) (last_doc_in_block 128 y) (map (last_doc_in_block 128) ss)
-
-pub not_back : (b c : Bool) → not b ≡ c → b ≡ not c
-not_back true c e = ap not e
-not_back false c e = ap not e
 
 -- below i or at it
 below-or-at : {k i : ℕ} → k < i + 1 → {P : Type 0} → (k < i → P) → (k ≡ i → P) → P
@@ -207,12 +203,12 @@ module _ (x : Query) (d leader_end : ℕ) (h₀ : Held) where
                   let l = G.low in
                   record { ready = record { seated = seated-there; kept = kept_there; long = G.ready.long }; leader = row-there 0 O.leader (λ z. omega arith) ∙ G.leader; secs-are = from_place (i - 1) 1 (omega arith) (omega arith) }
 
-            pub runs-out : not more ≡ true → Gathers x d leader_end h₀ places₁ bounds (record { remain = false; window_end = end; block_max_sum = total })
+            pub runs-out : more ≡ false → Gathers x d leader_end h₀ places₁ bounds (record { remain = false; window_end = end; block_max_sum = total })
             runs-out e =
-                let t = test-is ∙ not_back more true e in
+                let t = test-is ∙ e in
                 record { remain-is = sym (G.remain ∙ ap (all_remain 128 d) here ∙ rw t); gathered = λ f. absurd (true≢false (sym f)); run_out = λ _. ran_out t }
 
-            module _ (e : not more ≡ false) {last end' : ℕ} (el : last ≡ last_at places₁ q) (ee : end' ≡ min end last)
+            module _ (e : more ≡ true) {last end' : ℕ} (el : last ≡ last_at places₁ q) (ee : end' ≡ min end last)
                 {places₂ : List (List ℕ)} {bounds₂ : List Float} {b : Float} (B : Bounded x.scoring x.file x.lists q places₁ bounds places₂ bounds₂ b) where
               last-is : sought_last q ≡ last
               last-is = ap (last_doc_in_block 128) (sym sought-is) ∙ last-here seated-there hq ∙ sym el
@@ -229,7 +225,7 @@ module _ (x : Query) (d leader_end : ℕ) (h₀ : Held) where
 
               pub goes_on : Gathering (i + 1) end' (f32.add total b) places₂ bounds₂
               goes_on =
-                  let t = test-is ∙ not_back more false e in
+                  let t = test-is ∙ e in
                   record {
                     ready = known-ready x O.few seated-there hq B G.ready.long kept_there;
                     low = omega arith;

@@ -1,5 +1,5 @@
 -- `window` is one turn of the route: the leader's skip reader goes on, then the secondaries', and the bounds decide.
-use mathlib.Core.Bool.{false, not, true}
+use mathlib.Core.Bool.{Bool, false, not, true}
 use mathlib.Core.List.{List, map, [], ◌∷◌}
 use mathlib.Core.Path.{ap, refl, sym, ◌∙◌, ◌≡◌}
 use Prim.Native.Nat.{suc, ℕ, ◌<◌, ◌≤◌}
@@ -26,7 +26,6 @@ use Rattle.intersection_window.specs.declared.window.Secondaries.{Secondaries}
 use Rattle.intersection_window.specs.declared.window.Window.TheVariants.{Low, Open, Over}
 use Rattle.intersection_order.proofs.Seats.{last-here, last-low, moved-only, moved-scored, others-stay, row-scored, scorer-is, shallow-moves, still_kept, still-seated}
 use Rattle.intersection_window.proofs.Known.{known-cursor, known_only, known-ready, known-scored}
-use Rattle.intersection_window.proofs.Gathering.{not_back}
 
 all-sought : (d : ℕ) (ss : List (Scorer Float)) → all_remain 128 d ss ≡ true → seek_block_all 128 d ss ≡ map (seek_block 128 d) ss
 all-sought d [] e = refl
@@ -34,6 +33,10 @@ all-sought d (s ∷ ss) e =
     on_test (has_remaining_docs 128 (seek_block 128 d s))
     (λ t. rw t (ap (λ (z : List (Scorer Float)). seek_block 128 d s ∷ z) (all-sought d ss (rw t at e))))
     (λ t. let z : false ≡ true = rw t at e in absurd (let w : ◌≡◌ {A = ℕ} 0 1 = cc in omega arith))
+
+not_back : (b c : Bool) → not b ≡ c → b ≡ not c
+not_back true c e = ap not e
+not_back false c e = ap not e
 
 -- the route's turn, by what its tests show
 module _ (t : Float) (d : ℕ) (ld : Scorer Float) (ss : List (Scorer Float)) (live : d < TERMINATED) where

@@ -1,6 +1,5 @@
 // A window: all skip readers on the blocks that may hold a document, and the bounds of these blocks against the threshold.
 ghost use Rattle.std.specs.Prelude.{◌≡◌, min, ◌≤◌, ◌<◌};
-ghost use Rattle.arrays.specs.Lent.{before, after};
 ghost use Rattle.term_scorer.specs.Inner.Slots.{held, Sixteen};
 ghost use Rattle.term_scorer.specs.Inner.Weights.{FloatRows};
 ghost use Rattle.intersection_order.specs.Inner.Scorers.{query, InOrder, Ready};
@@ -13,7 +12,7 @@ use term_scorer::score::{Leg, Similarity};
 use term_scorer::{BOUNDS, Floats, RESTS, slot};
 
 // Whether every secondary has documents left, where the first of all present blocks ends, and the secondaries' bounds summed.
-#[derive(Drop)]
+#[derive(Clone, Copy)]
 pub struct Secondaries {
     pub remain: bool,
     pub window_end: u32,
@@ -21,7 +20,7 @@ pub struct Secondaries {
 }
 
 // No more windows; a window too low, by its end; or an open one, by its end and the secondaries' bounds.
-#[derive(Drop)]
+#[derive(Clone, Copy)]
 pub enum Window {
     Over,
     Low(u32),
@@ -52,9 +51,9 @@ fn gather(
     requires { let asked = query similarity file.now lists.now norms.now n order.now in
         let slots = held places.old blocks.now in
         InOrder asked × Ready asked slots bounds.old × (doc ≤ 2147483647) }
-    ensures { let asked = query similarity (before file) (before lists) (before norms) n (before order) in
-        let old = held (before places) (before blocks) in
-        Gathers asked doc leader_end old (after places) (after bounds) result }
+    ensures { let asked = query similarity file.now lists.now norms.now n order.now in
+        let old = held places.old blocks.now in
+        Gathers asked doc leader_end old places.new bounds.new result }
 {
     let mut window_end = leader_end;
     let mut block_max_sum = 0.0f32;
@@ -96,8 +95,8 @@ pub fn next_window(
 ) -> Window
     requires { let asked = query leg.similarity file.now lists.now norms.now n order.now in
         InOrder asked × Ready asked (held places.old blocks.old) bounds.old × (doc < 2147483647) }
-    ensures { let asked = query leg.similarity (before file) (before lists) (before norms) n (before order) in
-        Turns asked leg.threshold doc (held (before places) (before blocks)) result (held (after places) (after blocks)) (after bounds) }
+    ensures { let asked = query leg.similarity file.now lists.now norms.now n order.now in
+        Turns asked leg.threshold doc (held places.old blocks.old) result (held places.new blocks.new) bounds.new }
 {
     let similarity = leg.similarity;
     let q = order[0];
@@ -120,7 +119,7 @@ pub fn next_window(
 // Behind each secondary the sum of the bounds that follow, added from the last on.
 pub fn sum_rests(n: usize, order: &[usize; 16], floats: &mut Floats)
     requires { (0 < n) × (n ≤ 16) × Sixteen order.now × InSlots n order.now × FloatRows floats.old }
-    ensures { Sums n (before order) (before floats) (after floats) }
+    ensures { Sums n order.now floats.old floats.new }
 {
     let mut running = 0.0f32;
     let mut i = n;

@@ -1,7 +1,6 @@
 // One list: its rows 7 to 9, the bytes of its postings, and where the scores of its full blocks are highest.
 ghost use Rattle.std.specs.Prelude.{◌≡◌, cond, ◌+◌, ◌*◌, ◌/◌, ◌%◌, ◌≤◌, ◌<◌, eqb, length};
 ghost use Rattle.std.specs.Float.Ieee.{lt};
-ghost use Rattle.arrays.specs.Lent.{before, after};
 ghost use Rattle.bm25.specs.Inner.Weight.{WeightOf};
 ghost use Rattle.notefile.specs.Inner.Reads.{lower};
 ghost use Rattle.house.specs.Inner.Listed.{listed, Fits};
@@ -20,7 +19,7 @@ use posting_tests::tests::{copy, docs_right, freqs_right, places};
 use posting_tests::top::top_of;
 
 // What a list is refused for, of 7 to 9, and the bytes of its postings.
-#[derive(Drop)]
+#[derive(Clone, Copy)]
 pub struct ListPrice {
     pub refusal: u32,
     pub postings: usize,
@@ -38,7 +37,7 @@ fn load_block(
     block_freqs: &mut [u32; 128],
 ) -> u32
     requires { Standing docs.now freqs.now at n first }
-    ensures { Loaded (before docs) (before freqs) at n first limit result (after block_docs) (after block_freqs) }
+    ensures { Loaded docs.now freqs.now at n first limit result block_docs.new block_freqs.new }
 {
     let previous = doc_before(docs, at, first);
     if !docs_right(docs, at, n, first, previous, limit) {
@@ -65,7 +64,7 @@ fn tail_length(
     block_freqs: &mut [u32; 128],
 ) -> usize
     requires { Right docs.now freqs.now at n first }
-    ensures { (result ≡ tail_length (before docs) (before freqs) at n first) × (result ≤ 1280) }
+    ensures { (result ≡ tail_length docs.now freqs.now at n first) × (result ≤ 1280) }
 {
     let previous = doc_before(docs, at, first);
     places(block_docs);
@@ -99,7 +98,7 @@ fn refused(refusal: u32) -> ListPrice
 
 // The table has its 131,072 places.
 fn table(tops: &Tops) -> usize
-    ensures { length (before tops) ≡ 131072 }
+    ensures { length tops.now ≡ 131072 }
 {
     (&tops[..]).len()
 }
@@ -129,8 +128,8 @@ fn price_blocks(
 ) -> ListPrice
     requires { let y = listed reader norms.now w.weight w.average docs.now freqs.now from n in
         Fits y limit × WeightOf w.weight w.average w × (start + n / 128 ≤ 131072) }
-    ensures { let y = listed reader (before norms) w.weight w.average (before docs) (before freqs) from n in
-        BlocksPriced y limit start (before tops) result (after tops) }
+    ensures { let y = listed reader norms.now w.weight w.average docs.now freqs.now from n in
+        BlocksPriced y limit start tops.old result tops.new }
 {
     table(tops);
     code_byte(reader);
@@ -186,7 +185,7 @@ fn price_tail(
 ) -> ListPrice
     requires { let y = listed reader norms.now w.weight w.average docs.now freqs.now from n in
         Fits y limit × WeightOf w.weight w.average w }
-    ensures { let y = listed reader (before norms) w.weight w.average (before docs) (before freqs) from n in
+    ensures { let y = listed reader norms.now w.weight w.average docs.now freqs.now from n in
         TailPriced y limit result }
 {
     code_byte(reader);
@@ -258,8 +257,8 @@ pub fn price_list(
 ) -> ListPrice
     requires { let y = listed reader norms.now w.weight w.average docs.now freqs.now from n in
         Fits y limit × WeightOf w.weight w.average w × (start + n / 128 ≤ 131072) }
-    ensures { let y = listed reader (before norms) w.weight w.average (before docs) (before freqs) from n in
-        Priced y limit start (before tops) result (after tops) }
+    ensures { let y = listed reader norms.now w.weight w.average docs.now freqs.now from n in
+        Priced y limit start tops.old result tops.new }
 {
     let full = price_blocks(norms, reader, limit, w, docs, freqs, from, n, start, tops);
     if full.refusal == 7 {

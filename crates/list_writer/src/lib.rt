@@ -1,6 +1,7 @@
 // One list of contents written: its skip entries, its full blocks and its tail.
+#![tactic(auto)]
+
 ghost use Rattle.std.specs.Prelude.{◌≡◌, ◌++◌, ◌+◌, ◌*◌, ◌/◌, ◌≤◌, ◌<◌, length, get_or};
-ghost use Rattle.arrays.specs.Lent.{before, after};
 ghost use Rattle.fieldnorm.specs.Reader.{fieldnorm_id};
 ghost use Rattle.pieces.specs.Inner.Written.{Put};
 ghost use Rattle.pieces.specs.Inner.Two.{TwoPieces};
@@ -20,7 +21,7 @@ use notefile::block::{Block, DOCS, FREQS, sized};
 use packing::{num_bits, pack};
 
 // The codes of a block's bound.
-#[derive(Drop)]
+#[derive(Clone, Copy)]
 struct Pair {
     norm: u8,
     freq: u8,
@@ -42,8 +43,8 @@ fn freq_code(f: u32) -> u8
 // The pair of the posting at a place.
 fn pair_at(norms: &[u8], reader: FieldNormReader, docs: &[u32], freqs: &[u32], at: usize) -> Pair
     requires { (at < length docs.now) × (at < length freqs.now) }
-    ensures { (result.norm ≡ fieldnorm_id reader (before norms) (get_or (before docs) at 0))
-        × (result.freq ≡ freq_code (get_or (before freqs) at 0)) }
+    ensures { (result.norm ≡ fieldnorm_id reader norms.now (get_or docs.now at 0))
+        × (result.freq ≡ freq_code (get_or freqs.now at 0)) }
 {
     Pair {
         norm: reader.fieldnorm_id(norms, docs[at]),
@@ -62,7 +63,7 @@ fn fill(
     block: &mut Block,
 )
     requires { (n ≤ 128) × PostingsIn docs.now freqs.now from (128 * b + n) }
-    ensures { Filled (numbers_from (before docs) from) (numbers_from (before freqs) from) strict b n (after block) }
+    ensures { Filled (numbers_from docs.now from) (numbers_from freqs.now from) strict b n block.new }
 {
     sized(block);
     let at = from + 128 * b;
@@ -87,9 +88,9 @@ fn write_block(
     requires { let d = numbers_from docs.now from in let f = numbers_from freqs.now from in
         PostingsIn docs.now freqs.now from (128 * b + 128) × (skip + 8 ≤ place)
         × (place + length (block_bytes d f b) ≤ length out.old) }
-    ensures { let d = numbers_from (before docs) from in let f = numbers_from (before freqs) from in
+    ensures { let d = numbers_from docs.now from in let f = numbers_from freqs.now from in
         let entry = skip_entry (d (128 * b + 127)) (doc_bits d f b) (freq_bits d f b) pair.norm pair.freq in
-        (result ≡ place + length (block_bytes d f b)) × TwoPieces (before out) skip entry place (block_bytes d f b) (after out) }
+        (result ≡ place + length (block_bytes d f b)) × TwoPieces out.old skip entry place (block_bytes d f b) out.new }
 {
     fill(docs, freqs, from, b, 128, true, block);
     let doc_bits = num_bits(&block[DOCS]);
@@ -115,8 +116,8 @@ fn write_tail(
 ) -> usize
     requires { let bytes = tail_bytes (numbers_from docs.now from) (numbers_from freqs.now from) b n in
         (n ≤ 128) × PostingsIn docs.now freqs.now from (128 * b + n) × (place + length bytes ≤ length out.old) }
-    ensures { let bytes = tail_bytes (numbers_from (before docs) from) (numbers_from (before freqs) from) b n in
-        (result ≡ place + length bytes) × Put (before out) place bytes (after out) }
+    ensures { let bytes = tail_bytes (numbers_from docs.now from) (numbers_from freqs.now from) b n in
+        (result ≡ place + length bytes) × Put out.old place bytes out.new }
 {
     fill(docs, freqs, from, b, n, false, block);
     let middle = write_vints(&block[DOCS], n, out, place);
@@ -141,9 +142,9 @@ pub fn write_list(
         Sound d f n 1048576 × (from + n ≤ length docs.now) × (from + n ≤ length freqs.now)
         × TopsIn tops.now start (n / 128) × (n ≤ 1048576)
         × (place + length (skips_by norms.now reader d f tops.now start (n / 128)) + length (postings_bytes d f n) ≤ length out.old) }
-    ensures { let d = numbers_from (before docs) from in let f = numbers_from (before freqs) from in
-        let bytes = skips_by (before norms) reader d f (before tops) start (n / 128) ++ postings_bytes d f n in
-        (result ≡ place + length bytes) × Put (before out) place bytes (after out) }
+    ensures { let d = numbers_from docs.now from in let f = numbers_from freqs.now from in
+        let bytes = skips_by norms.now reader d f tops.now start (n / 128) ++ postings_bytes d f n in
+        (result ≡ place + length bytes) × Put out.old place bytes out.new }
 {
     let mut block = [[0u32; 128]; 2];
     let blocks = n / 128;

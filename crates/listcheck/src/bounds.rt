@@ -1,6 +1,5 @@
 // Bounds: whether a bound lies below no score that it covers.
 ghost use Rattle.std.specs.Prelude.{◌≡◌, ◌≤◌};
-ghost use Rattle.arrays.specs.Lent.{before};
 ghost use Rattle.bm25.specs.Bound.{all_covered};
 ghost use Rattle.notefile.specs.Header.{norm_reader};
 ghost use Rattle.notefile.specs.Inner.Given.{WeightIn};
@@ -22,7 +21,7 @@ pub fn scores_covered(
     block: &Block,
 ) -> bool
     requires { (reader ≡ norm_reader file.now) × WeightIn x w × (n ≤ 128) }
-    ensures { result ≡ all_covered bound n (score_among (before file) x (docs_of (before block)) (freqs_of (before block))) }
+    ensures { result ≡ all_covered bound n (score_among file.now x (docs_of block.now) (freqs_of block.now)) }
 {
     block_cover::covered(file, reader, w, &block[DOCS], &block[FREQS], n, bound)
 }

@@ -1,6 +1,5 @@
 // What one list is refused for: conditions 5 to 9, one pass over each block.
 ghost use Rattle.std.specs.Prelude.{◌≡◌, ◌≤◌};
-ghost use Rattle.arrays.specs.Lent.{before, after};
 ghost use Rattle.notefile.specs.Header.{documents, norm_reader};
 ghost use Rattle.notefile.specs.Lists.{block_at, full_blocks, previous_doc};
 ghost use Rattle.notefile.specs.Inner.Order.{blocks_refusal, list_refusal};
@@ -33,7 +32,7 @@ fn check_packed(
 ) -> u32
     requires { PackedIn file.now x b at × (e ≡ skip_entry_of file.now x b) × (limit ≡ documents file.now) × (limit ≤ 1048576)
         × (last_before file.now x b ≡ previous_doc file.now x b) × (last_before file.now x b ≤ 1048576) }
-    ensures { PackedRead (before file) x b result (after block) }
+    ensures { PackedRead file.now x b result block.new }
 {
     sized(block);
     let previous = last_before(file, x, b);
@@ -61,7 +60,7 @@ fn check_block(
 ) -> u32
     requires { Against file.now x limit reader w max_score × PackedIn file.now x b (block_at file.now x b)
         × (e ≡ skip_entry_of file.now x b) × PackedRead file.now x b found block.now }
-    ensures { result ≡ block_refusal (before file) x b }
+    ensures { result ≡ block_refusal file.now x b }
 {
     if found != 0 {
         return found;
@@ -98,7 +97,7 @@ fn check_tail(
     requires { Against file.now x limit reader w max_score × Skipped file.now x
         × TailValues file.now x (docs_of block.old) (freqs_of block.old)
         × (last_before file.now x (full_blocks x) ≡ previous_doc file.now x (full_blocks x)) }
-    ensures { result ≡ block_refusal (before file) x (full_blocks x) }
+    ensures { result ≡ block_refusal file.now x (full_blocks x) }
 {
     sized(block);
     let b = x.count / 128;
@@ -142,7 +141,7 @@ fn check_blocks(
     max_score: f32,
 ) -> u32
     requires { Against file.now x limit reader w max_score × BlocksIn file.now x }
-    ensures { result ≡ blocks_refusal (before file) x (full_blocks x) }
+    ensures { result ≡ blocks_refusal file.now x (full_blocks x) }
 {
     let blocks = x.count / 128;
     let mut block = [[0u32; 128]; 2];
@@ -173,7 +172,7 @@ pub fn check_list(
 ) -> u32
     requires { Parted file.now x × Limits x × NormsIn x norms.now
         × (limit ≡ documents file.now) × (limit ≤ 1048576) × (reader ≡ norm_reader file.now) }
-    ensures { result ≡ list_refusal (before file) x }
+    ensures { result ≡ list_refusal file.now x }
 {
     let place = tail_place(file, x);
     let TailPlace::At(at) = place else {

@@ -1,6 +1,7 @@
 // One machine for the runs of every mode.
+#![tactic(auto)]
+
 ghost use Rattle.std.specs.Prelude.{◌≡◌};
-ghost use Rattle.arrays.specs.Lent.{before, after};
 ghost use Rattle.notefile.specs.Header.{norm_reader};
 ghost use Rattle.machine.specs.declared.Machine.TheVariants as variant;
 ghost use Rattle.machine.specs.Inner.Stands.{tables, StandsIn};
@@ -20,7 +21,7 @@ use term_scorer::score::{Leg, Similarity};
 use union_turn::Union;
 
 // A run of any mode on its way: what of it stands in no table.
-#[derive(Drop)]
+#[derive(Clone, Copy)]
 pub enum Machine {
     Union(Union),
     Single(Single),
@@ -29,7 +30,7 @@ pub enum Machine {
 }
 
 // Where it came to, how many turns it took, and why it stands still.
-#[derive(Drop)]
+#[derive(Clone, Copy)]
 pub struct Gone {
     pub machine: Machine,
     pub taken: usize,
@@ -37,7 +38,7 @@ pub struct Gone {
 }
 
 // What is driven, and by which rule.
-#[derive(Drop)]
+#[derive(Clone, Copy)]
 pub struct Task {
     pub similarity: Similarity,
     pub machine: Machine,
@@ -110,9 +111,9 @@ pub fn go_on(
 ) -> Gone
     requires { let old = tables order.old places.old blocks.old floats.old in
         (leg.similarity.norms ≡ norm_reader file.now) × StandsIn file.now leg.similarity lists.now norms.now old machine }
-    ensures { let old = tables (before order) (before places) (before blocks) (before floats) in
-        let new = tables (after order) (after places) (after blocks) (after floats) in
-        GoesOn (before file) leg.similarity (before lists) (before norms) leg.threshold leg.turns old machine new result }
+    ensures { let old = tables order.old places.old blocks.old floats.old in
+        let new = tables order.new places.new blocks.new floats.new in
+        GoesOn file.now leg.similarity lists.now norms.now leg.threshold leg.turns old machine new result }
 {
     match machine {
         Machine::Union(v) => {

@@ -1,6 +1,7 @@
 // The blocks of a list, read with the tests of rows 6 to 8.
+#![tactic(auto)]
+
 ghost use Rattle.std.specs.Prelude.{◌≡◌, ◌≤◌, length};
-ghost use Rattle.arrays.specs.Lent.{before, after};
 ghost use Rattle.notefile.specs.Header.{documents};
 ghost use Rattle.notefile.specs.Lists.{previous_doc, tail_at};
 ghost use Rattle.notefile.specs.Inner.Structs.{skip_entry_of};
@@ -28,7 +29,7 @@ pub fn packed_docs(
 ) -> bool
     requires { PackedIn file.now x b at × (e ≡ skip_entry_of file.now x b) × (previous ≡ previous_doc file.now x b)
         × (limit ≡ documents file.now) × (limit ≤ 1048576) × (length docs.old ≡ 128) × (previous ≤ 1048576) }
-    ensures { DocsRead (before file) x b result (after docs) }
+    ensures { DocsRead file.now x b result docs.new }
 {
     unpack(file, at, e.doc_bits, docs);
     // 128 values of at most 24 bits, each with its 1, add up to at most 2^31.
@@ -50,7 +51,7 @@ pub fn packed_freqs(
     freqs: &mut [u32; 128],
 ) -> bool
     requires { PackedIn file.now x b at × (e ≡ skip_entry_of file.now x b) × (length freqs.old ≡ 128) }
-    ensures { FreqsRead (before file) x b result (after freqs) }
+    ensures { FreqsRead file.now x b result freqs.new }
 {
     unpack(file, at + 16 * (e.doc_bits as usize), e.freq_bits, freqs);
     frequencies(freqs, 128, e.strict)
@@ -59,7 +60,7 @@ pub fn packed_freqs(
 // The values of the tail's VInts, and whether row 6 lets them through.
 pub fn read_tail(file: &[u8], x: Part, at: usize, block: &mut Block) -> bool
     requires { Skipped file.now x × (at ≡ tail_at file.now x) × Sized block.old }
-    ensures { TailRead (before file) x (docs_of (before block)) (freqs_of (before block)) result (docs_of (after block)) (freqs_of (after block)) }
+    ensures { TailRead file.now x (docs_of block.old) (freqs_of block.old) result (docs_of block.new) (freqs_of block.new) }
 {
     if x.end < at {
         return false;

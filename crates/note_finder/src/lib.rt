@@ -5,8 +5,9 @@
 // (the modules Demand and Counts of `ranking`). The other modules that they name hold the definitions in that contract and laws of those:
 // requests and refusals, rows, outcomes, the plain scan's matches. No crate in which a run is made, between `request` and `ranking`, is in
 // this crate's line of crates.txt.
+#![tactic(auto)]
+
 ghost use Rattle.std.specs.Prelude.{◌≤◌};
-ghost use Rattle.arrays.specs.Lent.{before, after};
 ghost use Rattle.reports.specs.Rows.{rows_of};
 ghost use Rattle.reports.specs.Rows as lent;
 ghost use Rattle.note_finder.specs.Found.{FindIs, sought};
@@ -33,9 +34,9 @@ fn best_of_run(
     scores: &mut [f32],
 ) -> Outcome
     requires { k ≤ rows_of documents.old scores.old }
-    ensures { FindIs (sought (before file) (before query) mode scoring start k)
-        (lent.rows (before reported) (before values)) (lent.rows (before documents) (before scores))
-        result (lent.rows (after reported) (after values)) (lent.rows (after documents) (after scores)) }
+    ensures { FindIs (sought file.now query.now mode scoring start k)
+        (lent.rows reported.old values.old) (lent.rows documents.old scores.old)
+        result (lent.rows reported.new values.new) (lent.rows documents.new scores.new) }
 {
     let script: [f32; 0] = [];
     let rule = Rule::BestK(start, k);
@@ -63,9 +64,9 @@ pub fn find(
     documents: &mut [u32],
     scores: &mut [f32],
 ) -> Outcome
-    ensures { FindIs (sought (before file) (before query) mode scoring start k)
-        (lent.rows (before reported) (before values)) (lent.rows (before documents) (before scores))
-        result (lent.rows (after reported) (after values)) (lent.rows (after documents) (after scores)) }
+    ensures { FindIs (sought file.now query.now mode scoring start k)
+        (lent.rows reported.old values.old) (lent.rows documents.old scores.old)
+        result (lent.rows reported.new values.new) (lent.rows documents.new scores.new) }
 {
     if rows(documents, scores) < k as usize {
         let script: [f32; 0] = [];

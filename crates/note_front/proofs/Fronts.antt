@@ -58,7 +58,7 @@ module _ (h : Head) (norms : List ℕ) (weights : List Float) (counts postings :
           (
             omega (arith, F.few-lists),
             (
-              omega (arith, F.Code-in),
+              omega (arith, F.code_in),
               (omega (arith, F.few-documents), (omega arith, (bits_in h.average f, tt))),
             ),
           ),

@@ -1,5 +1,6 @@
 // What stands before the lists of a note file: its header, their entries and the norm bytes.
-ghost use Rattle.arrays.specs.Lent.{before, after};
+#![tactic(auto)]
+
 ghost use Rattle.pieces.specs.Inner.Written.{Put};
 ghost use Rattle.note_front.specs.Inner.Front.{all_entries, EntriesFit, FrontFits, front_bytes};
 
@@ -10,7 +11,7 @@ use pieces::copy_bytes;
 // The entries of the lists, each with the length of its postings; a skip entry of 8 bytes stands for each full block.
 fn write_entries(weights: &[f32], counts: &[u32], postings: &[usize; 16], out: &mut [u8])
     requires { EntriesFit weights.now counts.now postings.now out.old }
-    ensures { Put (before out) 9 (all_entries (before weights) (before counts) (before postings)) (after out) }
+    ensures { Put out.old 9 (all_entries weights.now counts.now postings.now) out.new }
 {
     let mut l: usize = 0;
     while l < counts.len() {
@@ -38,7 +39,7 @@ pub fn write_front(
     out: &mut [u8],
 )
     requires { FrontFits h norms.now weights.now counts.now postings.now out.old }
-    ensures { Put (before out) 0 (front_bytes h (before norms) (before weights) (before counts) (before postings)) (after out) }
+    ensures { Put out.old 0 (front_bytes h norms.now weights.now counts.now postings.now) out.new }
 {
     write_header(
         out,

@@ -1,6 +1,7 @@
 // What contents are refused for, and the lengths of their file's parts: the first half of writing, which writes nothing.
+#![tactic(auto)]
+
 ghost use Rattle.std.specs.Prelude.{◌≡◌};
-ghost use Rattle.arrays.specs.Lent.{before, after};
 ghost use Rattle.contents.specs.Refusal.{head_refusal};
 ghost use Rattle.contents.specs.Inner.Handed.{contents_of};
 ghost use Rattle.house.specs.Inner.Whole.{PricedWhole};
@@ -21,8 +22,8 @@ fn price_lists(
     tops: &mut Tops,
 ) -> Price
     requires { head_refusal (contents_of h norms.now weights.now counts.now docs.now freqs.now) ≡ 0 }
-    ensures { let c = contents_of h (before norms) (before weights) (before counts) (before docs) (before freqs) in
-        PricedWhole c result (after tops) }
+    ensures { let c = contents_of h norms.now weights.now counts.now docs.now freqs.now in
+        PricedWhole c result tops.new }
 {
     let limit = h.documents;
     let reader = reader_of(h);
@@ -70,8 +71,8 @@ pub fn price(
     freqs: &[u32],
     tops: &mut Tops,
 ) -> Price
-    ensures { let c = contents_of h (before norms) (before weights) (before counts) (before docs) (before freqs) in
-        PricedWhole c result (after tops) }
+    ensures { let c = contents_of h norms.now weights.now counts.now docs.now freqs.now in
+        PricedWhole c result tops.new }
 {
     let refusal = head_refusal(h, norms, weights, counts, docs, freqs);
     if refusal != 0 {

@@ -1,6 +1,7 @@
 // The writer of note files: contents are priced, which tells their refusal or the lengths of the file's parts, and then written.
+#![tactic(auto)]
+
 ghost use Rattle.std.specs.Prelude.{◌≡◌};
-ghost use Rattle.arrays.specs.Lent.{before, after};
 ghost use Rattle.contents.specs.Contents.{handed};
 ghost use Rattle.note_writer.specs.Writes.{WriteIs, number_of, length_of};
 
@@ -9,7 +10,7 @@ use file_writer::write_file;
 use note_price::price;
 
 // The file is written, with its length; or the contents or the output are refused, with the table's number.
-#[derive(Drop)]
+#[derive(Clone, Copy)]
 pub enum Written {
     File(usize),
     Refused(u32),
@@ -25,9 +26,9 @@ pub fn write(
     freqs: &[u32],
     out: &mut [u8],
 ) -> Written
-    ensures { let c = handed h.documents h.kind h.code (before norms) h.average (before weights) (before counts)
-        (before docs) (before freqs) in
-        WriteIs c (before out) result (after out) }
+    ensures { let c = handed h.documents h.kind h.code norms.now h.average weights.now counts.now
+        docs.now freqs.now in
+        WriteIs c out.old result out.new }
 {
     let mut tops = [0u8; 131072];
     let p = price(h, norms, weights, counts, docs, freqs, &mut tops);

@@ -1,6 +1,5 @@
 // Whether a file is accepted: the table's conditions 1 to 9 in its order.
 ghost use Rattle.std.specs.Prelude.{◌≡◌};
-ghost use Rattle.arrays.specs.Lent.{before};
 ghost use Rattle.notefile.specs.Refusal.{file_refusal};
 ghost use Rattle.notefile.specs.Inner.Order.{lists_refusal};
 ghost use Rattle.notefile.specs.Inner.Given.{FileIn};
@@ -16,7 +15,7 @@ use notefile::header::{
 use notefile::part::{read_part, skips_at};
 
 // A file is accepted, or refused with a number of the table.
-#[derive(Drop)]
+#[derive(Clone, Copy)]
 pub enum Checked {
     Accepted,
     Refused(u32),
@@ -25,7 +24,7 @@ pub enum Checked {
 // What the lists are refused for, the first list's refusal first.
 fn check_lists(file: &[u8], h: Header) -> u32
     requires { FileIn file.now h }
-    ensures { result ≡ lists_refusal (before file) h.lists }
+    ensures { result ≡ lists_refusal file.now h.lists }
 {
     let lists = h.lists;
     let reader = norm_reader(file, h);
@@ -47,7 +46,7 @@ fn check_lists(file: &[u8], h: Header) -> u32
 
 // The number that a file is refused with, or 0.
 fn refusal(file: &[u8]) -> u32
-    ensures { result ≡ file_refusal (before file) }
+    ensures { result ≡ file_refusal file.now }
 {
     if !header_right(file) {
         return 1;
@@ -72,7 +71,7 @@ fn refusal(file: &[u8]) -> u32
 
 // Whether a file is accepted, for any bytes at all.
 pub fn check(file: &[u8]) -> Checked
-    ensures { result ≡ answer_of (file_refusal (before file)) }
+    ensures { result ≡ answer_of (file_refusal file.now) }
 {
     let n = refusal(file);
     if n == 0 {

@@ -1,6 +1,5 @@
 // A decoded block: two arrays of 128 places.
 ghost use Rattle.std.specs.Prelude.{◌≡◌, length};
-ghost use Rattle.arrays.specs.Lent.{before};
 ghost use Rattle.notefile.specs.Inner.Reads.{Sized};
 
 // What stands for the document behind a list's last one.
@@ -15,14 +14,14 @@ pub const FREQS: usize = 1;
 
 // An array of 128 has 128 places.
 fn places(values: &[u32; 128]) -> usize
-    ensures { (result ≡ 128) × (length (before values) ≡ 128) }
+    ensures { (result ≡ 128) × (length values.now ≡ 128) }
 {
     (&values[..]).len()
 }
 
 // A block has two arrays of 128 places.
 pub fn sized(block: &Block) -> usize
-    ensures { (result ≡ 2) × Sized (before block) }
+    ensures { (result ≡ 2) × Sized block.now }
 {
     places(&block[DOCS]);
     places(&block[FREQS]);

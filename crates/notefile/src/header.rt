@@ -1,6 +1,5 @@
 // The header.
 ghost use Rattle.std.specs.Prelude.{◌≡◌, ◌≤◌, length};
-ghost use Rattle.arrays.specs.Lent.{before};
 ghost use Rattle.notefile.specs.Header.{average_bits, norm_reader};
 ghost use Rattle.notefile.specs.Inner.Structs.{header_of};
 ghost use Rattle.notefile.specs.Inner.Given.{HeaderIn};
@@ -14,7 +13,7 @@ pub const HEADER_LENGTH: usize = 9;
 pub const ENTRY_LENGTH: usize = 13;
 
 // The header's fields but the average.
-#[derive(Drop)]
+#[derive(Clone, Copy)]
 pub struct Header {
     pub version: u32,
     pub kind: u32,
@@ -27,7 +26,7 @@ pub struct Header {
 // The header of a file that has one.
 pub fn read_header(file: &[u8]) -> Header
     requires { 9 ≤ length file.now }
-    ensures { result ≡ header_of (before file) }
+    ensures { result ≡ header_of file.now }
 {
     let x = read_be(file, 0, 5);
     Header {
@@ -43,7 +42,7 @@ pub fn read_header(file: &[u8]) -> Header
 // The average field length of list l, as bits: the header has one for every list.
 pub fn read_average(file: &[u8], l: usize) -> u32
     requires { 9 ≤ length file.now }
-    ensures { result ≡ average_bits (before file) l }
+    ensures { result ≡ average_bits file.now l }
 {
     read_be(file, 5, 4) as u32
 }
@@ -51,7 +50,7 @@ pub fn read_average(file: &[u8], l: usize) -> u32
 // Where the norm codes stand.
 pub fn norm_reader(file: &[u8], h: Header) -> FieldNormReader
     requires { HeaderIn file.now h }
-    ensures { result ≡ norm_reader (before file) }
+    ensures { result ≡ norm_reader file.now }
 {
     if h.kind == 0 {
         return FieldNormReader::FromData(HEADER_LENGTH + ENTRY_LENGTH * h.lists);

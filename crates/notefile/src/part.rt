@@ -1,6 +1,5 @@
 // Each list's entry, and the parts of the file.
 ghost use Rattle.std.specs.Prelude.{◌≡◌, ◌+◌, ◌*◌, ◌≤◌, ◌<◌, length};
-ghost use Rattle.arrays.specs.Lent.{before};
 ghost use Rattle.notefile.specs.Parts.{entry_at, skips_at, part_of};
 ghost use Rattle.notefile.specs.Inner.Given.{HeaderIn, Limits, NormsIn, WeightIn};
 
@@ -10,7 +9,7 @@ use codec::bits::read_be;
 
 // A list's entry, with the places of its skip bytes and its postings. Weight and average are bits; `skip_entry_len` is the length of one
 // skip entry.
-#[derive(Drop)]
+#[derive(Clone, Copy)]
 pub struct Part {
     pub weight: u32,
     pub average: u32,
@@ -24,7 +23,7 @@ pub struct Part {
 // List l's part, whose skip bytes stand at a place. The nine bytes after the weight are read as two numbers of eight bytes.
 fn part_at(file: &[u8], l: usize, at: usize) -> Part
     requires { (entry_at (l + 1) ≤ length file.now) × (l < 32) × (at ≡ skips_at file.now l) × (at < 1099511627776) }
-    ensures { result ≡ part_of (before file) l }
+    ensures { result ≡ part_of file.now l }
 {
     let e = HEADER_LENGTH + ENTRY_LENGTH * l;
     let weight = read_be(file, e, 4) as u32;
@@ -47,7 +46,7 @@ fn part_at(file: &[u8], l: usize, at: usize) -> Part
 // Where list n's skip bytes stand; of the list count, where the parts end.
 pub fn skips_at(file: &[u8], h: Header, n: usize) -> usize
     requires { HeaderIn file.now h × (n ≤ h.lists) }
-    ensures { (result ≡ skips_at (before file) n) × (result ≤ 2097152 + 134217728 * n) }
+    ensures { (result ≡ skips_at file.now n) × (result ≤ 2097152 + 134217728 * n) }
 {
     let mut at = HEADER_LENGTH + ENTRY_LENGTH * h.lists;
     if h.kind == 0 {
@@ -65,7 +64,7 @@ pub fn skips_at(file: &[u8], h: Header, n: usize) -> usize
 // List l's part.
 pub fn read_part(file: &[u8], h: Header, l: usize) -> Part
     requires { HeaderIn file.now h × (l < h.lists) }
-    ensures { result ≡ part_of (before file) l }
+    ensures { result ≡ part_of file.now l }
 {
     part_at(file, l, skips_at(file, h, l))
 }

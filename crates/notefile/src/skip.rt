@@ -1,6 +1,5 @@
 // Skip entries: one for each full block of a list.
 ghost use Rattle.std.specs.Prelude.{◌≡◌, ◌+◌, ◌≤◌, ◌<◌, length};
-ghost use Rattle.arrays.specs.Lent.{before};
 ghost use Rattle.notefile.specs.Skips.{skip_entry_at};
 ghost use Rattle.notefile.specs.Lists.{full_blocks};
 ghost use Rattle.notefile.specs.Inner.Structs.{last_before, skip_entry_of};
@@ -10,7 +9,7 @@ use crate::part::Part;
 use codec::bits::{read_u32, wide};
 
 // A skip entry: the block's last document, the widths of its documents and frequencies, whether it is strict, and the codes of its bound.
-#[derive(Drop)]
+#[derive(Clone, Copy)]
 pub struct SkipEntry {
     pub last: u32,
     pub doc_bits: u32,
@@ -23,7 +22,7 @@ pub struct SkipEntry {
 // Where block b's skip entry stands.
 pub fn skip_entry_at(file: &[u8], x: Part, b: usize) -> usize
     requires { Skipped file.now x × (b < full_blocks x) }
-    ensures { (result ≡ skip_entry_at x b) × (8 ≤ x.skip_entry_len) × (result + x.skip_entry_len ≤ length (before file)) }
+    ensures { (result ≡ skip_entry_at x b) × (8 ≤ x.skip_entry_len) × (result + x.skip_entry_len ≤ length file.now) }
 {
     x.skips + x.skip_entry_len * b
 }
@@ -31,7 +30,7 @@ pub fn skip_entry_at(file: &[u8], x: Part, b: usize) -> usize
 // Block b's skip entry.
 pub fn read_skip_entry(file: &[u8], x: Part, b: usize) -> SkipEntry
     requires { Skipped file.now x × (b < full_blocks x) }
-    ensures { result ≡ skip_entry_of (before file) x b }
+    ensures { result ≡ skip_entry_of file.now x b }
 {
     let at = skip_entry_at(file, x, b);
     let byte = wide(file[at + 4]);
@@ -48,7 +47,7 @@ pub fn read_skip_entry(file: &[u8], x: Part, b: usize) -> SkipEntry
 // The last document before block b, by its skip entry; 0 before the first.
 pub fn last_before(file: &[u8], x: Part, b: usize) -> u32
     requires { Skipped file.now x × (b ≤ full_blocks x) }
-    ensures { result ≡ last_before (before file) x b }
+    ensures { result ≡ last_before file.now x b }
 {
     if b == 0 {
         return 0;

@@ -1,11 +1,12 @@
-// The C interface: the entry points with numbers and slices alone.
+// The entry points with numbers and slices alone, as C calls them by the crate noterank_c.
+#![tactic(auto)]
+
 ghost use Rattle.std.specs.Prelude.{◌≡◌};
-ghost use Rattle.arrays.specs.Lent.{before, after};
 ghost use Rattle.notefile.specs.Refusal.{file_refusal};
 ghost use Rattle.notefile.specs.Inner.Order.{or_else};
 ghost use Rattle.reports.specs.Rows.{rows};
 ghost use Rattle.request.specs.Request.{asked};
-ghost use Rattle.ranking.specs.Demand.{result};
+ghost use Rattle.ranking.specs.Demand.{result as returned};
 ghost use Rattle.contents.specs.Contents.{handed};
 ghost use Rattle.noterank.specs.Interface.{Ranked, Found, seeking, WroteFile};
 ghost use Rattle.noterank.specs.Inner.Calls.{numbers_refusal, OutcomeBy};
@@ -23,9 +24,8 @@ use request::{Mode, query_refusal};
 use rule::Rule;
 
 // 0 for an accepted file, or the number of its refusal.
-#[unsafe(no_mangle)]
-pub extern "C" fn noterank_check(file: &[u8]) -> u32
-    ensures* { λ r. ⌜ r ≡ file_refusal (before file) ⌝ }
+pub fn noterank_check(file: &[u8]) -> u32
+    ensures { result ≡ file_refusal file.now }
 {
     match check(file) {
         Checked::Accepted => 0,
@@ -35,7 +35,7 @@ pub extern "C" fn noterank_check(file: &[u8]) -> u32
 
 // The first of two refusals, 0 being none.
 fn or_else(first: u32, later: u32) -> u32
-    ensures* { λ r. ⌜ r ≡ or_else first later ⌝ }
+    ensures { result ≡ or_else first later }
 {
     if first != 0 {
         return first;
@@ -45,7 +45,7 @@ fn or_else(first: u32, later: u32) -> u32
 
 // The refusal of a walk, a mode, a scoring or a rule outside its numbers, in the table's order, or 0.
 fn numbers_refusal(file: &[u8], query: &[u32], walk: u32, mode: u32, scoring: u32, rule: u32) -> u32
-    ensures* { λ r. ⌜ r ≡ numbers_refusal (before file) (before query) walk mode scoring rule ⌝ }
+    ensures { result ≡ numbers_refusal file.now query.now walk mode scoring rule }
 {
     if walk <= 1 {
         if mode <= 2 {
@@ -72,9 +72,8 @@ fn by_walk(
     documents: &mut [u32],
     scores: &mut [f32],
 ) -> Outcome
-    ensures* { λ r.
-        let q = asked (before file) (before query) mode scoring rule (before script) in
-        ⌜ OutcomeBy walk q (rows (before documents) (before scores)) r (rows (after documents) (after scores)) ⌝ }
+    ensures { let q = asked file.now query.now mode scoring rule script.now in
+        OutcomeBy walk q (rows documents.old scores.old) result (rows documents.new scores.new) }
 {
     if walk == 0 {
         return run(file, query, mode, scoring, rule, script, documents, scores);
@@ -83,8 +82,7 @@ fn by_walk(
 }
 
 // One run; the header says what each number stands for.
-#[unsafe(no_mangle)]
-pub extern "C" fn noterank_run(
+pub fn noterank_run(
     file: &[u8],
     query: &[u32],
     walk: u32,
@@ -98,22 +96,21 @@ pub extern "C" fn noterank_run(
     scores: &mut [f32],
     count: &mut u32,
 ) -> u32
-    ensures* { λ r.
-        let old = rows (before documents) (before scores) in
-        let new = rows (after documents) (after scores) in
-        ⌜ Ranked
+    ensures { let old = rows documents.old scores.old in
+        let new = rows documents.new scores.new in
+        Ranked
         (record {
-          file = before file;
-          query = before query;
+          file = file.now;
+          query = query.now;
           walk = walk;
           mode = mode;
           scoring = scoring;
           rule = rule;
           start = start;
           k = k;
-          script = before script;
+          script = script.now;
         })
-        old (result r (after count) new) ⌝ }
+        old (returned result count.new new) }
 {
     let number = numbers_refusal(file, query, walk, mode, scoring, rule);
     if number != 0 {
@@ -136,8 +133,7 @@ pub extern "C" fn noterank_run(
 }
 
 // The note file of contents; the header says what each argument is.
-#[unsafe(no_mangle)]
-pub extern "C" fn noterank_write(
+pub fn noterank_write(
     documents: u32,
     kind: u32,
     code: u32,
@@ -150,9 +146,8 @@ pub extern "C" fn noterank_write(
     out: &mut [u8],
     length: &mut u32,
 ) -> u32
-    ensures* { λ r.
-        let c = handed documents kind code (before norms) average (before weights) (before counts) (before docs) (before freqs) in
-        ⌜ WroteFile c (before out) r (after length) (after out) ⌝ }
+    ensures { let c = handed documents kind code norms.now average weights.now counts.now docs.now freqs.now in
+        WroteFile c out.old result length.new out.new }
 {
     let h = Head {
         documents,
@@ -166,8 +161,7 @@ pub extern "C" fn noterank_write(
 }
 
 // The k best notes of a query; the header says what each argument is.
-#[unsafe(no_mangle)]
-pub extern "C" fn noterank_find(
+pub fn noterank_find(
     file: &[u8],
     query: &[u32],
     mode: u32,
@@ -180,11 +174,10 @@ pub extern "C" fn noterank_find(
     scores: &mut [f32],
     count: &mut u32,
 ) -> u32
-    ensures* { λ r.
-        let reports = rows (before report_documents) (before report_scores) in
-        let reports' = rows (after report_documents) (after report_scores) in
-        ⌜ Found (seeking (before file) (before query) mode scoring start k) reports (rows (before documents) (before scores))
-        reports' (result r (after count) (rows (after documents) (after scores))) ⌝ }
+    ensures { let reports = rows report_documents.old report_scores.old in
+        let reports' = rows report_documents.new report_scores.new in
+        Found (seeking file.now query.now mode scoring start k) reports (rows documents.old scores.old)
+        reports' (returned result count.new (rows documents.new scores.new)) }
 {
     let number = numbers_refusal(file, query, 0, mode, scoring, 1);
     *count = 0;

@@ -1,6 +1,6 @@
 -- What the places that are found tell of the scorers: the pivot's, and the place of the scorer to seek.
 use mathlib.Core.List.{List, [], ◌∷◌}
-use mathlib.Core.Path.{ap, refl, sym, ◌∙◌, ◌≡◌}
+use mathlib.Core.Path.{ap, refl, sym, subst, ◌∙◌, ◌≡◌}
 use Prim.Native.Nat.{suc, ℕ, ◌+◌, ◌-◌, ◌<◌, ◌≤◌}
 use native.Mathlib.Omega.{arith}
 use lib.Dec.{eqb}
@@ -42,7 +42,7 @@ found_at l b₀ b k d (s ∷ ss) e q =
     record {
       first = omega arith;
       inside = omega arith;
-      on = rw (piv, nd) (refl, count-on s.doc ss);
+      on = rw piv (subst (λ (z : ℕ). All (λ r. r.doc ≡ z) (s ∷ take c ss)) (sym nd) (refl, count-on s.doc ss));
       live = λ z. eqb-false s.doc TERMINATED t (sym nd ∙ z);
     })
 

@@ -1,10 +1,12 @@
 // What a run returns.
+#![tactic(auto)]
+
 ghost use Rattle.std.specs.Prelude.{◌≡◌};
 ghost use Rattle.outcome.specs.Outcomes.{count_of, number_of};
 ghost use Rattle.outcome.specs.Inner.Finished.{finished};
 
 // The list is whole, with its length; or a report was due and the rows were full, with their number; or the table's number from 1 to 11.
-#[derive(Drop)]
+#[derive(Clone, Copy)]
 pub enum Outcome {
     Done(usize),
     Full(usize),

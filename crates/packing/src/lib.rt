@@ -1,6 +1,7 @@
 // Packed blocks: 128 values of one width from 0 to 32, in four lanes; and the least width that holds them.
+#![tactic(auto)]
+
 ghost use Rattle.std.specs.Prelude.{◌≡◌, ◌+◌, ◌*◌, ◌≤◌, ◌<◌, length};
-ghost use Rattle.arrays.specs.Lent.{before, after};
 ghost use Rattle.pieces.specs.Inner.Written.{Put};
 ghost use Rattle.packing.specs.Packing.{packed_block};
 ghost use Rattle.packing.specs.Width.{least_width};
@@ -18,7 +19,7 @@ fn wide(x: u32) -> u64
 // The packed block of 128 values, a row of four lanes at a time: `word` words of each lane are written, and `shift` bits of it are kept.
 pub fn pack(values: &[u32; 128], width: u32, out: &mut [u8], at: usize)
     requires { Fitting values.now width × (at + 16 * width ≤ length out.old) }
-    ensures { Put (before out) at (packed_block (before values) width) (after out) }
+    ensures { Put out.old at (packed_block values.now width) out.new }
 {
     let mut a: u64 = 0;
     let mut b: u64 = 0;
@@ -60,7 +61,7 @@ fn told(x: u32) -> u32
 // The least width that holds 128 values: that of all their bits together.
 pub fn num_bits(values: &[u32; 128]) -> u32
     requires { length values.now ≡ 128 }
-    ensures { result ≡ least_width (before values) }
+    ensures { result ≡ least_width values.now }
 {
     let mut all: u32 = 0;
     let mut i: usize = 0;

@@ -1,13 +1,14 @@
 // Bytes written into lent memory, one piece after another.
+#![tactic(auto)]
+
 ghost use Rattle.std.specs.Prelude.{◌+◌, ◌≤◌, length};
-ghost use Rattle.arrays.specs.Lent.{before, after};
 ghost use Rattle.pieces.specs.Bytes.{little_byte, big_byte};
 ghost use Rattle.pieces.specs.Inner.Written.{Written, Put};
 
 // The low four bytes of a number, little-endian.
 pub fn write_low(out: &mut [u8], at: usize, v: u64)
     requires { at + 4 ≤ length out.old }
-    ensures { Written (before out) at 4 (little_byte v) (after out) }
+    ensures { Written out.old at 4 (little_byte v) out.new }
 {
     out[at] = (v % 256) as u8;
     out[at + 1] = (v / 256 % 256) as u8;
@@ -18,7 +19,7 @@ pub fn write_low(out: &mut [u8], at: usize, v: u64)
 // The low four bytes of a number, the highest first.
 pub fn write_be4(out: &mut [u8], at: usize, v: u64)
     requires { at + 4 ≤ length out.old }
-    ensures { Written (before out) at 4 (big_byte 4 v) (after out) }
+    ensures { Written out.old at 4 (big_byte 4 v) out.new }
 {
     out[at] = (v / 16777216 % 256) as u8;
     out[at + 1] = (v / 65536 % 256) as u8;
@@ -29,7 +30,7 @@ pub fn write_be4(out: &mut [u8], at: usize, v: u64)
 // The low five.
 pub fn write_be5(out: &mut [u8], at: usize, v: u64)
     requires { at + 5 ≤ length out.old }
-    ensures { Written (before out) at 5 (big_byte 5 v) (after out) }
+    ensures { Written out.old at 5 (big_byte 5 v) out.new }
 {
     out[at] = (v / 4294967296 % 256) as u8;
     out[at + 1] = (v / 16777216 % 256) as u8;
@@ -41,7 +42,7 @@ pub fn write_be5(out: &mut [u8], at: usize, v: u64)
 // All of a slice.
 pub fn copy_bytes(from: &[u8], out: &mut [u8], at: usize)
     requires { at + length from.now ≤ length out.old }
-    ensures { Put (before out) at (before from) (after out) }
+    ensures { Put out.old at from.now out.new }
 {
     let mut i: usize = 0;
     while i < from.len() {

@@ -1,6 +1,7 @@
 // The plain scan: every document that some list has, upward, with the scores of all lists that have it.
+#![tactic(auto)]
+
 ghost use Rattle.std.specs.Prelude.{◌≡◌, ◌≤◌, ◌<◌};
-ghost use Rattle.arrays.specs.Lent.{before, after};
 ghost use Rattle.notefile.specs.Header.{norm_reader};
 ghost use Rattle.term_scorer.specs.Inner.Slots.{held};
 ghost use Rattle.plain_scan.specs.Inner.Heads.{AllWeighed, Standing, Taken};
@@ -15,7 +16,7 @@ use term_scorer::score::Leg;
 use term_scorer::slot;
 
 // A plain scan on its way: over the lists of the first slots, from document doc on; whether a document must be in every list.
-#[derive(Drop)]
+#[derive(Clone, Copy)]
 pub struct Plain {
     pub len: usize,
     pub all: bool,
@@ -23,7 +24,7 @@ pub struct Plain {
 }
 
 // Where it came to, how many turns it took, each of one document, and why it stands still.
-#[derive(Drop)]
+#[derive(Clone, Copy)]
 pub struct Gone {
     pub plain: Plain,
     pub taken: usize,
@@ -45,8 +46,8 @@ fn take_document(
     requires { let slots = held places.old blocks.old in
         (n ≤ 16) × (leg.similarity.norms ≡ norm_reader file.now) × AllWeighed lists.now norms.now n
         × Standing leg.similarity.scoring file.now lists.now n doc slots heads.old × (doc < 2147483647) }
-    ensures { let new = held (after places) (after blocks) in
-        Taken leg.similarity.scoring (before file) (before lists) n doc result new (after heads) }
+    ensures { let new = held places.new blocks.new in
+        Taken leg.similarity.scoring file.now lists.now n doc result new heads.new }
 {
     let similarity = leg.similarity;
     let mut found = Found {
@@ -91,8 +92,8 @@ pub fn go(
     requires { let slots = held places.old blocks.old in
         (leg.similarity.norms ≡ norm_reader file.now)
         × PlainStands leg.similarity.scoring file.now lists.now norms.now slots plain }
-    ensures { let new = held (after places) (after blocks) in
-        GoneOn leg.similarity.scoring (before file) (before lists) (before norms) leg.threshold leg.turns plain new result }
+    ensures { let new = held places.new blocks.new in
+        GoneOn leg.similarity.scoring file.now lists.now norms.now leg.threshold leg.turns plain new result }
 {
     let turns = leg.turns;
     let n = plain.len;

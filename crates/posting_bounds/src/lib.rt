@@ -1,7 +1,8 @@
 // Block bounds: a full block's from its skip entry, a tail's from its scores once they are loaded.
+#![tactic(auto)]
+
 ghost use Rattle.std.specs.Prelude.{◌≡◌, min, ◌-◌, ◌≤◌, get_or, length};
 ghost use Rattle.std.specs.Float.{nan};
-ghost use Rattle.arrays.specs.Lent.{before, after};
 ghost use Rattle.route.specs.Cursor.{block_max};
 ghost use Rattle.route.specs.F32.{f32};
 ghost use Rattle.bm25.specs.Scoring.{scored};
@@ -26,7 +27,7 @@ use skip_reader::skip::BlockInfo;
 // The largest of the first n scores, or 0 where there is none.
 fn max_score(scores: &[f32; 128], n: usize) -> f32
     requires { n ≤ 128 }
-    ensures { result ≡ most_of (λ i. get_or (before scores) i nan) n }
+    ensures { result ≡ most_of (λ i. get_or scores.now i nan) n }
 {
     if n == 0 {
         return 0.0;
@@ -51,7 +52,7 @@ fn tail_max_score(
     block: &Block,
 ) -> f32
     requires { (norms ≡ norm_reader file.now) × WeightIn x w × (n ≤ 128) × Below 2147483648 (docs_of block.now) }
-    ensures { result ≡ most_of (λ i. scored scoring (score_among (before file) x (docs_of (before block)) (freqs_of (before block)) i)) n }
+    ensures { result ≡ most_of (λ i. scored scoring (score_among file.now x (docs_of block.now) (freqs_of block.now) i)) n }
 {
     let mut scores = [0.0f32; 128];
     bm25_block::score_block(
@@ -79,7 +80,7 @@ pub fn block_max_score(
     block: &Block,
 ) -> f32
     requires { ListIn file.now x × (norms ≡ norm_reader file.now) × WeightIn x w × Placed file.now x p block.now }
-    ensures { result ≡ block_max 128 f32 (list_of scoring (before file) x) (cursor_of p) }
+    ensures { result ≡ block_max 128 f32 (list_of scoring file.now x) (cursor_of p) }
 {
     let reader = p.skip_reader;
     let info = reader.block_info;
@@ -122,7 +123,7 @@ pub fn bounds_ahead(
     bounds: &mut [f32; 128],
 )
     requires { ListIn file.now x × WeightIn x w × (b ≤ full_blocks x) × (at ≤ 121) × (length bounds.old ≡ 128) }
-    ensures { BoundsAhead (list_of scoring (before file) x) b at (before bounds) (after bounds) }
+    ensures { BoundsAhead (list_of scoring file.now x) b at bounds.old bounds.new }
 {
     let n = full_ahead(x.count / 128, b);
     let mut k = 0usize;

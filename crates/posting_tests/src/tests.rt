@@ -1,6 +1,5 @@
 // Rows 7 and 8 of the table, tried on a block's postings where they stand in their buffers.
 ghost use Rattle.std.specs.Prelude.{◌≡◌, true, ◌+◌, ◌-◌, ◌≤◌, ltb, length, get_or};
-ghost use Rattle.arrays.specs.Lent.{before, after};
 ghost use Rattle.arrays.specs.Every.{every};
 ghost use Rattle.compression.specs.Documents.{rising_below};
 ghost use Rattle.frequencies.specs.Frequencies.{freqs_right};
@@ -9,7 +8,7 @@ ghost use Rattle.encode.specs.Inner.Fronted.{Fronted};
 // Whether each of n documents is above the one before it.
 fn rising(docs: &[u32], at: usize, n: usize) -> bool
     requires { at + n ≤ length docs.now }
-    ensures { result ≡ every (n - 1) (λ i. ltb (get_or (before docs) (at + i) 0) (get_or (before docs) (at + i + 1) 0)) }
+    ensures { result ≡ every (n - 1) (λ i. ltb (get_or docs.now (at + i) 0) (get_or docs.now (at + i + 1) 0)) }
 {
     let mut right = true;
     let mut i: usize = 0;
@@ -25,7 +24,7 @@ fn rising(docs: &[u32], at: usize, n: usize) -> bool
 // Whether row 7 lets n documents from a place on through, with the document before them. The last of rising documents is the highest.
 pub fn docs_right(docs: &[u32], at: usize, n: usize, first: bool, previous: u32, limit: u32) -> bool
     requires { at + n ≤ length docs.now }
-    ensures { result ≡ rising_below (λ i. get_or (before docs) (at + i) 0) first previous n limit }
+    ensures { result ≡ rising_below (λ i. get_or docs.now (at + i) 0) first previous n limit }
 {
     if n == 0 {
         return true;
@@ -44,7 +43,7 @@ pub fn docs_right(docs: &[u32], at: usize, n: usize, first: bool, previous: u32,
 // Whether row 8 lets n frequencies from a place on through.
 pub fn freqs_right(freqs: &[u32], at: usize, n: usize) -> bool
     requires { at + n ≤ length freqs.now }
-    ensures { result ≡ freqs_right (λ i. get_or (before freqs) (at + i) 0) n }
+    ensures { result ≡ freqs_right (λ i. get_or freqs.now (at + i) 0) n }
 {
     let mut right = true;
     let mut i: usize = 0;
@@ -63,7 +62,7 @@ pub fn freqs_right(freqs: &[u32], at: usize, n: usize) -> bool
 
 // An array of 128 has 128 places.
 pub fn places(values: &[u32; 128]) -> usize
-    ensures { length (before values) ≡ 128 }
+    ensures { length values.now ≡ 128 }
 {
     (&values[..]).len()
 }
@@ -71,7 +70,7 @@ pub fn places(values: &[u32; 128]) -> usize
 // n numbers from a place on.
 pub fn copy(from: &[u32], at: usize, n: usize, out: &mut [u32; 128])
     requires { (n ≤ 128) × (at + n ≤ length from.now) × (length out.old ≡ 128) }
-    ensures { Fronted (λ i. get_or (before from) (at + i) 0) n (before out) (after out) }
+    ensures { Fronted (λ i. get_or from.now (at + i) 0) n out.old out.new }
 {
     let mut i: usize = 0;
     while i < n {

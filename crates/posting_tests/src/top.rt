@@ -1,7 +1,6 @@
 // Which of a block's 128 scores is the highest.
 ghost use Rattle.std.specs.Prelude.{◌≡◌, ◌<◌, get_or};
 ghost use Rattle.std.specs.Float.{nan};
-ghost use Rattle.arrays.specs.Lent.{before};
 ghost use Rattle.bm25_pair.specs.Pair.{highest};
 ghost use Rattle.posting_tests.specs.Inner.Tops.{Numbers, IsTop};
 
@@ -10,7 +9,7 @@ use floats::larger;
 // The highest score. Eight maxima run beside each other, since each waits for the one before it.
 fn top_score(scores: &[f32; 128]) -> f32
     requires { Numbers scores.now }
-    ensures { IsTop (before scores) result }
+    ensures { IsTop scores.now result }
 {
     let mut a = scores[0];
     let mut b = scores[1];
@@ -40,7 +39,7 @@ fn top_score(scores: &[f32; 128]) -> f32
 // The place of the highest score, the first among equals.
 pub fn top_of(scores: &[f32; 128]) -> usize
     requires { Numbers scores.now }
-    ensures { (result ≡ highest (λ i. get_or (before scores) i nan) 128) × (result < 128) }
+    ensures { (result ≡ highest (λ i. get_or scores.now i nan) 128) × (result < 128) }
 {
     let top = top_score(scores);
     let mut i: usize = 0;

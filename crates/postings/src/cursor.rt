@@ -1,6 +1,5 @@
 // A scorer's place in its list: the block cursor and the place in the block that it decoded last.
 ghost use Rattle.std.specs.Prelude.{suc, ◌≤◌, ◌<◌};
-ghost use Rattle.arrays.specs.Lent.{before, after};
 ghost use Rattle.route.specs.Cursor.{Cursor, advance_in, fresh, seek_block_in};
 ghost use Rattle.bm25.specs.declared.Scoring.{Scoring};
 ghost use Rattle.notefile.specs.Lists.{full_blocks};
@@ -15,7 +14,7 @@ use skip_reader::block::load_block;
 use skip_reader::skip::SkipReader;
 
 // The Rust's block cursor and its `cur`. The decoded block stands in two arrays beside it, and `decoded` is its number.
-#[derive(Drop)]
+#[derive(Clone, Copy)]
 pub struct SegmentPostings {
     pub skip_reader: SkipReader,
     pub block_loaded: bool,
@@ -27,7 +26,7 @@ impl SegmentPostings {
     // On a list's first posting, with the first block loaded.
     pub fn open(file: &[u8], x: Part, block: &mut Block) -> SegmentPostings
         requires { ListIn file.now x }
-        ensures { Moved (before file) x (λ _. fresh) result (after block) }
+        ensures { Moved file.now x (λ _. fresh) result block.new }
     {
         let skip_reader = SkipReader::new(file, x);
         load_block(file, x, skip_reader, block);
@@ -42,7 +41,7 @@ impl SegmentPostings {
     // The document that the scorer stands on, of the block decoded last.
     pub fn doc(self, block: &Block) -> u32
         requires { self.cur < 128 }
-        ensures { Here self (before block) result }
+        ensures { Here self block.now result }
     {
         let cur = self.cur;
         block[DOCS][cur]
@@ -53,8 +52,8 @@ impl SegmentPostings {
         requires { let reader = self.skip_reader in
             ListIn file.now x × Stands file.now x reader × (reader.block ≤ suc (full_blocks x))
             × (reader.last_doc_in_block < target) }
-        ensures { let to : Scoring → Cursor = λ scoring. seek_block_in (list_of scoring (before file) x) 128 target (cursor_of self) in
-            Shallow (before file) x to self result }
+        ensures { let to : Scoring → Cursor = λ scoring. seek_block_in (list_of scoring file.now x) 128 target (cursor_of self) in
+            Shallow file.now x to self result }
     {
         let reader = self.skip_reader;
         let skip_reader = reader.seek(file, x, target);
@@ -70,8 +69,8 @@ impl SegmentPostings {
     pub fn advance(self, file: &[u8], x: Part, block: &mut Block) -> SegmentPostings
         requires { ListIn file.now x × Placed file.now x self block.old
             × (self.skip_reader.block ≤ full_blocks x) }
-        ensures { let to : Scoring → Cursor = λ scoring. advance_in (list_of scoring (before file) x) 128 (cursor_of self) in
-            Moved (before file) x to result (after block) }
+        ensures { let to : Scoring → Cursor = λ scoring. advance_in (list_of scoring file.now x) 128 (cursor_of self) in
+            Moved file.now x to result block.new }
     {
         let mut p = self;
         if self.cur != 127 {

@@ -135,4 +135,4 @@ whole file {text} {old} {new} {most} {end} e P =
     let i = P.end_is in
     let s = P.short in
     let k : end ≡ length text = omega arith in
-    (P.New-is ∙ ap (λ (m : ℕ). text ++ drop m old) z ∙ ap (λ (t : List ℕ). t ++ drop (length t) old) e, k ∙ ap length e, omega arith)
+    (P.new_is ∙ ap (λ (m : ℕ). text ++ drop m old) z ∙ ap (λ (t : List ℕ). t ++ drop (length t) old) e, k ∙ ap length e, omega arith)

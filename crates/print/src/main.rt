@@ -1,17 +1,19 @@
 // Reads a note file on standard input, ranks all its lists by a stepped union from 0, and prints the reports, or the refusal's number.
+#![tactic(auto)]
+
 mod render;
 
 use crate::render::{ROOM, render};
-use libc::{STDIN_FILENO, STDOUT_FILENO};
+use std::io;
+use std::io::{Read, Write};
 
-fn main() {
-    let mut file = [0u8; 65537];
-    let n = io::read_full(STDIN_FILENO, &mut file);
-    if 65536 < n {
-        io::write_all(STDOUT_FILENO, b"too long\n");
-        return;
+fn main(rt: HostRuntime) -> io::Result<()> {
+    let mut file = Vec::new(rt.alloc());
+    rt.reader().take(65537).read_to_end(&mut file)?;
+    if 65536 < file.len() {
+        return io::writer(&rt).write_all(b"too long\n");
     }
     let mut out = [0u8; ROOM];
-    let count = render(&file[..n], &mut out);
-    io::write_all(STDOUT_FILENO, &out[..count]);
+    let count = render(file.as_slice(), &mut out);
+    io::writer(&rt).write_all(&out[..count])
 }

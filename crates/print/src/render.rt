@@ -1,6 +1,5 @@
 // What the program prints of a file.
 ghost use Rattle.std.specs.Prelude.{◌≡◌, ◌++◌, ◌≤◌, length, drop};
-ghost use Rattle.arrays.specs.Lent.{before, after};
 ghost use Rattle.print.specs.Printed.{printed};
 
 use bm25::Scoring;
@@ -15,8 +14,8 @@ pub const ROOM: usize = 172061;
 
 // The file's text at the start of `out`; how many bytes it has.
 pub fn render(file: &[u8], out: &mut [u8; ROOM]) -> usize
-    ensures { let text = printed (before file) in
-        (after out ≡ text ++ drop (length text) (before out)) × (result ≡ length text) × (result ≤ 172061) }
+    ensures { let text = printed file.now in
+        (out.new ≡ text ++ drop (length text) out.old) × (result ≡ length text) × (result ≤ 172061) }
 {
     let query = [0u32, 1, 2, 3, 4, 5, 6, 7, 8, 9, 10, 11, 12, 13, 14, 15];
     let script = [0.0f32; 1];

@@ -1,6 +1,5 @@
 // Reports as text, a line for each row.
 ghost use Rattle.std.specs.Prelude.{◌≡◌, ◌+◌, ◌*◌, ◌≤◌, T, length};
-ghost use Rattle.arrays.specs.Lent.{before, after};
 ghost use Rattle.floats.specs.Step.{steps};
 ghost use Rattle.floats.specs.Threshold.{threshold_ok};
 ghost use Rattle.reports.specs.Rows.{rows_in};
@@ -24,7 +23,7 @@ fn in_steps(score: f32) -> u64
 fn put_row(document: u32, score: f32, out: &mut [u8], at: usize) -> usize
     requires at_in_bounds { at + 42 ≤ length out.old }
     requires t { T (threshold_ok score) }
-    ensures { Put (line (report document score)) 42 at (before out) result (after out) }
+    ensures { Put (line (report document score)) 42 at out.old result out.new }
 {
     let number = document as u64;
     let steps = in_steps(score);
@@ -38,7 +37,7 @@ fn put_row(document: u32, score: f32, out: &mut [u8], at: usize) -> usize
 pub fn put_rows(documents: &[u32], scores: &[f32], count: usize, out: &mut [u8], at: usize) -> usize
     requires count_in_bounds { at + 42 * count ≤ length out.old }
     requires ready { Ready count documents.now scores.now }
-    ensures { Put (lines (rows_in count (before documents) (before scores))) (42 * count) at (before out) result (after out) }
+    ensures { Put (lines (rows_in count documents.now scores.now)) (42 * count) at out.old result out.new }
 {
     let mut end = at;
     let mut i = 0usize;

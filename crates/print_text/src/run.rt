@@ -1,6 +1,5 @@
 // A run as text: a first line, and its rows.
 ghost use Rattle.std.specs.Prelude.{◌≤◌, length};
-ghost use Rattle.arrays.specs.Lent.{before, after};
 ghost use Rattle.print_text.specs.Text.{first_line};
 ghost use Rattle.print_text.specs.Inner.Putting.{Put, Ready, text_of};
 
@@ -11,7 +10,7 @@ use crate::text::{put, put_number};
 fn put_first(word: &[u8], number: u64, out: &mut [u8]) -> usize
     requires word_len_bound { length word.now ≤ 8 }
     requires in_bounds { 29 ≤ length out.old }
-    ensures { Put (first_line (before word) number) 29 0 (before out) result (after out) }
+    ensures { Put (first_line word.now number) 29 0 out.old result out.new }
 {
     let a = put(word, out, 0);
     let b = put_number(number, out, a);
@@ -29,7 +28,7 @@ pub fn put_ranking(
     requires in_bounds { 172061 ≤ length out.old }
     requires count_bound { count ≤ 4096 }
     requires ready { Ready count documents.now scores.now }
-    ensures { Put (text_of number count (before documents) (before scores)) 172061 0 (before out) result (after out) }
+    ensures { Put (text_of number count documents.now scores.now) 172061 0 out.old result out.new }
 {
     if number != 0 {
         return put_first(b"refused ", number as u64, out);

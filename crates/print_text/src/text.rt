@@ -1,13 +1,12 @@
 // Text put into a buffer, from a place on: bytes, and a number's digits.
 ghost use Rattle.std.specs.Prelude.{◌+◌, ◌≤◌, length};
-ghost use Rattle.arrays.specs.Lent.{before, after};
 ghost use Rattle.print_text.specs.Text.{decimal};
 ghost use Rattle.print_text.specs.Inner.Putting.{Put};
 
 // Copies the bytes, and returns the place behind them.
 pub fn put(bytes: &[u8], out: &mut [u8], at: usize) -> usize
     requires { at + length bytes.now ≤ length out.old }
-    ensures { Put (before bytes) (length (before bytes)) at (before out) result (after out) }
+    ensures { Put bytes.now (length bytes.now) at out.old result out.new }
 {
     let mut i = 0usize;
     while i < bytes.len() {
@@ -20,7 +19,7 @@ pub fn put(bytes: &[u8], out: &mut [u8], at: usize) -> usize
 // The number in decimal.
 pub fn put_number(n: u64, out: &mut [u8], at: usize) -> usize
     requires { at + 20 ≤ length out.old }
-    ensures { Put (decimal n) 20 at (before out) result (after out) }
+    ensures { Put (decimal n) 20 at out.old result out.new }
 {
     let mut digits = [0u8; 20];
     let count = io::decimal(n, &mut digits);

@@ -1,6 +1,7 @@
 // The lists that a query names, each opened in a slot of its own: slot q is the query's number q.
+#![tactic(auto)]
+
 ghost use Rattle.std.specs.Prelude.{◌≡◌, ◌≤◌, ◌<◌, length};
-ghost use Rattle.arrays.specs.Lent.{before, after};
 ghost use Rattle.notefile.specs.Header.{list_count};
 ghost use Rattle.notefile.specs.Refusal.{file_refusal};
 ghost use Rattle.notefile.specs.Inner.Structs.{header_of};
@@ -26,9 +27,9 @@ fn open_list(
 ) -> TermScorer
     requires { let slots = tables lists.old norms.old places.old blocks.old in
         (file_refusal file.now ≡ 0) × (h ≡ header_of file.now) × (l < list_count file.now) × (q < 16) × Room slots }
-    ensures { let old = tables (before lists) (before norms) (before places) (before blocks) in
-        let new = tables (after lists) (after norms) (after places) (after blocks) in
-        OneOpened scoring (before file) l q old new result }
+    ensures { let old = tables lists.old norms.old places.old blocks.old in
+        let new = tables lists.new norms.new places.new blocks.new in
+        OneOpened scoring file.now l q old new result }
 {
     let x = read_part(file, h, l);
     let w = Bm25Weight::new(f32::from_bits(x.weight), f32::from_bits(x.average));
@@ -58,10 +59,10 @@ pub fn open_lists(
     requires { let slots = tables lists.old norms.old places.old blocks.old in
         (file_refusal file.now ≡ 0) × (h ≡ header_of file.now) × (length query.now ≤ 16) × Named file.now query.now
         × Room slots }
-    ensures { let old = tables (before lists) (before norms) (before places) (before blocks) in
-        let new = tables (after lists) (after norms) (after places) (after blocks) in
-        QueryOpened scoring (before file) (before query) (length (before query)) new result
-        × Untouched (length (before query)) old new }
+    ensures { let old = tables lists.old norms.old places.old blocks.old in
+        let new = tables lists.new norms.new places.new blocks.new in
+        QueryOpened scoring file.now query.now (length query.now) new result
+        × Untouched (length query.now) old new }
 {
     let none = TermScorer {
         doc: 0,

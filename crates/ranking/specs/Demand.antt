@@ -11,7 +11,8 @@ use Rattle.bm25.specs.declared.Scoring.TheVariants.{Stepped}
 use Rattle.rule.specs.Rules.{start_of}
 use Rattle.rule.specs.declared.Rule.{Rule}
 use Rattle.rule.specs.declared.Rule.TheVariants.{Script, BestK}
-use Rattle.reports.specs.Rows.{Rows, rows_in}
+use Rattle.reports.specs.Rows.{Rows}
+pub use Rattle.reports.specs.Rows.{rows_in}
 use Rattle.request.specs.Request.{Request, asked}
 use Rattle.request.specs.Lists.{plain_list}
 use Rattle.outcome.specs.Outcomes.{number_of, count_of}

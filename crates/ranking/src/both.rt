@@ -1,6 +1,5 @@
 // Both runs side by side: the function whose contract is demand 3.
 ghost use Rattle.std.specs.Prelude.{◌≡◌};
-ghost use Rattle.arrays.specs.Lent.{before, after};
 ghost use Rattle.reports.specs.Rows.{rows};
 ghost use Rattle.request.specs.Request.{asked};
 ghost use Rattle.ranking.specs.Answers.{PlainIs, RunIs};
@@ -14,7 +13,7 @@ use request::Mode;
 use rule::Rule;
 
 // What each run returned.
-#[derive(Drop)]
+#[derive(Clone, Copy)]
 pub struct Pair {
     pub skipping: Outcome,
     pub plain: Outcome,
@@ -44,12 +43,12 @@ pub fn both(
     plain_documents: &mut [u32],
     plain_scores: &mut [f32],
 ) -> Pair
-    ensures { let q = asked (before file) (before query) mode scoring rule (before script) in
+    ensures { let q = asked file.now query.now mode scoring rule script.now in
         let p = from q plain_start in
-        let new = rows (after documents) (after scores) in
-        let new' = rows (after plain_documents) (after plain_scores) in
-        RunIs q (rows (before documents) (before scores)) result.skipping new
-        × PlainIs p (rows (before plain_documents) (before plain_scores)) result.plain new'
+        let new = rows documents.new scores.new in
+        let new' = rows plain_documents.new plain_scores.new in
+        RunIs q (rows documents.old scores.old) result.skipping new
+        × PlainIs p (rows plain_documents.old plain_scores.old) result.plain new'
         × Demand3 q p (result_of result.skipping new) (result_of result.plain new') }
 {
     let skipping = run(file, query, mode, scoring, rule, script, documents, scores);

@@ -1,10 +1,11 @@
 // The public entry points: a skipping run, a plain run, and both side by side. None asks anything of its arguments.
+#![tactic(auto)]
+
 pub mod both;
 pub mod plain;
 pub mod skipping;
 
 ghost use Rattle.std.specs.Prelude.{◌≡◌};
-ghost use Rattle.arrays.specs.Lent.{before, after};
 ghost use Rattle.reports.specs.Rows.{rows};
 ghost use Rattle.request.specs.Request.{asked, refusal_of};
 ghost use Rattle.ranking.specs.Inner.Runs.{Listed};
@@ -23,8 +24,8 @@ fn answer(
     scores: &mut [f32],
 ) -> Outcome
     requires { refusal_of (asked file.now query.now settings.mode settings.scoring settings.rule script.now) ≡ 0 }
-    ensures { let q = asked (before file) (before query) settings.mode settings.scoring settings.rule (before script) in
-        Listed settings.way q (rows (before documents) (before scores)) result (rows (after documents) (after scores)) }
+    ensures { let q = asked file.now query.now settings.mode settings.scoring settings.rule script.now in
+        Listed settings.way q (rows documents.old scores.old) result (rows documents.new scores.new) }
 {
     let mut lists = [[0usize; 8]; 16];
     let mut norms = [[0.0f32; 256]; 16];

@@ -1,5 +1,4 @@
 // The plain run: every matching document upward.
-ghost use Rattle.arrays.specs.Lent.{before, after};
 ghost use Rattle.reports.specs.Rows.{rows};
 ghost use Rattle.request.specs.Request.{asked};
 ghost use Rattle.ranking.specs.Answers.{PlainIs};
@@ -22,8 +21,8 @@ pub fn plain(
     documents: &mut [u32],
     scores: &mut [f32],
 ) -> Outcome
-    ensures { let q = asked (before file) (before query) mode scoring rule (before script) in
-        PlainIs q (rows (before documents) (before scores)) result (rows (after documents) (after scores)) }
+    ensures { let q = asked file.now query.now mode scoring rule script.now in
+        PlainIs q (rows documents.old scores.old) result (rows documents.new scores.new) }
 {
     let number = refusal(file, query, mode, scoring, rule, script);
     if number != 0 {

@@ -1,5 +1,4 @@
 // The skipping run of each mode.
-ghost use Rattle.arrays.specs.Lent.{before, after};
 ghost use Rattle.route.specs.F32.{f32};
 ghost use Rattle.reports.specs.Rows.{rows};
 ghost use Rattle.request.specs.Request.{asked};
@@ -23,8 +22,8 @@ pub fn run(
     documents: &mut [u32],
     scores: &mut [f32],
 ) -> Outcome
-    ensures { let q = asked (before file) (before query) mode scoring rule (before script) in
-        RunIs q (rows (before documents) (before scores)) result (rows (after documents) (after scores)) }
+    ensures { let q = asked file.now query.now mode scoring rule script.now in
+        RunIs q (rows documents.old scores.old) result (rows documents.new scores.new) }
 {
     let number = refusal(file, query, mode, scoring, rule, script);
     if number != 0 {

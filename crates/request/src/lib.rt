@@ -1,6 +1,7 @@
 // What a run is asked for: a file, a query, a mode, a scoring and a rule; and whether it is refused before it begins.
+#![tactic(auto)]
+
 ghost use Rattle.std.specs.Prelude.{◌≡◌};
-ghost use Rattle.arrays.specs.Lent.{before};
 ghost use Rattle.notefile.specs.Refusal.{first_refusal};
 ghost use Rattle.request.specs.Request.{asked, numbers_right, count_right, query_right, query_tests, refusal_of};
 
@@ -11,7 +12,7 @@ use rule::Rule;
 use rulecheck::rule_right;
 
 // Which documents match: those of any list of the query, of all its lists, or of its one list.
-#[derive(Drop)]
+#[derive(Clone, Copy)]
 pub enum Mode {
     Union,
     Intersection,
@@ -20,7 +21,7 @@ pub enum Mode {
 
 // Whether every number of the query is a list's.
 fn numbers_right(lists: usize, query: &[u32]) -> bool
-    ensures { result ≡ numbers_right lists (before query) }
+    ensures { result ≡ numbers_right lists query.now }
 {
     let mut i = 0usize;
     while i < query.len() {
@@ -50,7 +51,7 @@ fn count_right(mode: Mode, n: usize) -> bool
 
 // Whether row 10 lets the query through.
 fn query_right(lists: usize, mode: Mode, query: &[u32]) -> bool
-    ensures { result ≡ query_right lists mode (before query) }
+    ensures { result ≡ query_right lists mode query.now }
 {
     if numbers_right(lists, query) {
         return count_right(mode, query.len());
@@ -60,7 +61,7 @@ fn query_right(lists: usize, mode: Mode, query: &[u32]) -> bool
 
 // The number of the first of rows 1 to 10 that refuses, or 0.
 pub fn query_refusal(file: &[u8], query: &[u32], mode: Mode) -> u32
-    ensures { result ≡ first_refusal (query_tests (before file) (before query) mode) }
+    ensures { result ≡ first_refusal (query_tests file.now query.now mode) }
 {
     match check(file) {
         Checked::Refused(n) => n,
@@ -83,7 +84,7 @@ pub fn refusal(
     rule: Rule,
     script: &[f32],
 ) -> u32
-    ensures { result ≡ refusal_of (asked (before file) (before query) mode scoring rule (before script)) }
+    ensures { result ≡ refusal_of (asked file.now query.now mode scoring rule script.now) }
 {
     let number = query_refusal(file, query, mode);
     if number != 0 {

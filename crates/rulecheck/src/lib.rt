@@ -1,6 +1,7 @@
 // Whether a run may go by a rule.
+#![tactic(auto)]
+
 ghost use Rattle.std.specs.Prelude.{◌≡◌};
-ghost use Rattle.arrays.specs.Lent.{before};
 ghost use Rattle.rulecheck.specs.Right.{is_finite, threshold_right, script_right, rule_right};
 
 use bm25::Scoring;
@@ -25,7 +26,7 @@ fn threshold_right(scoring: Scoring, x: f32) -> bool
 
 // Whether the script's thresholds are right, and none is below the one before it.
 fn script_right(scoring: Scoring, start: f32, script: &[f32]) -> bool
-    ensures { result ≡ script_right scoring start (before script) }
+    ensures { result ≡ script_right scoring start script.now }
 {
     let mut last = start;
     let mut i = 0usize;
@@ -46,7 +47,7 @@ fn script_right(scoring: Scoring, start: f32, script: &[f32]) -> bool
 
 // Whether a run may go by the rule: what refusal 11 tests.
 pub fn rule_right(rule: Rule, scoring: Scoring, script: &[f32]) -> bool
-    ensures { result ≡ rule_right rule scoring (before script) }
+    ensures { result ≡ rule_right rule scoring script.now }
 {
     match rule {
         Rule::Script(start) => {

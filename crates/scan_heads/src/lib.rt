@@ -1,6 +1,7 @@
 // What a plain scan looks at: the documents on which its scorers stand, the least of them, and what the lists have of a document.
+#![tactic(auto)]
+
 ghost use Rattle.std.specs.Prelude.{◌≡◌, ◌≤◌, ◌<◌};
-ghost use Rattle.arrays.specs.Lent.{before};
 ghost use Rattle.scan_heads.specs.Inner.Found.{due_in, with_score};
 ghost use Rattle.scan_heads.specs.Inner.Heads.{least_in, HeadsOf, PlaceRead};
 
@@ -9,7 +10,7 @@ use slot_rows::place::{Blocks, Places};
 use term_scorer::slot;
 
 // What the lists have of a document: how many have it, and the sum of its scores there.
-#[derive(Drop)]
+#[derive(Clone, Copy)]
 pub struct Found {
     pub matched: usize,
     pub total: f32,
@@ -54,7 +55,7 @@ impl Found {
 // The documents on which the first n scorers stand.
 pub fn heads_of(n: usize, places: &Places, blocks: &Blocks) -> [u32; 16]
     requires { (n ≤ 16) × PlaceRead places.now n }
-    ensures { HeadsOf (before places) (before blocks) n result }
+    ensures { HeadsOf places.now blocks.now n result }
 {
     let mut heads = [TERMINATED; 16];
     let mut q = 0usize;
@@ -68,7 +69,7 @@ pub fn heads_of(n: usize, places: &Places, blocks: &Blocks) -> [u32; 16]
 // The least document on which one of the first n scorers stands.
 pub fn least(heads: &[u32; 16], n: usize) -> u32
     requires { n ≤ 16 }
-    ensures { result ≡ least_in (before heads) n }
+    ensures { result ≡ least_in heads.now n }
 {
     let mut doc = TERMINATED;
     let mut q = 0usize;

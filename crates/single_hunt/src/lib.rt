@@ -1,6 +1,7 @@
 // The hunt for a block whose bound is above the threshold, and the way into it.
+#![tactic(auto)]
+
 ghost use Rattle.std.specs.Prelude.{◌≡◌, ◌≤◌, ◌<◌};
-ghost use Rattle.arrays.specs.Lent.{before, after};
 ghost use Rattle.term_scorer.specs.Inner.Slots.{held, StandingIn};
 ghost use Rattle.single_hunt.specs.Inner.Places.{Skips};
 ghost use Rattle.single_hunt.specs.Inner.Stands.{Ready, Stands, Entered, Hunted};
@@ -14,7 +15,7 @@ use term_scorer::score::{Leg, Similarity};
 use term_scorer::{BOUNDS, Floats, slot};
 
 // At the hunt for a block; at the walk over one; behind a report, on its posting; returned.
-#[derive(Drop)]
+#[derive(Clone, Copy)]
 pub enum Phase {
     Hunt,
     Walk,
@@ -23,7 +24,7 @@ pub enum Phase {
 }
 
 // Where a scan stands: the slot of its scorer, its `doc`, and what comes next.
-#[derive(Drop)]
+#[derive(Clone, Copy)]
 pub struct Single {
     pub slot: usize,
     pub doc: u32,
@@ -43,9 +44,9 @@ fn enter(
 ) -> Single
     requires { let slots = held places.old blocks.old in
         Ready file.now similarity lists.now norms.now single.slot slots floats.old × (single.doc ≤ 2147483647) }
-    ensures { let old = held (before places) (before blocks) in
-        let new = held (after places) (after blocks) in
-        Entered (before file) similarity (before lists) (before norms) single old result new (after floats) }
+    ensures { let old = held places.old blocks.old in
+        let new = held places.new blocks.new in
+        Entered file.now similarity lists.now norms.now single old result new floats.new }
 {
     let q = single.slot;
     let here = slot::doc(q, places, blocks);
@@ -75,7 +76,7 @@ pub fn skip(
     places: &mut Places,
 ) -> Single
     requires { (q < 16) × StandingIn file.now lists.now places.old q }
-    ensures { Skips (before file) (before lists) q end (before places) (after places) result }
+    ensures { Skips file.now lists.now q end places.old places.new result }
 {
     let last = slot::last_doc_in_block(q, places);
     if last == TERMINATED {
@@ -107,9 +108,9 @@ pub fn hunt(
 ) -> Single
     requires { let slots = held places.old blocks.old in
         Stands file.now leg.similarity lists.now norms.now single slots floats.old × (single.phase ≡ Hunt) }
-    ensures { let old = held (before places) (before blocks) in
-        let new = held (after places) (after blocks) in
-        Hunted (before file) leg.similarity (before lists) (before norms) leg.threshold single old result new (after floats) }
+    ensures { let old = held places.old blocks.old in
+        let new = held places.new blocks.new in
+        Hunted file.now leg.similarity lists.now norms.now leg.threshold single old result new floats.new }
 {
     let q = single.slot;
     let similarity = leg.similarity;

@@ -93,7 +93,7 @@ module _ {file : List ℕ} {similarity : Similarity} {lists : List (List ℕ)} {
 
     within : c.blk ≤ l.full
     unfolding SingleKept
-    within = kept.0.in_List
+    within = kept.0.in_list
 
     pub cur-inside : cur < 128
     cur-inside = cur-small x T.stands.ready

@@ -1,6 +1,7 @@
 // The walk over a decoded block: up to a posting whose score is above the threshold, or out of the block.
+#![tactic(auto)]
+
 ghost use Rattle.std.specs.Prelude.{◌≡◌, min, ◌+◌, ◌*◌, ◌-◌, ◌≤◌, ◌<◌};
-ghost use Rattle.arrays.specs.Lent.{before, after};
 ghost use Rattle.term_scorer.specs.Inner.Slots.{held, SlotIn};
 ghost use Rattle.single_hunt.specs.Inner.Places.{start_of, ToPlace};
 ghost use Rattle.single_walk.specs.Inner.Walks.{FirstAbove, Walkable, Walks};
@@ -11,7 +12,7 @@ use single_hunt::{Phase, Single, skip};
 use slot_rows::place::{BLOCK, Blocks, COUNT, CUR, Places};
 
 // Where a scan came to, by how many turns, and why it stands still.
-#[derive(Drop)]
+#[derive(Clone, Copy)]
 pub struct Gone {
     pub single: Single,
     pub taken: usize,
@@ -21,7 +22,7 @@ pub struct Gone {
 // The first place whose score is above the threshold, or n where there is none.
 fn first_above(values: &[f32; 128], from: usize, n: usize, threshold: f32) -> usize
     requires { (from ≤ n) × (n ≤ 128) }
-    ensures { FirstAbove (before values) from n threshold result }
+    ensures { FirstAbove values.now from n threshold result }
 {
     let mut i = from;
     while i < n {
@@ -90,7 +91,7 @@ fn to_place(
     blocks: &Blocks,
 ) -> Single
     requires { (q < 16) × (n ≤ 128) × SlotIn file.now lists.now (held places.old blocks.now) q }
-    ensures { ToPlace (before file) (before lists) q (before blocks) n i (before places) (after places) result }
+    ensures { ToPlace file.now lists.now q blocks.now n i places.old places.new result }
 {
     if i < n {
         places[q][CUR] = i;
@@ -116,7 +117,7 @@ pub fn walk(
     values: &[f32; 128],
 ) -> Gone
     requires { Walkable file.now lists.now single places.old blocks.now values.now × (0 < turns) }
-    ensures { Walks (before file) (before lists) single (before places) (before blocks) (before values) threshold turns result (after places) }
+    ensures { Walks file.now lists.now single places.old blocks.now values.now threshold turns result places.new }
 {
     let q = single.slot;
     let cur = places[q][CUR];

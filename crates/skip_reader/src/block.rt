@@ -1,5 +1,4 @@
 // Block loads: the skip reader's block decoded into two lent arrays.
-ghost use Rattle.arrays.specs.Lent.{before, after};
 ghost use Rattle.skip_reader.specs.Inner.Decoded.{Decoded, ListIn};
 ghost use Rattle.skip_reader.specs.Inner.Reader.{Stands};
 
@@ -12,7 +11,7 @@ use notefile::skip::SkipEntry;
 // The reader's block, filled up with TERMINATED. A tail of no documents has no bytes.
 pub fn load_block(file: &[u8], x: Part, reader: SkipReader, block: &mut Block)
     requires { ListIn file.now x × Stands file.now x reader }
-    ensures { Decoded (before file) x reader.block (after block) }
+    ensures { Decoded file.now x reader.block block.new }
 {
     let info = reader.block_info;
     let at = reader.byte_offset;

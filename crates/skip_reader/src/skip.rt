@@ -1,6 +1,5 @@
 // The skip reader: block by block over a list's skip entries, and behind its tail.
 ghost use Rattle.std.specs.Prelude.{◌≡◌, suc, ◌<◌};
-ghost use Rattle.arrays.specs.Lent.{before};
 ghost use Rattle.notefile.specs.Inner.Given.{BlocksIn};
 ghost use Rattle.skip_reader.specs.Inner.Decoded.{ListIn};
 ghost use Rattle.skip_reader.specs.Inner.Reader.{Sought, Stands, place_in, previous_in, reader_at, remaining};
@@ -10,7 +9,7 @@ use notefile::part::Part;
 use notefile::skip::read_skip_entry;
 
 // What the reader knows of its block: of a packed one the widths and the pair of codes of its bound, of the tail its count.
-#[derive(Drop)]
+#[derive(Clone, Copy)]
 pub enum BlockInfo {
     BitPacked {
         doc_bits: u32,
@@ -25,7 +24,7 @@ pub enum BlockInfo {
 }
 
 // The number of its block stands for the bytes that the Rust's reader has left; its place is one of the whole file.
-#[derive(Drop)]
+#[derive(Clone, Copy)]
 pub struct SkipReader {
     pub last_doc_in_block: u32,
     pub last_doc_in_previous_block: u32,
@@ -46,7 +45,7 @@ fn read_block_info(
 ) -> SkipReader
     requires { BlocksIn file.now x × (byte_offset ≡ place_in file.now x b) × (previous ≡ previous_in file.now x b)
         × (remaining_docs ≡ remaining x b) }
-    ensures { result ≡ reader_at (before file) x b }
+    ensures { result ≡ reader_at file.now x b }
 {
     if remaining_docs < 128 {
         return SkipReader {
@@ -81,7 +80,7 @@ impl SkipReader {
     // The reader on a list's first block.
     pub fn new(file: &[u8], x: Part) -> SkipReader
         requires { BlocksIn file.now x }
-        ensures { result ≡ reader_at (before file) x 0 }
+        ensures { result ≡ reader_at file.now x 0 }
     {
         read_block_info(file, x, 0, x.postings, 0, x.count)
     }
@@ -90,7 +89,7 @@ impl SkipReader {
     pub fn on(file: &[u8], x: Part, b: usize, byte_offset: usize, previous: u32) -> SkipReader
         requires { BlocksIn file.now x × (byte_offset ≡ place_in file.now x b) × (previous ≡ previous_in file.now x b)
             × (b < 4294967296) }
-        ensures { result ≡ reader_at (before file) x b }
+        ensures { result ≡ reader_at file.now x b }
     {
         let before = 128 * b;
         if before <= x.count {
@@ -102,7 +101,7 @@ impl SkipReader {
     // On to the next block. A full one takes 16 bytes for each bit of width; a tail ends the postings.
     pub fn advance(self, file: &[u8], x: Part) -> SkipReader
         requires { BlocksIn file.now x × Stands file.now x self × (self.block < 4294967296) }
-        ensures { result ≡ reader_at (before file) x (suc self.block) }
+        ensures { result ≡ reader_at file.now x (suc self.block) }
     {
         let info = self.block_info;
         let b = self.block + 1;
@@ -126,7 +125,7 @@ impl SkipReader {
     pub fn seek(self, file: &[u8], x: Part, target: u32) -> SkipReader
         requires { ListIn file.now x × Stands file.now x self × (self.block < 4294967296)
             × (self.last_doc_in_block < target) }
-        ensures { Sought (before file) x target self.block result }
+        ensures { Sought file.now x target self.block result }
     {
         let blocks = x.count / 128;
         let mut reader = self;

@@ -1,6 +1,7 @@
 // Row 5 of the table: a list's skip entries.
+#![tactic(auto)]
+
 ghost use Rattle.std.specs.Prelude.{◌≡◌, ◌&&◌, ◌/◌, ◌%◌, eqb, leb};
-ghost use Rattle.arrays.specs.Lent.{before};
 ghost use Rattle.notefile.specs.Lists.{tail_at};
 ghost use Rattle.notefile.specs.Conditions.{skips_right};
 ghost use Rattle.notefile.specs.Inner.Given.{Parted};
@@ -11,7 +12,7 @@ use notefile::part::Part;
 use notefile::skip::skip_entry_at;
 
 // Where a list's tail starts, or that its skip entries are wrong.
-#[derive(Drop)]
+#[derive(Clone, Copy)]
 pub enum TailPlace {
     At(usize),
     Wrong,
@@ -33,7 +34,7 @@ fn widths_right(byte: u32, freq_bits: u32) -> bool
 // Where the tail starts, if row 5 lets the list's skip entries through. The blocks before it may not lie in the file.
 pub fn tail_place(file: &[u8], x: Part) -> TailPlace
     requires { Parted file.now x }
-    ensures { result ≡ tail_or (skips_right (before file) x) (tail_at (before file) x) }
+    ensures { result ≡ tail_or (skips_right file.now x) (tail_at file.now x) }
 {
     let blocks = x.count / 128;
     if x.skips + x.skip_entry_len * blocks != x.postings {

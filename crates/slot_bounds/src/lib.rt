@@ -1,6 +1,7 @@
 // Block bounds by slot: those that are known, those that stand ready, and those of tails.
+#![tactic(auto)]
+
 ghost use Rattle.std.specs.Prelude.{◌≡◌, ◌≤◌, ◌<◌};
-ghost use Rattle.arrays.specs.Lent.{before, after};
 ghost use Rattle.notefile.specs.Header.{norm_reader};
 ghost use Rattle.notefile.specs.Lists.{full_blocks};
 ghost use Rattle.notefile.specs.Inner.Given.{NormsIn};
@@ -19,14 +20,14 @@ use slot_rows::place::{
 use term_scorer::score::{Similarity, weight_in};
 
 // The Rust's `block_max_score_cache`, an `Option`.
-#[derive(Drop)]
+#[derive(Clone, Copy)]
 pub enum BlockMax {
     Unknown,
     Known(f32),
 }
 
 // The bound of a tail, and whether it is kept: it changes when the tail is loaded, so until then it is not.
-#[derive(Drop)]
+#[derive(Clone, Copy)]
 struct Bound {
     score: f32,
     lasts: bool,
@@ -43,7 +44,7 @@ fn tail_bound(
 ) -> Bound
     requires { (similarity.norms ≡ norm_reader file.now) × PartRow list.now × ListIn file.now (part_in list.now)
         × PlaceIn file.now (part_in list.now) place.now block.now × NormsIn (part_in list.now) norms.now }
-    ensures { BoundFound similarity.scoring (before file) (part_in (before list)) (before place) result }
+    ensures { BoundFound similarity.scoring file.now (part_in list.now) place.now result }
 {
     let reader = similarity.norms;
     let scoring = similarity.scoring;
@@ -60,7 +61,7 @@ fn tail_bound(
 // The bound that slot q keeps of its block. Nobody else reads the flag.
 fn cached(q: usize, places: &Places, bounds: &[f32; 128]) -> BlockMax
     requires { q < 16 }
-    ensures { result ≡ block_max_at (before places) (before bounds) q }
+    ensures { result ≡ block_max_at places.now bounds.now q }
 {
     if places[q][BOUND] == KNOWN {
         return BlockMax::Known(bounds[q]);
@@ -83,7 +84,7 @@ fn ready_bound(
     requires { (q < 16) × StandingIn file.now lists.now places.old q × Weighed lists.now norms.now q × FloatRow bounds.old
         × BoundKept scoring file.now lists.now places.old bounds.old q
         × (block ≡ (cursor_at places.old q).blk) × (block < full_blocks (part_at lists.now q)) }
-    ensures { Readied scoring (before file) (before lists) q (before places) (before bounds) (after places) (after bounds) result }
+    ensures { Readied scoring file.now lists.now q places.old bounds.old places.new bounds.new result }
 {
     let first = 16 + 7 * q;
     let end = places[q][AHEAD];
@@ -115,7 +116,7 @@ fn tail_block_max(
         × Weighed lists.now norms.now q
         × BoundKept similarity.scoring file.now lists.now places.old bounds.old q × FloatRow bounds.old
         × (full_blocks (part_at lists.now q) ≤ (cursor_at places.old q).blk) }
-    ensures { Bounded similarity.scoring (before file) (before lists) q (before places) (before bounds) (after places) (after bounds) result }
+    ensures { Bounded similarity.scoring file.now lists.now q places.old bounds.old places.new bounds.new result }
 {
     let bound = tail_bound(
         file, similarity, &lists[q], &norms[q], &places[q], &blocks[q],
@@ -142,7 +143,7 @@ pub fn new_block_max(
         (q < 16) × (similarity.norms ≡ norm_reader file.now) × SlotIn file.now lists.now slots q
         × Weighed lists.now norms.now q
         × BoundKept similarity.scoring file.now lists.now places.old bounds.old q × FloatRow bounds.old }
-    ensures { Bounded similarity.scoring (before file) (before lists) q (before places) (before bounds) (after places) (after bounds) result }
+    ensures { Bounded similarity.scoring file.now lists.now q places.old bounds.old places.new bounds.new result }
 {
     let block = places[q][BLOCK];
     if lists[q][COUNT] / 128 <= block {
@@ -170,7 +171,7 @@ pub fn block_max(
         (q < 16) × (similarity.norms ≡ norm_reader file.now) × SlotIn file.now lists.now slots q
         × Weighed lists.now norms.now q
         × BoundKept similarity.scoring file.now lists.now places.old bounds.old q × FloatRow bounds.old }
-    ensures { Bounded similarity.scoring (before file) (before lists) q (before places) (before bounds) (after places) (after bounds) result }
+    ensures { Bounded similarity.scoring file.now lists.now q places.old bounds.old places.new bounds.new result }
 {
     let known = cached(q, places, bounds);
     match known {

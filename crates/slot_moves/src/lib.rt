@@ -1,6 +1,7 @@
 // A scorer's moves over its slot's rows and arrays. Within a block they change one number or none.
+#![tactic(auto)]
+
 ghost use Rattle.std.specs.Prelude.{◌≡◌, ◌≤◌, ◌<◌, get_or};
-ghost use Rattle.arrays.specs.Lent.{before, after};
 ghost use Rattle.block_search.specs.Search.{answer_if};
 ghost use Rattle.route.specs.Cursor.{Cursor, advance_in, fresh, seek_block_in, seek_in};
 ghost use Rattle.bm25.specs.declared.Scoring.{Scoring};
@@ -22,8 +23,8 @@ use slot_rows::place::{AHEAD, CUR, LAST, LOADED, NOWHERE, Place, keep, part_of, 
 // On the list's first posting. Nothing is kept of the list that had the row before.
 pub fn open(file: &[u8], x: Part, place: &mut Place, block: &mut Block) -> u32
     requires { ListIn file.now x }
-    ensures { MovedRow (before file) x (λ _. fresh) (before place) (after place) (after block) result
-        × Unkept (after place) }
+    ensures { MovedRow file.now x (λ _. fresh) place.old place.new block.new result
+        × Unkept place.new }
 {
     let p = SegmentPostings::open(file, x, block);
     keep(p, place);
@@ -35,9 +36,9 @@ pub fn open(file: &[u8], x: Part, place: &mut Place, block: &mut Block) -> u32
 pub fn seek_block(file: &[u8], list: &[usize; 8], target: u32, place: &mut Place)
     requires { let x = part_in list.now in
         PartRow list.now × ListIn file.now x × Standing file.now x place.old }
-    ensures { let x = part_in (before list) in
-        let to : Scoring → Cursor = λ scoring. seek_block_in (list_of scoring (before file) x) 128 target (cursor_in (before place)) in
-        ShallowRow (before file) x to (before place) (after place) }
+    ensures { let x = part_in list.now in
+        let to : Scoring → Cursor = λ scoring. seek_block_in (list_of scoring file.now x) 128 target (cursor_in place.old) in
+        ShallowRow file.now x to place.old place.new }
 {
     if target as usize <= place[LAST] {
         return;
@@ -52,7 +53,7 @@ pub fn seek_block(file: &[u8], list: &[usize; 8], target: u32, place: &mut Place
 fn reach(file: &[u8], list: &[usize; 8], target: u32, place: &mut Place, block: &mut Block)
     requires { let x = part_in list.now in
         PartRow list.now × ListIn file.now x × PlaceIn file.now x place.old block.old }
-    ensures { Reached (before file) (part_in (before list)) target (before place) (after place) (after block) }
+    ensures { Reached file.now (part_in list.now) target place.old place.new block.new }
 {
     if place[LAST] < target as usize {
         seek_block(file, list, target, place);
@@ -76,10 +77,10 @@ fn seek_on(
     requires { let x = part_in list.now in
         PartRow list.now × ListIn file.now x × PlaceIn file.now x place.old block.old
         × Behind (postings_in file.now x place.old) block.old target × (target ≤ 2147483647) }
-    ensures { let x = part_in (before list) in
-        let to : Scoring → Cursor = λ scoring. seek_in (list_of scoring (before file) x) 128 target (cursor_in (before place)) in
-        let found = answer_if result (get_or (after place) 6 0) in
-        SoughtRow (before file) x target to (before place) (after place) (after block) (live_answer target found) }
+    ensures { let x = part_in list.now in
+        let to : Scoring → Cursor = λ scoring. seek_in (list_of scoring file.now x) 128 target (cursor_in place.old) in
+        let found = answer_if result (get_or place.new 6 0) in
+        SoughtRow file.now x target to place.old place.new block.new (live_answer target found) }
 {
     reach(file, list, target, place, block);
     let found = search_block(&block[DOCS], target);
@@ -100,9 +101,9 @@ pub fn seek(
     requires { let x = part_in list.now in
         PartRow list.now × ListIn file.now x × PlaceIn file.now x place.old block.old
         × (doc ≡ doc_in file.now x (cursor_in place.old).at) × (target ≤ 2147483647) }
-    ensures { let x = part_in (before list) in
-        let to : Scoring → Cursor = λ scoring. seek_in (list_of scoring (before file) x) 128 target (cursor_in (before place)) in
-        SoughtRow (before file) x target to (before place) (after place) (after block) result }
+    ensures { let x = part_in list.now in
+        let to : Scoring → Cursor = λ scoring. seek_in (list_of scoring file.now x) 128 target (cursor_in place.old) in
+        SoughtRow file.now x target to place.old place.new block.new result }
 {
     let cur = place[CUR];
     if target <= doc {
@@ -126,9 +127,9 @@ fn advance_far(file: &[u8], list: &[usize; 8], place: &mut Place, block: &mut Bl
     requires { let x = part_in list.now in
         PartRow list.now × ListIn file.now x × PlaceIn file.now x place.old block.old
         × (get_or place.old 0 0 ≤ full_blocks x) }
-    ensures { let x = part_in (before list) in
-        let to : Scoring → Cursor = λ scoring. advance_in (list_of scoring (before file) x) 128 (cursor_in (before place)) in
-        MovedRow (before file) x to (before place) (after place) (after block) result }
+    ensures { let x = part_in list.now in
+        let to : Scoring → Cursor = λ scoring. advance_in (list_of scoring file.now x) 128 (cursor_in place.old) in
+        MovedRow file.now x to place.old place.new block.new result }
 {
     let x = part_of(list);
     let p = postings_of(file, x, place);
@@ -142,9 +143,9 @@ pub fn advance(file: &[u8], list: &[usize; 8], place: &mut Place, block: &mut Bl
     requires { let x = part_in list.now in
         PartRow list.now × ListIn file.now x × PlaceIn file.now x place.old block.old
         × (get_or place.old 0 0 ≤ full_blocks x) }
-    ensures { let x = part_in (before list) in
-        let to : Scoring → Cursor = λ scoring. advance_in (list_of scoring (before file) x) 128 (cursor_in (before place)) in
-        MovedRow (before file) x to (before place) (after place) (after block) result }
+    ensures { let x = part_in list.now in
+        let to : Scoring → Cursor = λ scoring. advance_in (list_of scoring file.now x) 128 (cursor_in place.old) in
+        MovedRow file.now x to place.old place.new block.new result }
 {
     let cur = place[CUR];
     if cur != 127 {
@@ -158,8 +159,8 @@ pub fn advance(file: &[u8], list: &[usize; 8], place: &mut Place, block: &mut Bl
 pub fn load(file: &[u8], list: &[usize; 8], place: &mut Place, block: &mut Block) -> u32
     requires { let x = part_in list.now in
         PartRow list.now × ListIn file.now x × PlaceIn file.now x place.old block.old }
-    ensures { let x = part_in (before list) in
-        MovedRow (before file) x (λ _. first_of (cursor_in (before place))) (before place) (after place) (after block) result }
+    ensures { let x = part_in list.now in
+        MovedRow file.now x (λ _. first_of (cursor_in place.old)) place.old place.new block.new result }
 {
     if place[LOADED] == 1 {
         place[CUR] = 0;

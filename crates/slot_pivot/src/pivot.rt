@@ -1,6 +1,5 @@
 // What is found by the scorers' documents and list bounds: the pivot, the scorer to seek, and how far it may.
 ghost use Rattle.std.specs.Prelude.{List, map, ◌≡◌, ℕ, ◌+◌, ◌≤◌, ◌<◌, drop, take};
-ghost use Rattle.arrays.specs.Lent.{before};
 ghost use Rattle.route.specs.F32.{f32};
 ghost use Rattle.arrays.specs.Every.{All};
 ghost use Rattle.ordering.specs.Inner.Pivots.{before_pivot, count_on, pivot_of, place_to_seek};
@@ -19,7 +18,7 @@ use term_scorer::{score, slot};
 fn before_pivot(order: &[usize; 16], n: usize, lists: &[[usize; 8]; 16], threshold: f32) -> usize
     requires { (n ≤ 16) × Sixteen order.now × All (TopRead lists.now) (take n order.now) }
     ensures { (places : List (List ℕ)) (blocks : List (List (List ℕ)))
-        → result ≡ before_pivot threshold f32.nil (take n (map (term_in (before lists) places blocks) (before order))) }
+        → result ≡ before_pivot threshold f32.nil (take n (map (term_in lists.now places blocks) order.now)) }
 {
     let mut max_score = 0.0f32;
     let mut i = 0usize;
@@ -44,7 +43,7 @@ fn end_of_pivot(
 ) -> usize
     requires { (from ≤ n) × (n ≤ 16) × Sixteen order.now × All (Readable places.now) (take n order.now) }
     ensures { (lists : List (List ℕ))
-        → result ≡ from + count_on doc (drop from (take n (map (term_in lists (before places) (before blocks)) (before order)))) }
+        → result ≡ from + count_on doc (drop from (take n (map (term_in lists places.now blocks.now) order.now))) }
 {
     let mut i = from;
     while i < n {
@@ -67,7 +66,7 @@ pub fn find_pivot_doc(
 ) -> Pivot
     requires { (n ≤ 16) × Sixteen order.now × All (TopRead lists.now) (take n order.now)
         × All (Readable places.now) (take n order.now) }
-    ensures { result ≡ pivot_of threshold (take n (map (term_in (before lists) (before places) (before blocks)) (before order))) }
+    ensures { result ≡ pivot_of threshold (take n (map (term_in lists.now places.now blocks.now) order.now)) }
 {
     let before_pivot_len = before_pivot(order, n, lists, threshold);
     if n <= before_pivot_len {
@@ -89,7 +88,7 @@ pub fn find_pivot_doc(
 pub fn scorer_to_seek(order: &[usize; 16], len: usize, lists: &[[usize; 8]; 16]) -> usize
     requires { (0 < len) × (len ≤ 16) × Sixteen order.now × All (TopRead lists.now) (take len order.now) }
     ensures { (places : List (List ℕ)) (blocks : List (List (List ℕ)))
-        → result ≡ place_to_seek (take len (map (term_in (before lists) places blocks) (before order))) }
+        → result ≡ place_to_seek (take len (map (term_in lists.now places blocks) order.now)) }
 {
     let mut at = len - 1;
     let mut highest = score::max_score(lists, order[at]);
@@ -116,7 +115,7 @@ pub fn least_doc(
 ) -> u32
     requires { (len ≤ n) × (n ≤ 16) × Sixteen order.now × All (Readable places.now) (take n order.now) }
     ensures { (lists : List (List ℕ))
-        → result ≡ least_doc_of from (drop len (take n (map (term_in lists (before places) (before blocks)) (before order)))) }
+        → result ≡ least_doc_of from (drop len (take n (map (term_in lists places.now blocks.now) order.now))) }
 {
     let mut least = from;
     let mut i = len;

@@ -1,6 +1,5 @@
 // The scorers as structs in an array of 16, read off the tables in their order, and their slots written back.
 ghost use Rattle.std.specs.Prelude.{map, ◌≡◌, ◌≤◌, take};
-ghost use Rattle.arrays.specs.Lent.{before, after};
 ghost use Rattle.arrays.specs.Every.{All};
 ghost use Rattle.ordering.specs.Inner.Scorers.{slot_of};
 ghost use Rattle.term_scorer.specs.Inner.Slots.{Sixteen};
@@ -22,7 +21,7 @@ pub fn in_order(
 ) -> Scorers
     requires { (n ≤ 16) × Sixteen order.now × All (TopRead lists.now) (take n order.now)
         × All (Readable places.now) (take n order.now) }
-    ensures { let scorers = map (term_in (before lists) (before places) (before blocks)) (take n (before order)) in
+    ensures { let scorers = map (term_in lists.now places.now blocks.now) (take n order.now) in
         (result.len ≡ n) × (take n result.scorers ≡ scorers) }
 {
     let mut out = [TermScorer {
@@ -51,7 +50,7 @@ pub fn in_order(
 pub fn keep_order(scorers: Scorers, order: &mut [usize; 16])
     requires { (scorers.len ≤ 16) × Sixteen order.old }
     ensures { let slots = map slot_of (take scorers.len scorers.scorers) in
-        Ordered scorers.len (before order) scorers.len slots (after order) }
+        Ordered scorers.len order.old scorers.len slots order.new }
 {
     let len = scorers.len;
     let array = scorers.scorers;

@@ -1,6 +1,5 @@
 // A slot's two rows of numbers: those of its list's part, and those of its place. Structs are made of them at a block change only.
 ghost use Rattle.std.specs.Prelude.{◌≡◌, get_or};
-ghost use Rattle.arrays.specs.Lent.{before, after};
 ghost use Rattle.notefile.specs.Inner.Given.{BlocksIn, Limits, NormsIn, WeightIn};
 ghost use Rattle.slot_rows.specs.Inner.Rows.{part_in, part_row, PartRow, postings_in, place_row, Narrow, Standing};
 
@@ -58,7 +57,7 @@ pub const MAX_SCORE: usize = 7;
 
 // A part's numbers and its list bound's bits, put into a row.
 pub fn keep_part(x: Part, max_score: u32, list: &mut [usize; 8])
-    ensures { (after list ≡ part_row x max_score) × PartRow (after list) }
+    ensures { (list.new ≡ part_row x max_score) × PartRow list.new }
 {
     *list = [
         x.weight as usize,
@@ -75,7 +74,7 @@ pub fn keep_part(x: Part, max_score: u32, list: &mut [usize; 8])
 // The part of a row.
 pub fn part_of(list: &[usize; 8]) -> Part
     requires { PartRow list.now }
-    ensures { result ≡ part_in (before list) }
+    ensures { result ≡ part_in list.now }
 {
     Part {
         weight: list[0] as u32,
@@ -91,7 +90,7 @@ pub fn part_of(list: &[usize; 8]) -> Part
 // The struct of a row's list, with its norms.
 pub fn weight_of(list: &[usize; 8], norms: &[f32; 256]) -> Bm25Weight
     requires { PartRow list.now × Limits (part_in list.now) × NormsIn (part_in list.now) norms.now }
-    ensures { WeightIn (part_in (before list)) result }
+    ensures { WeightIn (part_in list.now) result }
 {
     let x = part_of(list);
     part::weight_of(x, norms)
@@ -99,7 +98,7 @@ pub fn weight_of(list: &[usize; 8], norms: &[f32; 256]) -> Bm25Weight
 
 // A place's numbers, put into a row. Its bound is not known, and its scores are not made; bounds that stand ready still do.
 pub fn keep(p: SegmentPostings, place: &mut Place)
-    ensures { (after place ≡ place_row p 0 0 (get_or (before place) 9 0)) × Narrow p }
+    ensures { (place.new ≡ place_row p 0 0 (get_or place.old 9 0)) × Narrow p }
 {
     let reader = p.skip_reader;
     let ahead = place[AHEAD];
@@ -124,7 +123,7 @@ pub fn keep(p: SegmentPostings, place: &mut Place)
 // The place of a row. Its skip reader reads the block's entry again.
 pub fn postings_of(file: &[u8], x: Part, place: &Place) -> SegmentPostings
     requires { BlocksIn file.now x × Standing file.now x place.now }
-    ensures { result ≡ postings_in (before file) x (before place) }
+    ensures { result ≡ postings_in file.now x place.now }
 {
     let previous = place[PREVIOUS] as u32;
     let skip_reader = SkipReader::on(file, x, place[BLOCK], place[BYTE_OFFSET], previous);

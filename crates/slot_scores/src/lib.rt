@@ -1,7 +1,8 @@
 // Scores by slot: of the posting that a scorer stands on, and of the block that it decoded last.
+#![tactic(auto)]
+
 ghost use Rattle.std.specs.Prelude.{◌≡◌, [], ◌+◌, ◌<◌, get_or};
 ghost use Rattle.std.specs.Float.{nan};
-ghost use Rattle.arrays.specs.Lent.{before, after};
 ghost use Rattle.notefile.specs.Header.{norm_reader};
 ghost use Rattle.notefile.specs.Inner.Reads.{freqs_of};
 ghost use Rattle.skip_reader.specs.Inner.Decoded.{doc_in, ListIn};
@@ -19,7 +20,7 @@ use term_scorer::{Floats, SCORES};
 // The frequency of the posting on which slot q's scorer stands.
 pub fn term_freq(q: usize, places: &Places, blocks: &Blocks) -> u32
     requires { (q < 16) × (get_or (get_or places.now q []) 6 0 < 128) }
-    ensures { result ≡ get_or (freqs_of (get_or (before blocks) q [])) (get_or (get_or (before places) q []) 6 0) 0 }
+    ensures { result ≡ get_or (freqs_of (get_or blocks.now q [])) (get_or (get_or places.now q []) 6 0) 0 }
 {
     let cur = places[q][CUR];
     blocks[q][FREQS][cur]
@@ -40,7 +41,7 @@ pub fn score(
         (q < 16) × (similarity.norms ≡ norm_reader file.now) × SlotIn file.now lists.now slots q
         × Weighed lists.now norms.now q
         × (doc ≡ doc_in file.now (part_at lists.now q) (cursor_at places.now q).at) × (doc < 2147483647) }
-    ensures { result ≡ (list_at similarity.scoring (before file) (before lists) q).score (cursor_at (before places) q).at }
+    ensures { result ≡ (list_at similarity.scoring file.now lists.now q).score (cursor_at places.now q).at }
 {
     let reader = similarity.norms;
     let scoring = similarity.scoring;
@@ -53,7 +54,7 @@ pub fn score(
 // Whether block b is full and its frequencies have at most 24 bits: f32 holds them all, with the 1 of a strict block.
 fn narrow(file: &[u8], list: &[usize; 8], b: usize) -> bool
     requires { PartRow list.now × ListIn file.now (part_in list.now) }
-    ensures { result ≡ narrow_in (before file) (part_in (before list)) b }
+    ensures { result ≡ narrow_in file.now (part_in list.now) b }
 {
     if b < list[COUNT] / 128 {
         let x = part_of(list);
@@ -77,8 +78,8 @@ fn score_block(
     requires { let slots = held places.now blocks.now in
         (q < 16) × (similarity.norms ≡ norm_reader file.now) × SlotIn file.now lists.now slots q
         × Weighed lists.now norms.now q }
-    ensures { let list = list_at similarity.scoring (before file) (before lists) q in
-        BlockScores list (cursor_at (before places) q).dec (after scores) × FloatRow (after scores) }
+    ensures { let list = list_at similarity.scoring file.now lists.now q in
+        BlockScores list (cursor_at places.now q).dec scores.new × FloatRow scores.new }
 {
     let reader = similarity.norms;
     let scoring = similarity.scoring;
@@ -113,7 +114,7 @@ fn make_scores(
     requires { let slots = held places.old blocks.now in
         (q < 16) × (similarity.norms ≡ norm_reader file.now) × SlotIn file.now lists.now slots q
         × Weighed lists.now norms.now q × FloatRows floats.old }
-    ensures { ScoresMade similarity.scoring (before file) (before lists) q (before places) (before floats) (after places) (after floats) }
+    ensures { ScoresMade similarity.scoring file.now lists.now q places.old floats.old places.new floats.new }
 {
     score_block(
         file,
@@ -143,7 +144,7 @@ pub fn keep_scores(
         (q < 16) × (similarity.norms ≡ norm_reader file.now) × SlotIn file.now lists.now slots q
         × Weighed lists.now norms.now q × FloatRows floats.old
         × ScoresKept similarity.scoring file.now lists.now places.old floats.old q }
-    ensures { ScoresMade similarity.scoring (before file) (before lists) q (before places) (before floats) (after places) (after floats) }
+    ensures { ScoresMade similarity.scoring file.now lists.now q places.old floats.old places.new floats.new }
 {
     if places[q][SCORED] != MADE {
         make_scores(file, similarity, lists, norms, q, places, blocks, floats);
@@ -153,7 +154,7 @@ pub fn keep_scores(
 // What slot q's scores have of the posting on which its scorer stands.
 fn score_in(q: usize, places: &Places, floats: &Floats) -> f32
     requires { (q < 16) × (get_or (get_or places.now q []) 6 0 < 128) }
-    ensures { result ≡ get_or (get_or (before floats) (2 + q) []) (get_or (get_or (before places) q []) 6 0) nan }
+    ensures { result ≡ get_or (get_or floats.now (2 + q) []) (get_or (get_or places.now q []) 6 0) nan }
 {
     let cur = places[q][CUR];
     floats[SCORES + q][cur]
@@ -176,8 +177,8 @@ pub fn kept_score(
         × Weighed lists.now norms.now q × FloatRows floats.old
         × ScoresKept similarity.scoring file.now lists.now places.old floats.old q
         × (doc_in file.now (part_at lists.now q) (cursor_at places.old q).at < 2147483647) }
-    ensures { (result ≡ (list_at similarity.scoring (before file) (before lists) q).score (cursor_at (before places) q).at)
-        × ScoresMade similarity.scoring (before file) (before lists) q (before places) (before floats) (after places) (after floats) }
+    ensures { (result ≡ (list_at similarity.scoring file.now lists.now q).score (cursor_at places.old q).at)
+        × ScoresMade similarity.scoring file.now lists.now q places.old floats.old places.new floats.new }
 {
     if places[q][SCORED] == MADE {
         return score_in(q, places, floats);

@@ -1,5 +1,7 @@
 // The scorers of a run. Each has a slot, where lent arrays keep its list's numbers, its place in the list,
 // and the block that it decoded last.
+#![tactic(auto)]
+
 pub mod score;
 pub mod slot;
 
@@ -16,7 +18,7 @@ pub const SCORES: usize = 2;
 
 // The document that a scorer stands on, its list bound, and the slot in which its list, its place there and its decoded
 // block are kept.
-#[derive(Drop)]
+#[derive(Clone, Copy)]
 pub struct TermScorer {
     pub doc: u32,
     pub max_score: f32,

@@ -1,6 +1,5 @@
 // A scorer's moves by its slot. The other slots stay as they are.
 ghost use Rattle.std.specs.Prelude.{◌≡◌, [], ◌≤◌, ◌<◌, get_or, ltb};
-ghost use Rattle.arrays.specs.Lent.{before, after};
 ghost use Rattle.route.specs.Cursor.{advance_in, seek_block_in, seek_in};
 ghost use Rattle.route.specs.Postings.{start};
 ghost use Rattle.notefile.specs.Lists.{full_blocks};
@@ -28,9 +27,9 @@ pub fn open(
 ) -> u32
     requires { (q < 16) × ListIn file.now x
         × Sixteen lists.old × Sixteen places.old × Sixteen blocks.old }
-    ensures { let old = held (before places) (before blocks) in
-        let new = held (after places) (after blocks) in
-        Opened (before file) x max_score q (before lists) (after lists) old new result }
+    ensures { let old = held places.old blocks.old in
+        let new = held places.new blocks.new in
+        Opened file.now x max_score q lists.old lists.new old new result }
 {
     keep_part(x, max_score, &mut lists[q]);
     slot_moves::open(file, x, &mut places[q], &mut blocks[q])
@@ -39,7 +38,7 @@ pub fn open(
 // The document that slot q's scorer stands on.
 pub fn doc(q: usize, places: &Places, blocks: &Blocks) -> u32
     requires { (q < 16) × (get_or (get_or places.now q []) 6 0 < 128) }
-    ensures { result ≡ get_or (docs_of (get_or (before blocks) q [])) (get_or (get_or (before places) q []) 6 0) 0 }
+    ensures { result ≡ get_or (docs_of (get_or blocks.now q [])) (get_or (get_or places.now q []) 6 0) 0 }
 {
     let cur = places[q][CUR];
     blocks[q][DOCS][cur]
@@ -48,7 +47,7 @@ pub fn doc(q: usize, places: &Places, blocks: &Blocks) -> u32
 // The last document of the block on which the skip reader stands.
 pub fn last_doc_in_block(q: usize, places: &Places) -> u32
     requires { (q < 16) × (last_at places.now q < 4294967296) }
-    ensures { result ≡ last_at (before places) q }
+    ensures { result ≡ last_at places.now q }
 {
     places[q][LAST] as u32
 }
@@ -56,7 +55,7 @@ pub fn last_doc_in_block(q: usize, places: &Places) -> u32
 // Whether the block on which the skip reader stands has a document.
 pub fn has_remaining_docs(file: &[u8], lists: &[[usize; 8]; 16], q: usize, places: &Places) -> bool
     requires { (q < 16) × StandingIn file.now lists.now places.now q }
-    ensures { result ≡ ltb (start 128 (cursor_at (before places) q).blk) (part_at (before lists) q).count }
+    ensures { result ≡ ltb (start 128 (cursor_at places.now q).blk) (part_at lists.now q).count }
 {
     places[q][BLOCK] * 128 < lists[q][COUNT]
 }
@@ -64,9 +63,9 @@ pub fn has_remaining_docs(file: &[u8], lists: &[[usize; 8]; 16], q: usize, place
 // The skip reader alone goes on to the block that may hold the target.
 pub fn seek_block(file: &[u8], lists: &[[usize; 8]; 16], q: usize, target: u32, places: &mut Places)
     requires { (q < 16) × StandingIn file.now lists.now places.old q }
-    ensures { Shallowed (before file) (before lists) q
-        (λ s. seek_block_in (list_at s (before file) (before lists) q) 128 target (cursor_at (before places) q))
-        (before places) (after places) }
+    ensures { Shallowed file.now lists.now q
+        (λ s. seek_block_in (list_at s file.now lists.now q) 128 target (cursor_at places.old q))
+        places.old places.new }
 {
     slot_moves::seek_block(file, &lists[q], target, &mut places[q]);
 }
@@ -80,9 +79,9 @@ pub fn shallow_seek(
     places: &mut Places,
 )
     requires { (q < 16) × StandingIn file.now lists.now places.old q }
-    ensures { Shallowed (before file) (before lists) q
-        (λ s. seek_block_in (list_at s (before file) (before lists) q) 128 target (cursor_at (before places) q))
-        (before places) (after places) }
+    ensures { Shallowed file.now lists.now q
+        (λ s. seek_block_in (list_at s file.now lists.now q) 128 target (cursor_at places.old q))
+        places.old places.new }
 {
     let last = places[q][LAST];
     if target as usize <= last {
@@ -104,10 +103,10 @@ pub fn seek(
     requires { let slots = held places.old blocks.old in
         (q < 16) × SlotIn file.now lists.now slots q
         × (doc ≡ doc_in file.now (part_at lists.now q) (cursor_at places.old q).at) × (target ≤ 2147483647) }
-    ensures { let old = held (before places) (before blocks) in
-        let new = held (after places) (after blocks) in
-        SoughtSlot (before file) (before lists) q target
-        (λ s. seek_in (list_at s (before file) (before lists) q) 128 target (cursor_at (before places) q))
+    ensures { let old = held places.old blocks.old in
+        let new = held places.new blocks.new in
+        SoughtSlot file.now lists.now q target
+        (λ s. seek_in (list_at s file.now lists.now q) 128 target (cursor_at places.old q))
         old new result }
 {
     slot_moves::seek(file, &lists[q], doc, target, &mut places[q], &mut blocks[q])
@@ -123,10 +122,10 @@ pub fn advance(
 ) -> u32
     requires { let slots = held places.old blocks.old in
         (q < 16) × SlotIn file.now lists.now slots q × ((cursor_at places.old q).blk ≤ full_blocks (part_at lists.now q)) }
-    ensures { let old = held (before places) (before blocks) in
-        let new = held (after places) (after blocks) in
-        MovedSlot (before file) (before lists) q
-        (λ s. advance_in (list_at s (before file) (before lists) q) 128 (cursor_at (before places) q))
+    ensures { let old = held places.old blocks.old in
+        let new = held places.new blocks.new in
+        MovedSlot file.now lists.now q
+        (λ s. advance_in (list_at s file.now lists.now q) 128 (cursor_at places.old q))
         old new result }
 {
     slot_moves::advance(file, &lists[q], &mut places[q], &mut blocks[q])
@@ -142,10 +141,10 @@ pub fn step(
 ) -> u32
     requires { let slots = held places.old blocks.old in
         (q < 16) × SlotIn file.now lists.now slots q × ((cursor_at places.old q).blk ≤ full_blocks (part_at lists.now q)) }
-    ensures { let old = held (before places) (before blocks) in
-        let new = held (after places) (after blocks) in
-        MovedSlot (before file) (before lists) q
-        (λ s. advance_in (list_at s (before file) (before lists) q) 128 (cursor_at (before places) q))
+    ensures { let old = held places.old blocks.old in
+        let new = held places.new blocks.new in
+        MovedSlot file.now lists.now q
+        (λ s. advance_in (list_at s file.now lists.now q) 128 (cursor_at places.old q))
         old new result }
 {
     let cur = places[q][CUR];
@@ -165,9 +164,9 @@ pub fn load(
     blocks: &mut Blocks,
 ) -> u32
     requires { (q < 16) × SlotIn file.now lists.now (held places.old blocks.old) q }
-    ensures { let old = held (before places) (before blocks) in
-        let new = held (after places) (after blocks) in
-        MovedSlot (before file) (before lists) q (λ _. first_of (cursor_at (before places) q)) old new result }
+    ensures { let old = held places.old blocks.old in
+        let new = held places.new blocks.new in
+        MovedSlot file.now lists.now q (λ _. first_of (cursor_at places.old q)) old new result }
 {
     slot_moves::load(file, &lists[q], &mut places[q], &mut blocks[q])
 }

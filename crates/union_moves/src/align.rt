@@ -1,6 +1,5 @@
 // The scorers before the pivot come onto it, or one goes past it.
 ghost use Rattle.std.specs.Prelude.{◌≤◌, ◌<◌, take};
-ghost use Rattle.arrays.specs.Lent.{before, after};
 ghost use Rattle.term_scorer.specs.Inner.Slots.{held, Sixteen};
 ghost use Rattle.union_moves.specs.Inner.Seats.{Lined};
 ghost use Rattle.union_moves.specs.Inner.Moves.{Aligns};
@@ -11,7 +10,7 @@ use slot_rows::place::{Blocks, Places};
 use term_scorer::slot;
 
 // How many scorers are left, and whether all came to the pivot.
-#[derive(Drop)]
+#[derive(Clone, Copy)]
 pub struct Alignment {
     pub len: usize,
     pub on_pivot: bool,
@@ -31,9 +30,9 @@ pub fn align_scorers(
     requires { let slots = held places.old blocks.old in
         (before_pivot_len < n) × (n ≤ 16) × (pivot_doc < 2147483647) × Sixteen order.old
         × Lined file.now lists.now slots (take n order.old) }
-    ensures { let old = held (before places) (before blocks) in
-        let new = held (after places) (after blocks) in
-        Aligns (before file) (before lists) pivot_doc old (before order) n before_pivot_len new (after order) result }
+    ensures { let old = held places.old blocks.old in
+        let new = held places.new blocks.new in
+        Aligns file.now lists.now pivot_doc old order.old n before_pivot_len new order.new result }
 {
     let mut i = before_pivot_len;
     while 0 < i {

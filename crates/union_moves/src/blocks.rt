@@ -1,6 +1,5 @@
 // The blocks that may hold the pivot, and the sum of their bounds.
 ghost use Rattle.std.specs.Prelude.{◌≡◌, ℕ, ◌≤◌, take};
-ghost use Rattle.arrays.specs.Lent.{before, after};
 ghost use Rattle.notefile.specs.Header.{norm_reader};
 ghost use Rattle.term_scorer.specs.Inner.Slots.{held, Sixteen};
 ghost use Rattle.union_moves.specs.Inner.Seats.{Seated, terms, terms_of};
@@ -28,13 +27,13 @@ pub fn seek_blocks(
         let first = terms_of file.now lists.now similarity.scoring places.old (take pivot_len order.now) in
         (pivot_len ≤ 16) × (similarity.norms ≡ norm_reader file.now) × Sixteen order.now
         × Seated file.now lists.now T (held places.old blocks.now) first }
-    ensures { let T = terms similarity.scoring (before norms) (before floats) in
-        let old = held (before places) (before blocks) in
-        let new = held (after places) (before blocks) in
+    ensures { let T = terms similarity.scoring norms.now floats.old in
+        let old = held places.old blocks.now in
+        let new = held places.new blocks.now in
         ((n : ℕ) → pivot_len ≤ n
-        → let l = terms_of (before file) (before lists) similarity.scoring (before places) (take n (before order)) in
-        Seated (before file) (before lists) T old l
-        → BlocksSought (before file) (before lists) T old pivot_doc pivot_len new (after floats) result l) }
+        → let l = terms_of file.now lists.now similarity.scoring places.old (take n order.now) in
+        Seated file.now lists.now T old l
+        → BlocksSought file.now lists.now T old pivot_doc pivot_len new floats.new result l) }
 {
     let mut sum = 0.0f32;
     let mut i = 0usize;

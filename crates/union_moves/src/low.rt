@@ -1,6 +1,5 @@
 // Past blocks that are too low: one scorer goes on.
 ghost use Rattle.std.specs.Prelude.{◌≡◌, ◌≤◌, ◌<◌, take};
-ghost use Rattle.arrays.specs.Lent.{before, after};
 ghost use Rattle.arrays.specs.Every.{All};
 ghost use Rattle.route.specs.Union.{behind};
 ghost use Rattle.term_scorer.specs.Inner.Slots.{held, Sixteen};
@@ -18,7 +17,7 @@ use term_scorer::slot;
 // The least last document of the first scorers' present blocks.
 fn least_last_doc(order: &[usize; 16], pivot_len: usize, places: &Places) -> u32
     requires { (pivot_len ≤ 16) × Sixteen order.now × All (LastRead places.now) (take pivot_len order.now) }
-    ensures { result ≡ least_last_of (before places) 2147483647 (take pivot_len (before order)) }
+    ensures { result ≡ least_last_of places.now 2147483647 (take pivot_len order.now) }
 {
     let mut least = TERMINATED;
     let mut i = 0usize;
@@ -57,9 +56,9 @@ pub fn block_max_was_too_low_advance_one_scorer(
     requires { let slots = held places.old blocks.old in
         (0 < pivot_len) × (pivot_len ≤ n) × (n ≤ 16) × Sixteen order.old
         × Lined file.now lists.now slots (take n order.old) × All (TopRead lists.now) (take n order.old) }
-    ensures { let old = held (before places) (before blocks) in
-        let new = held (after places) (after blocks) in
-        TooLow (before file) (before lists) old (before order) n pivot_len new (after order) }
+    ensures { let old = held places.old blocks.old in
+        let new = held places.new blocks.new in
+        TooLow file.now lists.now old order.old n pivot_len new order.new }
 {
     let doc_to_seek_after = least_last_doc(order, pivot_len, places);
     let target = least_doc(

@@ -1,6 +1,7 @@
 // The scorers on the pivot: their scores' sum, and all of them to their next documents.
+#![tactic(auto)]
+
 ghost use Rattle.std.specs.Prelude.{map, ◌≡◌, ◌≤◌, ◌<◌, take};
-ghost use Rattle.arrays.specs.Lent.{before, after};
 ghost use Rattle.arrays.specs.Every.{All};
 ghost use Rattle.route.specs.Score.{sum};
 ghost use Rattle.route.specs.F32.{f32};
@@ -18,7 +19,7 @@ use term_scorer::score::Leg;
 use term_scorer::{Floats, slot};
 
 // Where a pivot is among len scorers: those up to before_pivot_len stand before it, those up to pivot_len on it.
-#[derive(Drop)]
+#[derive(Clone, Copy)]
 pub struct Span {
     pub len: usize,
     pub before_pivot_len: usize,
@@ -42,12 +43,12 @@ pub fn score_on_pivot(
         let slots = held places.old blocks.now in
         (span.pivot_len ≤ 16) × (leg.similarity.norms ≡ norm_reader file.now) × Sixteen order.now
         × FloatRows floats.old × All (OnDocument file.now lists.now T slots) (take span.pivot_len order.now) }
-    ensures { let old = held (before places) (before blocks) in
-        let new = held (after places) (before blocks) in
-        let slots = take span.pivot_len (before order) in
-        let first = map (slot_scorer (before file) (before lists) leg.similarity.scoring (before places)) slots in
+    ensures { let old = held places.old blocks.now in
+        let new = held places.new blocks.now in
+        let slots = take span.pivot_len order.now in
+        let first = map (slot_scorer file.now lists.now leg.similarity.scoring places.old) slots in
         (result ≡ sum f32 (map score_here first))
-        × Unmoved (before file) (before lists) leg.similarity.scoring (before norms) (before floats) old (after floats) new }
+        × Unmoved file.now lists.now leg.similarity.scoring norms.now floats.old old floats.new new }
 {
     let similarity = leg.similarity;
     let pivot_len = span.pivot_len;
@@ -75,9 +76,9 @@ pub fn advance_all_scorers_on_pivot(
     requires { let slots = held places.old blocks.old in
         (pivot_len ≤ n) × (n ≤ 16) × Sixteen order.old × Lined file.now lists.now slots (take n order.old)
         × All (Inside lists.now slots) (take pivot_len order.old) }
-    ensures { let old = held (before places) (before blocks) in
-        let new = held (after places) (after blocks) in
-        AdvancedAll (before file) (before lists) old (before order) n pivot_len new (after order) result }
+    ensures { let old = held places.old blocks.old in
+        let new = held places.new blocks.new in
+        AdvancedAll file.now lists.now old order.old n pivot_len new order.new result }
 {
     let mut i = 0usize;
     while i < pivot_len {

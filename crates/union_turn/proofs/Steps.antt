@@ -123,7 +123,7 @@ module _ {file : List ℕ} {lists : List (List ℕ)} {T : Terms} {t : Float} {h 
     at-pivot = rw still (record { found = found; seated = sought; safe = safe' })
 
     sum-above : {b : Bool} → f32.above upper t ≡ b → f32.above (sum f32 (map (block_max_score 128 f32) (map g (take len l)))) t ≡ b
-    sum-above q = rw B.sum_is_lem at q
+    sum-above q = rw B.sum_is at q
 
     -- the block bounds are high enough
     pub high : f32.above upper t ≡ true → {h'' : Held} {order'' : List ℕ} {floats'' : List (List Float)} {r : Step} → Pivoted file lists T' t h' order n at h'' order'' floats'' r

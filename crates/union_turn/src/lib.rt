@@ -1,6 +1,7 @@
 // One turn of `block_wand`'s loop, which ends at its report: before one, or behind one, the turn is the rest.
+#![tactic(auto)]
+
 ghost use Rattle.std.specs.Prelude.{◌≡◌, ◌≤◌, take};
-ghost use Rattle.arrays.specs.Lent.{before, after};
 ghost use Rattle.arrays.specs.Every.{All};
 ghost use Rattle.notefile.specs.Header.{norm_reader};
 ghost use Rattle.term_scorer.specs.Inner.Slots.{held, Sixteen};
@@ -20,7 +21,7 @@ use union_moves::low::block_max_was_too_low_advance_one_scorer;
 use union_pivot::{Span, advance_all_scorers_on_pivot, score_on_pivot};
 
 // Before a pivot is looked for; behind a report, with so many scorers on its document that have still to go on; returned.
-#[derive(Drop)]
+#[derive(Clone, Copy)]
 pub enum Stage {
     Looking,
     Called(usize),
@@ -28,14 +29,14 @@ pub enum Stage {
 }
 
 // What of a union's run stands in no table: how many scorers are left, and its stage.
-#[derive(Drop)]
+#[derive(Clone, Copy)]
 pub struct Union {
     pub len: usize,
     pub stage: Stage,
 }
 
 // The scorers left and the stage that follows, and whether document doc is due with its score.
-#[derive(Drop)]
+#[derive(Clone, Copy)]
 pub struct Step {
     pub union: Union,
     pub due: bool,
@@ -73,11 +74,11 @@ fn hit(
         (span.pivot_len ≤ span.len) × (span.len ≤ 16) × (leg.similarity.norms ≡ norm_reader file.now) × Sixteen order.old
         × Seated file.now lists.now T slots l
         × All (OnDocument file.now lists.now T slots) (take span.pivot_len order.old) }
-    ensures { let T = terms leg.similarity.scoring (before norms) (before floats) in
-        let old = held (before places) (before blocks) in
-        let new = held (after places) (after blocks) in
-        Hit (before file) (before lists) T leg.threshold old (before order) span.len
-        span.pivot_len span.pivot_doc new (after order) (after floats) result }
+    ensures { let T = terms leg.similarity.scoring norms.now floats.old in
+        let old = held places.old blocks.old in
+        let new = held places.new blocks.new in
+        Hit file.now lists.now T leg.threshold old order.old span.len
+        span.pivot_len span.pivot_doc new order.new floats.new result }
 {
     let n = span.len;
     let pivot_len = span.pivot_len;
@@ -112,10 +113,10 @@ fn on_pivot(
         let l = terms_of file.now lists.now scoring places.old (take span.len order.old) in
         (span.len ≤ 16) × (leg.similarity.norms ≡ norm_reader file.now) × Sixteen order.old
         × AtPivot file.now lists.now (terms scoring norms.now floats.old) slots l span }
-    ensures { let T = terms leg.similarity.scoring (before norms) (before floats) in
-        let old = held (before places) (before blocks) in
-        let new = held (after places) (after blocks) in
-        Pivoted (before file) (before lists) T leg.threshold old (before order) span.len span new (after order) (after floats) result }
+    ensures { let T = terms leg.similarity.scoring norms.now floats.old in
+        let old = held places.old blocks.old in
+        let new = held places.new blocks.new in
+        Pivoted file.now lists.now T leg.threshold old order.old span.len span new order.new floats.new result }
 {
     let alignment = align_scorers(
         file,
@@ -149,11 +150,11 @@ fn to_pivot(
         let slots = held places.old blocks.old in
         (leg.similarity.norms ≡ norm_reader file.now)
         × ToPivot file.now lists.now T leg.threshold slots order.old span.len span }
-    ensures { let T = terms leg.similarity.scoring (before norms) (before floats) in
-        let old = held (before places) (before blocks) in
-        let new = held (after places) (after blocks) in
-        Turned (before file) (before lists) T leg.threshold Looking
-        old (before order) span.len new (after order) (after floats) result }
+    ensures { let T = terms leg.similarity.scoring norms.now floats.old in
+        let old = held places.old blocks.old in
+        let new = held places.new blocks.new in
+        Turned file.now lists.now T leg.threshold Looking
+        old order.old span.len new order.new floats.new result }
 {
     let upper_bound = seek_blocks(
         file,
@@ -192,10 +193,10 @@ fn look(
         let u = (quiet_step n Looking).union in
         (leg.similarity.norms ≡ norm_reader file.now)
         × Stands file.now lists.now (terms scoring norms.now floats.old) u order.old slots }
-    ensures { let T = terms leg.similarity.scoring (before norms) (before floats) in
-        let old = held (before places) (before blocks) in
-        let new = held (after places) (after blocks) in
-        Turned (before file) (before lists) T leg.threshold Looking old (before order) n new (after order) (after floats) result }
+    ensures { let T = terms leg.similarity.scoring norms.now floats.old in
+        let old = held places.old blocks.old in
+        let new = held places.new blocks.new in
+        Turned file.now lists.now T leg.threshold Looking old order.old n new order.new floats.new result }
 {
     let pivot = find_pivot_doc(order, n, lists, leg.threshold, places, blocks);
     match pivot {
@@ -232,11 +233,11 @@ pub fn turn(
         let slots = held places.old blocks.old in
         (leg.similarity.norms ≡ norm_reader file.now)
         × Stands file.now lists.now (terms scoring norms.now floats.old) union order.old slots }
-    ensures { let T = terms leg.similarity.scoring (before norms) (before floats) in
-        let old = held (before places) (before blocks) in
-        let new = held (after places) (after blocks) in
-        Turned (before file) (before lists) T leg.threshold union.stage old (before order) union.len new
-        (after order) (after floats) result }
+    ensures { let T = terms leg.similarity.scoring norms.now floats.old in
+        let old = held places.old blocks.old in
+        let new = held places.new blocks.new in
+        Turned file.now lists.now T leg.threshold union.stage old order.old union.len new
+        order.new floats.new result }
 {
     let n = union.len;
     let stage = union.stage;

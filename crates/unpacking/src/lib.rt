@@ -1,8 +1,9 @@
 // A packed block by its width: 128 values of one width from 0 to 32, in four lanes. Each width has an arm of its own, with the word and
 // the bit at which each quarter of its block begins, so that the compiler lays out the rows of a width one after another, each shift a
 // constant. `eight` asks for these numbers to be the bit place, and carries it from there on.
+#![tactic(auto)]
+
 ghost use Rattle.std.specs.Prelude.{◌≡◌, ◌+◌, ◌*◌, ◌≤◌, length};
-ghost use Rattle.arrays.specs.Lent.{before, after};
 ghost use Rattle.bitpacker.specs.Inner.Rows.{First, InBytes, Unpacked};
 
 use bitpacker::{copy, eight};
@@ -10,7 +11,7 @@ use bitpacker::{copy, eight};
 // Widths from 26 to 31.
 fn from_26(s: &[u8], at: usize, width: u32, out: &mut [u32; 128])
     requires { (26 ≤ width) × InBytes (length s.now) at width × First s.now at width 0 out.old }
-    ensures { First (before s) at width 128 (after out) }
+    ensures { First s.now at width 128 out.new }
 {
     match width {
         26 => {
@@ -56,7 +57,7 @@ fn from_26(s: &[u8], at: usize, width: u32, out: &mut [u32; 128])
 // Widths from 20 to 25, and the wider ones.
 fn from_20(s: &[u8], at: usize, width: u32, out: &mut [u32; 128])
     requires { (20 ≤ width) × InBytes (length s.now) at width × First s.now at width 0 out.old }
-    ensures { First (before s) at width 128 (after out) }
+    ensures { First s.now at width 128 out.new }
 {
     match width {
         20 => {
@@ -102,7 +103,7 @@ fn from_20(s: &[u8], at: usize, width: u32, out: &mut [u32; 128])
 // Widths from 14 to 19, and the wider ones.
 fn from_14(s: &[u8], at: usize, width: u32, out: &mut [u32; 128])
     requires { (14 ≤ width) × InBytes (length s.now) at width × First s.now at width 0 out.old }
-    ensures { First (before s) at width 128 (after out) }
+    ensures { First s.now at width 128 out.new }
 {
     match width {
         14 => {
@@ -148,7 +149,7 @@ fn from_14(s: &[u8], at: usize, width: u32, out: &mut [u32; 128])
 // Widths from 8 to 13, and the wider ones.
 fn from_8(s: &[u8], at: usize, width: u32, out: &mut [u32; 128])
     requires { (8 ≤ width) × InBytes (length s.now) at width × First s.now at width 0 out.old }
-    ensures { First (before s) at width 128 (after out) }
+    ensures { First s.now at width 128 out.new }
 {
     match width {
         8 => {
@@ -194,7 +195,7 @@ fn from_8(s: &[u8], at: usize, width: u32, out: &mut [u32; 128])
 // Widths from 2 to 7, and the wider ones.
 fn from_2(s: &[u8], at: usize, width: u32, out: &mut [u32; 128])
     requires { (2 ≤ width) × InBytes (length s.now) at width × First s.now at width 0 out.old }
-    ensures { First (before s) at width 128 (after out) }
+    ensures { First s.now at width 128 out.new }
 {
     match width {
         2 => {
@@ -240,7 +241,7 @@ fn from_2(s: &[u8], at: usize, width: u32, out: &mut [u32; 128])
 // The 128 values of the packed block at a place. A block of no width has no words.
 pub fn unpack(s: &[u8], at: usize, width: u32, out: &mut [u32; 128])
     requires { (width ≤ 32) × (at + 16 * width ≤ length s.now) × (length out.old ≡ 128) }
-    ensures { Unpacked (before s) at width (after out) }
+    ensures { Unpacked s.now at width out.new }
 {
     match width {
         0 => {

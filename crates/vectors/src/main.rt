@@ -1,75 +1,44 @@
-// Replays samples of cases that the oracle has answered, runs, writes and finds, through the C interface's functions, and prints how often
-// each number was returned.
-//
-// A sample is a row of 32-bit words, least significant byte first: how many cases there are, then each case, which begins with its size in
-// bytes.
-mod finds;
-mod rows;
+// Replays samples of cases that the oracle has answered, runs and writes, through the C interface's functions, and prints how often each
+// number was returned.
+#![tactic(auto)]
+
 mod runs;
-mod words;
 mod writes;
 
 ghost use Rattle.std.specs.Prelude.{◌<◌};
 
-use crate::finds::replay_find;
 use crate::runs::replay_run;
-use crate::words::{Replayed, size};
 use crate::writes::replay_write;
-use libc::STDOUT_FILENO;
+use samples::tally::{more, print_line, print_tally};
+use samples::words::{Replayed, size};
+use std::io::Read;
+use std::rt::Files;
+use std::{fs, io};
 
-fn print_line(label: &[u8], n: u32) {
-    io::write_all(STDOUT_FILENO, label);
-    io::print_decimal(STDOUT_FILENO, n as u64);
-    io::write_all(STDOUT_FILENO, b"\n");
-}
-
-// The numbers that were returned at all.
-fn print_tally(tally: &[u32; 15]) {
-    let mut code = 0usize;
-    while code < 15 {
-        if tally[code] != 0 {
-            io::write_all(STDOUT_FILENO, b"returned ");
-            io::print_decimal(STDOUT_FILENO, code as u64);
-            print_line(b": ", tally[code]);
-        }
-        code += 1;
-    }
-}
-
-// One more, and no more than 32 bits hold.
-fn more(n: u32) -> u32 {
-    if n < 4294967295 { n + 1 } else { n }
-}
-
-// What the cases of a sample are.
-#[derive(Drop)]
-enum Kind {
-    Runs,
-    Writes,
-    Finds,
-}
+// The most bytes that are read of a sample.
+const MOST: u64 = 262144;
 
 // The case at a place.
-fn replay(data: &[u8], at: usize, kind: Kind) -> Replayed
+fn replay(data: &[u8], at: usize, writes: bool) -> Replayed
     requires { at < 4000000000 }
 {
-    match kind {
-        Kind::Runs => replay_run(data, at),
-        Kind::Writes => replay_write(data, at),
-        Kind::Finds => replay_find(data, at),
+    if writes {
+        return replay_write(data, at);
     }
+    replay_run(data, at)
 }
 
-fn replay_all(data: &[u8], kind: Kind) {
+// All cases of a sample, and what they returned.
+fn replay_all(rt: &impl Print, data: &[u8], writes: bool) -> io::Result<()> {
     let cases = size(data, 0, 65536);
-    let mut tally = [0u32; 15];
+    let mut tally = [0u32; 14];
     let mut differences = 0u32;
     let mut at = 4usize;
     let mut i = 0usize;
     while i < cases {
-        let r = replay(data, at, kind);
+        let r = replay(data, at, writes);
         let code = r.code as usize;
-        if code < 15 {
+        if code < 14 {
             tally[code] = more(tally[code]);
         }
         if !r.same {
@@ -78,28 +47,30 @@ fn replay_all(data: &[u8], kind: Kind) {
         at += size(data, at, 32768);
         i += 1;
     }
-    print_line(b"cases ", cases as u32);
-    print_tally(&tally);
-    print_line(b"differences ", differences);
+    print_line(rt, "cases ", cases as u32)?;
+    print_tally(rt, &tally)?;
+    print_line(rt, "differences ", differences)
 }
 
-fn replay_file(path: &[u8], kind: Kind) {
-    let fd = os::open_read(path);
-    if fd < 0 {
-        os::fail(path);
-        return;
+// The sample in a file. One that is not there is told of on standard error.
+fn replay_file<R: Files + Alloc + Print + Eprint>(
+    rt: &R,
+    path: &str,
+    writes: bool,
+) -> io::Result<()> {
+    match fs::open(rt, path) {
+        Ok(file) => {
+            let mut data = Vec::new(rt.alloc());
+            file.take(MOST).read_to_end(&mut data)?;
+            replay_all(rt, data.as_slice(), writes)
+        }
+        Err(error) => eprintln!(rt; "{path}: {error}"),
     }
-    let mut data = [0u8; 262144];
-    let n = io::read_full(fd, &mut data);
-    libc::close(fd);
-    replay_all(&data[..n], kind);
 }
 
-fn main() {
-    io::write_all(STDOUT_FILENO, b"runs\n");
-    replay_file(b"sample", Kind::Runs);
-    io::write_all(STDOUT_FILENO, b"writes\n");
-    replay_file(b"writes", Kind::Writes);
-    io::write_all(STDOUT_FILENO, b"finds\n");
-    replay_file(b"finds", Kind::Finds);
+fn main(rt: HostRuntime) -> io::Result<()> {
+    println!(rt; "runs")?;
+    replay_file(&rt, "sample", false)?;
+    println!(rt; "writes")?;
+    replay_file(&rt, "writes", true)
 }

@@ -1,9 +1,9 @@
 // A run's case: 14 words behind its size, the query, the script as pairs, the rows expected as pairs, and the note file's bytes.
 ghost use Rattle.std.specs.Prelude.{◌<◌};
 
-use crate::rows::{DOCUMENT, ROWS, SCORE, rows_agree};
-use crate::words::{FEW, Replayed, part, read_few, read_thresholds, size, threshold, word};
 use noterank::noterank_run;
+use samples::rows::{DOCUMENT, ROWS, SCORE, rows_agree};
+use samples::words::{FEW, Replayed, part, read_few, read_thresholds, size, threshold, word};
 
 // The run of the case at a place: after its size and the lengths of file and query come walk, mode, scoring, rule, the start's kind and
 // bits, and k.

@@ -1,10 +1,10 @@
 // A write's case: 13 words behind its size, the weights as pairs, counts, documents, frequencies, the norm bytes and the file expected.
 ghost use Rattle.std.specs.Prelude.{◌<◌};
 
-use crate::words::{
+use noterank::noterank_write;
+use samples::words::{
     FEW, MANY, Replayed, part, read_few, read_many, read_thresholds, size, threshold, word,
 };
-use noterank::noterank_write;
 
 // The most bytes of an output.
 const OUTPUT: usize = 4096;

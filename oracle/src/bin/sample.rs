@@ -1,5 +1,6 @@
 //! `sample SEED N FILE`: N runs with their answers, as words for the program `vectors`.
-//! `sample writes SEED N FILE`, `sample finds SEED N FILE`: N writes or finds with their answers.
+//! `sample writes SEED N FILE`: N writes, for it too; `sample finds SEED N FILE`: N finds, for the
+//! program `find_vectors`.
 //!
 //! The plain walk is answered by the plain program, the skipping walk by the published files, a
 //! write by the plain writer, a find by the plain finder. Small cases are taken, as many of each
@@ -16,7 +17,7 @@ use oracle::finder::{Find, Found};
 use oracle::generate::case;
 use oracle::{finds, plain, writer, writes};
 
-/// What `vectors` has room for.
+/// What both have room for.
 const QUERY: usize = 32;
 const SCRIPT: usize = 32;
 const ROWS: usize = 256;

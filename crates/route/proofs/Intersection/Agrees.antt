@@ -362,7 +362,7 @@ module _ {B N : ℕ} {O : Ops} {L : Ordered O} {K : Callback O.S} (G : NeverFall
             (λ y m n _. range-low E Q pm bs e i.tr y (K.threshold r) i.low (i.bnd y m (omega arith))
             (λ z p s. j6 z p (omega arith) (omega arith))))
             ∙ a.left in
-            let one : sum O (x0 ∷ []) ≡ c.score = Z.Sum-one x0 ok ∙ j3 in
+            let one : sum O (x0 ∷ []) ≡ c.score = Z.sum_one x0 ok ∙ j3 in
             let bn : Bnd B N E c.doc (lists ss) bs = subst (λ z. Bnd B N E c.doc z bs) (sym a.is-sl) (i.bnd c.doc j4 j5) in
             let lsl = ap length a.is-sl in
             let lls = length-map ss (λ s. s.list) in

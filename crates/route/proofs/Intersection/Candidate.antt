@@ -39,7 +39,7 @@ module _ (B N : ℕ) {O : Ops} {L : Ordered O} {M : ℕ} {Z : Sums O L M} (E : E
   -- ---- sums
 
   pub one-sum : (x : O.S) (ys : List O.S) → Z.Ok x → All Z.Ok ys → suc (length ys) ≤ M → O.add x (sum O ys) ≡ sum O (x ∷ ys)
-  one-sum x ys k a h = ap (λ z. O.add z (sum O ys)) (sym (Z.Sum-one x k)) ∙ E.sum-app (x ∷ []) ys (k, tt) a (omega arith)
+  one-sum x ys k a h = ap (λ z. O.add z (sum O ys)) (sym (Z.sum_one x k)) ∙ E.sum-app (x ∷ []) ys (k, tt) a (omega arith)
 
   pub back_sum : (bs : List O.S) → All Z.Ok bs → length bs ≤ M → sum_back O bs ≡ sum O bs
   back_sum [] a h = refl

@@ -4,16 +4,9 @@ use std::ffi::{OsStr, OsString};
 use std::path::PathBuf;
 use std::slice::Iter;
 
-use noterank::{Mode, Query, Rule, Scoring, Search, Walk};
+use noterank::{Mode, Query, Rule, Scoring, Walk};
 
 use crate::file::shown;
-
-/// How the answer is shown.
-#[derive(Clone, Copy, PartialEq, Eq)]
-pub enum Form {
-    Text,
-    Json,
-}
 
 /// What is to be done.
 pub enum Command {
@@ -35,32 +28,17 @@ pub struct Request {
     pub best: u32,
     pub start: f32,
     pub scoring: Scoring,
+    pub walk: Walk,
 }
 
 impl Request {
-    pub fn search(&self) -> Search<'_> {
-        let Request { mode, scoring, start, best, .. } = *self;
-        Search { lists: &self.lists, mode, scoring, start, k: best }
-    }
-
-    /// The same as a run that reports.
     pub fn query(&self, walk: Walk) -> Query<'_> {
         let rule = Rule::Best { start: self.start, k: self.best };
         Query { lists: &self.lists, mode: self.mode, walk, scoring: self.scoring, rule }
     }
 }
 
-/// The form, for which `--json` may stand anywhere, and what the other words ask for.
-pub fn read(words: impl Iterator<Item = OsString>) -> (Form, Result<Command, String>) {
-    let (marks, words): (Vec<_>, Vec<_>) = words.partition(|word| word == "--json");
-    match marks.len() {
-        0 => (Form::Text, parse(&words, Form::Text)),
-        1 => (Form::Json, parse(&words, Form::Json)),
-        _ => (Form::Json, Err("--json is given twice".into())),
-    }
-}
-
-fn parse(words: &[OsString], form: Form) -> Result<Command, String> {
+pub fn parse(words: Vec<OsString>) -> Result<Command, String> {
     if words.iter().any(|word| word == "--help" || word == "-h") {
         return Ok(Command::Help);
     }
@@ -68,10 +46,13 @@ fn parse(words: &[OsString], form: Form) -> Result<Command, String> {
     match command.to_str() {
         Some("check") => Ok(Command::Check(only_path(rest, "check takes one FILE")?)),
         Some("dump") => Ok(Command::Dump(only_path(rest, "dump takes one FILE")?)),
-        Some("write") => write(rest, form),
+        Some("write") => write(rest),
         Some("sample") => Ok(Command::Sample(only_path(rest, "sample takes one DIR")?)),
         Some("search") => Ok(Command::Search(request(rest)?)),
-        Some("both") => Ok(Command::Both(request(rest)?)),
+        Some("both") => match request(rest)? {
+            Request { walk: Walk::Plain, .. } => Err("both has no --plain: it runs both".into()),
+            request => Ok(Command::Both(request)),
+        },
         _ => Err(format!("there is no command {}", shown(command))),
     }
 }
@@ -83,14 +64,9 @@ fn only_path(words: &[OsString], otherwise: &str) -> Result<PathBuf, String> {
     }
 }
 
-fn write(words: &[OsString], form: Form) -> Result<Command, String> {
+fn write(words: &[OsString]) -> Result<Command, String> {
     match words {
-        _ if words.iter().any(|word| is_option(word)) => {
-            Err("write has no options but --json".into())
-        }
-        [_] if form == Form::Json => {
-            Err("write --json takes a FILE: its bytes cannot go where the JSON goes".into())
-        }
+        _ if words.iter().any(|word| is_option(word)) => Err("write has no options".into()),
         [contents] => Ok(Command::Write(contents.into(), None)),
         [contents, file] => Ok(Command::Write(contents.into(), Some(file.into()))),
         _ => Err("write takes CONTENTS, and a FILE or none".into()),
@@ -101,10 +77,6 @@ fn is_option(word: &OsStr) -> bool {
     word.as_encoded_bytes().starts_with(b"-")
 }
 
-/// Whoever looks for a plain scan is told where it is.
-const NO_PLAIN: &str =
-    "there is no option --plain: the command both shows the plain scan beside the skipping run";
-
 /// Options as they stand, each at most once.
 #[derive(Default)]
 struct Options {
@@ -114,6 +86,7 @@ struct Options {
     best: Option<u32>,
     start: Option<f32>,
     unstepped: Option<()>,
+    plain: Option<()>,
 }
 
 fn request(words: &[OsString]) -> Result<Request, String> {
@@ -130,6 +103,7 @@ fn request(words: &[OsString]) -> Result<Request, String> {
         best: options.best.unwrap_or(10),
         start: options.start.unwrap_or(0.0),
         scoring,
+        walk: if options.plain.is_some() { Walk::Plain } else { Walk::Skipping },
     })
 }
 
@@ -146,7 +120,7 @@ impl Options {
             Some("--best") => once(&mut self.best, best(&value()?)?, word),
             Some("--start") => once(&mut self.start, start(&value()?)?, word),
             Some("--unstepped") => once(&mut self.unstepped, (), word),
-            Some("--plain") => Err(NO_PLAIN.into()),
+            Some("--plain") => once(&mut self.plain, (), word),
             _ if is_option(word) => Err(format!("there is no option {}", shown(word))),
             _ => once(&mut self.file, word.into(), OsStr::new("FILE")),
         }

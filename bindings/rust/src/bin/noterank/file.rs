@@ -6,8 +6,9 @@ use std::io::{self, Read, Write};
 use std::path::Path;
 
 use noterank::layout::MOST_BYTES;
+use noterank::sample;
 
-use crate::answer::Failure;
+use crate::{Answer, Failure};
 
 /// A name as it may be printed: what is no text, or would move the cursor, is replaced.
 pub fn shown(name: impl AsRef<OsStr>) -> String {
@@ -28,7 +29,7 @@ fn read_within(path: &Path, most: u64) -> io::Result<Option<Vec<u8>>> {
 }
 
 fn read_or_fail(path: &Path, most: u64, than: &str) -> Result<Vec<u8>, Failure> {
-    let unreadable = |text| Failure::File(format!("{}: {text}", shown(path)));
+    let unreadable = |text| Failure::unreadable(format!("{}: {text}", shown(path)));
     match read_within(path, most) {
         Ok(Some(bytes)) => Ok(bytes),
         Ok(None) => Err(unreadable(format!("over {most} bytes, longer than {than}"))),
@@ -47,9 +48,8 @@ pub fn read_text(path: &Path) -> Result<Vec<u8>, Failure> {
     read_or_fail(path, MOST_TEXT, "this tool takes contents")
 }
 
-/// The failure of a file or a folder that cannot be made.
-pub fn unwritable(path: &Path, error: io::Error) -> Failure {
-    Failure::File(format!("{}: cannot be written: {error}", shown(path)))
+fn unwritable(path: &Path, error: io::Error) -> Failure {
+    Failure::unreadable(format!("{}: cannot be written: {error}", shown(path)))
 }
 
 /// Writes no file that is there already, and leaves none that is not whole.
@@ -61,4 +61,14 @@ pub fn create(path: &Path, bytes: &[u8]) -> Result<(), Failure> {
         let _ = fs::remove_file(path);
         unwritable(path, error)
     })
+}
+
+pub fn write_samples(folder: &Path) -> Result<Answer, Failure> {
+    fs::create_dir_all(folder).map_err(|error| unwritable(folder, error))?;
+    let mut text = String::new();
+    for sample in sample::all() {
+        create(&folder.join(sample.name), &sample.bytes)?;
+        text += &format!("{:<18}{}\n", sample.name, sample.about);
+    }
+    Ok(Answer::answered(text))
 }

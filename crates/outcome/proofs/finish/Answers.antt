@@ -1,0 +1,8 @@
+-- `finish` meets its contract: by the flag.
+use Rattle.outcome.proofs.finish.Goals as goal
+
+pub returns-then-full : goal.returns-then-full
+returns-then-full c = rw c.if-full.true
+
+pub returns : goal.returns
+returns c = rw c.if-full.false

@@ -1,0 +1,10 @@
+-- `slot::seek` meets its contract: the row of its slot moves, and the other slots stay.
+use borrow.Author.Rules.{rules}
+use Rattle.route.specs.Cursor.{seek_in}
+use Rattle.term_scorer.specs.Inner.Slots.{cursor_at, list_at}
+use Rattle.term_scorer.proofs.Slots.{sought-slot}
+use Rattle.term_scorer.proofs.slot.seek.Goals as goal
+
+pub returns : goal.returns
+returns c =
+    sought-slot c.args.file.now c.args.lists.now c.args.q c.requires.0 c.args.target (λ s. seek_in (list_at s c.args.file.now c.args.lists.now c.args.q) 128 c.args.target (cursor_at c.args.places.now c.args.q)) c.requires.1.sixteen c.seek.ensures
