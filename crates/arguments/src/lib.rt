@@ -8,35 +8,33 @@ use bm25::Scoring;
 use request::Mode;
 use rule::Rule;
 
-// The mode, the scoring and the rule of a number.
+// The mode, the scoring and the rule of a number. Not `TryFrom`: a number past the last is refused in the table's order, after the file.
 pub fn mode_at(mode: u32) -> Mode
     ensures { result ≡ mode_at mode }
 {
-    if mode == 0 {
-        return Mode::Union;
+    match mode {
+        0 => Mode::Union,
+        1 => Mode::Intersection,
+        _ => Mode::Single,
     }
-    if mode == 1 {
-        return Mode::Intersection;
-    }
-    Mode::Single
 }
 
 pub fn scoring_at(scoring: u32) -> Scoring
     ensures { result ≡ scoring_at scoring }
 {
-    if scoring == 0 {
-        return Scoring::Unstepped;
+    match scoring {
+        0 => Scoring::Unstepped,
+        _ => Scoring::Stepped,
     }
-    Scoring::Stepped
 }
 
 pub fn rule_at(rule: u32, start: f32, k: u32) -> Rule
     ensures { result ≡ rule_at rule start k }
 {
-    if rule == 0 {
-        return Rule::Script(start);
+    match rule {
+        0 => Rule::Script(start),
+        _ => Rule::BestK(start, k),
     }
-    Rule::BestK(start, k)
 }
 
 // A list has at most a file's 1,048,576 documents, so its count fits 32 bits.

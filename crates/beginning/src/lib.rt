@@ -3,7 +3,6 @@
 
 ghost use Rattle.std.specs.Prelude.{◌≡◌, ◌≤◌};
 ghost use Rattle.notefile.specs.Header.{norm_reader};
-ghost use Rattle.term_scorer.specs.Inner.Slots.{Sixteen};
 ghost use Rattle.query.specs.Inner.Openings as opening;
 ghost use Rattle.query.specs.Inner.Openings.{Room};
 ghost use Rattle.beginning.specs.Inner.Begins.{plain_from, single_from, Began, Opens, Right, TaskBegun, UnionBegun};
@@ -69,7 +68,7 @@ fn begin_single(only: TermScorer) -> Machine
 
 // The union: empty lists drop out; of one that is left the single scan runs.
 fn begin_union(scorers: [TermScorer; 16], n: usize, order: &mut [usize; 16]) -> Machine
-    requires { (n ≤ 16) × Sixteen order.old }
+    requires { n ≤ 16 }
     ensures { UnionBegun scorers n result order.old order.new }
 {
     let live = retain(scorers, n);
@@ -96,7 +95,7 @@ fn begin_machine(
     blocks: &Blocks,
 ) -> Machine
     requires { let opened = opening.tables lists.now norms.now places.now blocks.now in
-        (similarity.norms ≡ norm_reader file.now) × Right file.now query.now settings.mode × Sixteen order.old
+        (similarity.norms ≡ norm_reader file.now) × Right file.now query.now settings.mode
         × Opens similarity file.now query.now opened scorers }
     ensures { let opened = opening.tables lists.now norms.now places.now blocks.now in
         Began settings.way similarity file.now query.now settings.mode opened order.new result }
@@ -132,7 +131,7 @@ pub fn begin(
     blocks: &mut Blocks,
 ) -> Task
     requires { let room = opening.tables lists.old norms.old places.old blocks.old in
-        Right file.now query.now settings.mode × Sixteen order.old × Room room }
+        Right file.now query.now settings.mode × Room room }
     ensures { let opened = opening.tables lists.new norms.new places.new blocks.new in
         TaskBegun settings file.now query.now opened order.new result }
 {

@@ -12,7 +12,7 @@ use Rattle.route.specs.Postings.{Postings}
 use Rattle.route.specs.Plain.{Mode, hit, plain, scan, turn_of}
 use Rattle.route.proofs.Order.{FinOf, Ordered}
 use Rattle.best_notes.specs.Best.{best_of}
-use Rattle.best_notes.specs.Matches.{above, matches, matching_from, scored}
+use Rattle.best_notes.specs.Matches.{matches, matching_from, scored}
 use Rattle.best_notes.specs.Inner.Offered.{Rising, offered}
 use Rattle.best_notes.proofs.Reported.{best-of-reports}
 

@@ -10,7 +10,7 @@ ghost use Rattle.bitpacker.specs.Inner.Rows.{Across, EachLane, First, InBytes, I
 
 use codec::bits::read_u32;
 
-// One number of each lane.
+// One number of each lane. Fields, and not an array: each function below names its lanes, and would read the same by numbers.
 #[derive(Clone, Copy)]
 pub struct Four {
     pub a: u32,
@@ -148,10 +148,8 @@ pub fn eight(
         left: 32 - start,
         next: p + 16,
     };
-    let mut n: usize = 0;
-    while n < 32 {
-        place = row(s, place, width, mask, i + n, out);
-        n += 4;
+    for n in 0..8 {
+        place = row(s, place, width, mask, i + 4 * n, out);
     }
 }
 
@@ -160,11 +158,7 @@ pub fn copy(s: &[u8], at: usize, out: &mut [u32; 128])
     requires { (at + 512 ≤ length s.now) × (length out.old ≡ 128) }
     ensures { Unpacked s.now at 32 out.new }
 {
-    let mut p = at;
-    let mut i: usize = 0;
-    while i < 128 {
-        out[i] = read_u32(s, p);
-        p += 4;
-        i += 1;
+    for i in 0..128 {
+        out[i] = read_u32(s, at + 4 * i);
     }
 }

@@ -1,10 +1,10 @@
 // Whether a bound lies below no score of a block: scores are compared in the loop that makes them, and no array of them is written.
 #![tactic(auto)]
 
-ghost use Rattle.std.specs.Prelude.{◌≡◌, true, ◌≤◌};
+ghost use Rattle.std.specs.Prelude.{◌≡◌, ◌≤◌};
 ghost use Rattle.bm25.specs.Bound.{all_covered};
 ghost use Rattle.block_norms.specs.Inner.Codes.{Below};
-ghost use Rattle.bm25_block.specs.Inner.Block.{ExactWhere, all_exact, posting_score, weighed_at};
+ghost use Rattle.bm25_block.specs.Inner.Block.{ExactWhere, Rounds, posting_score, weighed_at};
 ghost use Rattle.block_cover.specs.Inner.Cover.{block_covered};
 
 use block_norms::{read_norms, read_norms_below};
@@ -12,42 +12,24 @@ use bm25::{Bm25Weight, Scoring};
 use bm25_block::{all_exact, exact};
 use fieldnorm::FieldNormReader;
 
-// Whether the bound lies below none of the first n scores, where f32 holds each frequency.
-fn exact_covered(weight: f32, norms: &[f32; 128], freqs: &[u32; 128], n: usize, bound: f32) -> bool
-    requires { (n ≤ 128) × (all_exact freqs.now ≡ true) }
-    ensures { result ≡ all_covered bound n (weighed_at weight freqs.now norms.now) }
-{
-    let mut right = true;
-    let mut i = 0usize;
-    while i < n {
-        let whole = exact(freqs[i]);
-        if bound < bm25::score_at(weight, norms[i], whole) {
-            right = false;
-        }
-        i += 1;
-    }
-    right
-}
-
-// Whether the bound lies below none of the first n scores, each frequency rounded to the nearest f32.
-fn rounded_covered(
+// Whether the bound lies below none of the first n scores, each frequency made f32 by `to_f32`.
+fn covered_by<F: Fn(u32) -> f32>(
+    to_f32: F,
     weight: f32,
     norms: &[f32; 128],
     freqs: &[u32; 128],
     n: usize,
     bound: f32,
 ) -> bool
-    requires { n ≤ 128 }
+    requires { (n ≤ 128) × Rounds (F.pre to_f32) (F.post to_f32) n freqs.now }
     ensures { result ≡ all_covered bound n (weighed_at weight freqs.now norms.now) }
 {
     let mut right = true;
-    let mut i = 0usize;
-    while i < n {
-        let tf = floats::u32_to_f32(freqs[i]);
+    for i in 0..n {
+        let tf = to_f32(freqs[i]);
         if bound < bm25::score_at(weight, norms[i], tf) {
             right = false;
         }
-        i += 1;
     }
     right
 }
@@ -65,9 +47,9 @@ fn norms_covered(
     ensures { result ≡ all_covered bound n (weighed_at weight freqs.now norms.now) }
 {
     if all_exact(small, freqs) {
-        return exact_covered(weight, norms, freqs, n, bound);
+        return covered_by(|f| exact(f), weight, norms, freqs, n, bound);
     }
-    rounded_covered(weight, norms, freqs, n, bound)
+    covered_by(|f| floats::u32_to_f32(f), weight, norms, freqs, n, bound)
 }
 
 // Whether the bound lies below no score of the first n postings.

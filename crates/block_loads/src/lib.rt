@@ -19,11 +19,8 @@ use unpacking::unpack;
 pub fn pad(values: &mut [u32; 128], n: usize)
     ensures { Padded values.old n values.new }
 {
-    let end = (&values[..]).len();
-    let mut i = n;
-    while i < end {
-        values[i] = TERMINATED;
-        i += 1;
+    if n < 128 {
+        values[n..].fill(TERMINATED);
     }
 }
 

@@ -1,7 +1,6 @@
-// What a full block is refused for, of 7 and 8, and else its two widths.
+// The two widths of a full block that rows 7 and 8 let through.
 #[derive(Clone, Copy)]
 pub struct Look {
-    pub refusal: u32,
     pub doc_bits: u32,
     pub freq_bits: u32,
 }

@@ -11,6 +11,7 @@ ghost use Rattle.block_look.specs.Inner.Joint.{steps, less_one, Joint};
 ghost use Rattle.block_look.specs.Inner.Looked.{Looked};
 
 use crate::found::Look;
+use outcome::refusal::Refusal;
 use posting_tests::tests::freqs_right;
 use std::num::wrapping_sub_u32;
 
@@ -28,10 +29,8 @@ fn doc_or(docs: &[u32], at: usize, base: u32) -> u32
     ensures { Joint (steps (λ i. slice_index docs.now (at + i)) base) result }
 {
     let mut all = wrapping_sub_u32(docs[at], base);
-    let mut i: usize = 1;
-    while i < 128 {
+    for i in 1..128 {
         all = all | wrapping_sub_u32(wrapping_sub_u32(docs[at + i], docs[at + i - 1]), 1);
-        i += 1;
     }
     all
 }
@@ -42,10 +41,8 @@ fn freq_or(freqs: &[u32], at: usize) -> u32
     ensures { Joint (less_one (λ i. slice_index freqs.now (at + i))) result }
 {
     let mut all: u32 = 0;
-    let mut i: usize = 0;
-    while i < 128 {
+    for i in 0..128 {
         all = all | wrapping_sub_u32(freqs[at + i], 1);
-        i += 1;
     }
     all
 }
@@ -80,30 +77,28 @@ fn bits(x: u32) -> u32
     32 - u32::leading_zeros(x)
 }
 
-// A full block's refusal, and its two widths if there is none.
-pub fn look(docs: &[u32], freqs: &[u32], at: usize, first: bool, previous: u32, limit: u32) -> Look
+// A full block's two widths, or what refuses it, of 7 and 8.
+pub fn look(
+    docs: &[u32],
+    freqs: &[u32],
+    at: usize,
+    first: bool,
+    previous: u32,
+    limit: u32,
+) -> Result<Look, Refusal>
     requires { (at + 128 ≤ length docs.now) × (at + 128 ≤ length freqs.now) × (limit ≤ 1048576) × (previous ≤ 1048576) }
     ensures { Looked docs.now freqs.now at first previous limit result }
 {
     let all_docs = doc_or(docs, at, base_of(first, previous));
     if !docs_fine(docs, at, first, previous, limit, all_docs) {
-        return Look {
-            refusal: 7,
-            doc_bits: 0,
-            freq_bits: 0,
-        };
+        return Err(Refusal::Documents);
     }
     let all_freqs = freq_or(freqs, at);
     if !freqs_fine(freqs, at, all_freqs) {
-        return Look {
-            refusal: 8,
-            doc_bits: 0,
-            freq_bits: 0,
-        };
+        return Err(Refusal::Frequencies);
     }
-    Look {
-        refusal: 0,
+    Ok(Look {
         doc_bits: bits(all_docs),
         freq_bits: bits(all_freqs),
-    }
+    })
 }

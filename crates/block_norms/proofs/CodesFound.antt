@@ -1,25 +1,14 @@
 -- Norm codes that stand in a file: what their places say of the documents' codes.
-use mathlib.Core.Path.{refl, sym, ap, ◌∙◌}
+use mathlib.Core.Path.{sym, ap, ◌∙◌}
 use mathlib.Core.List.{List}
-use Prim.Native.Nat.{ℕ, ◌+◌, ◌-◌, ◌<◌, ◌≤◌}
-use native.Mathlib.Nat.{not-suc-le-zero}
-use native.Mathlib.Omega.{arith}
-use lib.ListN.{length, get_or}
+use Prim.Native.Nat.{ℕ, ◌+◌}
+use lib.ListN.{get_or}
 use lib.Ieee.{Float, nan}
 use Rattle.arrays.specs.Inner.Holds.{Holds}
 use Rattle.fieldnorm.specs.declared.FieldNormReader.{FieldNormReader}
-use Rattle.fieldnorm.specs.declared.FieldNormReader.TheVariants.{FromData}
 use Rattle.block_norms.specs.Inner.Block.{Gathered}
 use Rattle.block_norms.specs.Inner.Codes.{Below, CodesIn}
 use Rattle.block_norms.specs.declared.Codes.{Codes}
-
--- no document has its code there
-pub none_in : (reader : FieldNormReader) (file : List ℕ) (start : ℕ) → CodesIn reader file (record { start = start; count = 0 })
-none_in reader file start = record { inside = λ d h. absurd (not-suc-le-zero h); code_is = λ d h. absurd (not-suc-le-zero h) }
-
--- a byte for each document, as far as the file goes
-pub bytes-in : (file : List ℕ) (start count : ℕ) → start < length file → count ≤ length file - start → CodesIn (FromData start) file (record { start = start; count = count })
-bytes-in file start count l h = record { inside = λ d k. omega arith; code_is = λ d k. refl }
 
 -- the norms at the codes in the file are the documents'
 pub gathered : (reader : FieldNormReader) (file : List ℕ) (codes : Codes) (cache : List Float) (docs : List ℕ) (out : List Float) → CodesIn reader file codes

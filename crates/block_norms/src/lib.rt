@@ -1,9 +1,11 @@
 // The norms of a block's postings, by their documents' codes.
 #![tactic(auto)]
 
-ghost use Rattle.std.specs.Prelude.{◌≡◌, true, ◌+◌, ◌<◌, ◌≤◌, get_or, length};
+ghost use Rattle.std.specs.Prelude.{◌≡◌, true, ℕ, ◌+◌, ◌<◌, ◌≤◌, get_or, length};
+ghost use Rattle.std.specs.Float.{nan};
+ghost use Rattle.arrays.specs.Inner.Holds.{Holds};
 ghost use Rattle.block_norms.specs.Inner.Block.{all_at_most, Gathered};
-ghost use Rattle.block_norms.specs.Inner.Codes.{Below, CodesIn};
+ghost use Rattle.block_norms.specs.Inner.Codes.{Below, ByCode, CodesIn, Places};
 
 use fieldnorm::FieldNormReader;
 
@@ -60,12 +62,10 @@ pub fn all_at_most(xs: &[u32; 128], limit: u32) -> bool
     ensures { result ≡ all_at_most limit xs.now }
 {
     let mut ok = true;
-    let mut i = 0usize;
-    while i < 128 {
-        if xs[i] > limit {
+    for x in xs {
+        if *x > limit {
             ok = false;
         }
-        i += 1;
     }
     ok
 }
@@ -78,6 +78,23 @@ fn all_below(docs: &[u32; 128], count: u32) -> bool
         return false;
     }
     all_at_most(docs, count - 1)
+}
+
+// The norm of each posting, at the place in the cache that its document has by `place_of`.
+fn gather<F: Fn(u32) -> usize>(
+    place_of: F,
+    cache: &[f32; 256],
+    docs: &[u32; 128],
+    norms: &mut [f32; 128],
+)
+    requires { Places (F.pre place_of) (F.post place_of) docs.now }
+    ensures { (code : ℕ → ℕ) → ByCode code (F.post place_of) docs.now
+        → Holds nan 128 (λ i. get_or cache.now (code (get_or docs.now i 0)) nan) norms.new }
+{
+    for i in 0..128 {
+        let id = place_of(docs[i]);
+        norms[i] = cache[id];
+    }
 }
 
 // The norm of each posting, where the code of each document stands in the file: the loop has no branch.
@@ -93,13 +110,7 @@ fn read_within(
     ensures { Gathered reader file.now cache.now docs.now norms.new }
 {
     let start = codes.start;
-    let n = (&norms[..]).len();
-    let mut i = 0usize;
-    while i < n {
-        let id = code_at(file, start, docs[i]);
-        norms[i] = cache[id];
-        i += 1;
-    }
+    gather(|doc| code_at(file, start, doc), cache, docs, norms);
 }
 
 // The norm of each posting, of any documents.
@@ -112,13 +123,12 @@ fn read_each(
 )
     ensures { Gathered reader file.now cache.now docs.now norms.new }
 {
-    let n = (&norms[..]).len();
-    let mut i = 0usize;
-    while i < n {
-        let id = place(reader.fieldnorm_id(file, docs[i]));
-        norms[i] = cache[id];
-        i += 1;
-    }
+    gather(
+        |doc| place(reader.fieldnorm_id(file, doc)),
+        cache,
+        docs,
+        norms,
+    );
 }
 
 // The norm of each posting, by its document's code. In a sound file every code stands there.

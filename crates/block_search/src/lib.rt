@@ -3,45 +3,17 @@
 #![tactic(auto)]
 
 ghost use Rattle.std.specs.Prelude.{◌≡◌, ◌+◌, ◌*◌, ◌≤◌, ◌<◌, ltb};
-ghost use Rattle.block_search.specs.Search.{answer_if, count_below, holds_at, one_if, search_answer};
-ghost use Rattle.block_search.specs.Inner.Answers.{index_of, is_hit};
+ghost use Rattle.block_search.specs.Search.{count_below, holds_at, one_if, search_answer};
+ghost use Rattle.block_search.specs.Inner.Answers.{index_of};
 ghost use Rattle.block_search.specs.Inner.Segments.{Sorted, ends_below};
 
-// What a search answers: a hit with its index, or a miss with the count of values below the target.
-#[derive(Clone, Copy)]
-pub enum Answer {
-    Hit(usize),
-    Miss(usize),
-}
-
-// A hit with its index, or a miss with the count.
-pub fn answer_if(hit: bool, index: usize) -> Answer
-    ensures { result ≡ answer_if hit index }
-{
-    if hit {
-        Answer::Hit(index)
-    } else {
-        Answer::Miss(index)
-    }
-}
-
-// The index of a hit, or the count of a miss.
-pub fn index_of(answer: Answer) -> usize
+// The index of a hit, or the count of a miss: the library has no method that takes either side.
+pub fn index_of(answer: Result<usize, usize>) -> usize
     ensures { result ≡ index_of answer }
 {
     match answer {
-        Answer::Hit(index) => index,
-        Answer::Miss(count) => count,
-    }
-}
-
-// Whether an answer is a hit.
-pub fn is_hit(answer: Answer) -> bool
-    ensures { result ≡ is_hit answer }
-{
-    match answer {
-        Answer::Hit(_) => true,
-        Answer::Miss(_) => false,
+        Ok(index) => index,
+        Err(count) => count,
     }
 }
 
@@ -87,12 +59,15 @@ fn holds(values: &[u32; 128], count: usize, target: u32) -> bool
     false
 }
 
-// The search in a sorted block: the value at the count decides between hit and miss.
-pub fn search_block(values: &[u32; 128], target: u32) -> Answer
+// The search in a sorted block: a hit with its index, or a miss with the count of values below the target. The value at the count decides.
+pub fn search_block(values: &[u32; 128], target: u32) -> Result<usize, usize>
     requires { Sorted values.now }
     ensures { result ≡ search_answer values.now target }
 {
     let count = count_below(values, target);
-    let hit = holds(values, count, target);
-    answer_if(hit, count)
+    if holds(values, count, target) {
+        Ok(count)
+    } else {
+        Err(count)
+    }
 }

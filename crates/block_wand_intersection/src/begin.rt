@@ -1,7 +1,7 @@
 // Where a run begins.
 ghost use Rattle.std.specs.Prelude.{◌≡◌, ◌≤◌, ◌<◌, take};
 ghost use Rattle.arrays.specs.Every.{All};
-ghost use Rattle.term_scorer.specs.Inner.Slots.{held, Sixteen};
+ghost use Rattle.term_scorer.specs.Inner.Slots.{held};
 ghost use Rattle.term_scorer.specs.Inner.Weights.{TopRead};
 ghost use Rattle.intersection_order.specs.Inner.Scorers.{query};
 ghost use Rattle.block_wand_intersection.specs.Inner.Beginnings.{Begins, FreshSlots, top_sum};
@@ -14,14 +14,12 @@ use term_scorer::{score, slot};
 
 // `leader_max_score + secondaries_global_max_sum`.
 fn max_score_sum(lists: &[[usize; 8]; 16], n: usize, order: &[usize; 16]) -> f32
-    requires { (0 < n) × (n ≤ 16) × Sixteen order.now × All (TopRead lists.now) (take n order.now) }
+    requires { (0 < n) × (n ≤ 16) × All (TopRead lists.now) (take n order.now) }
     ensures { result ≡ top_sum lists.now n order.now }
 {
     let mut sum = 0.0f32;
-    let mut i = 1usize;
-    while i < n {
-        sum = sum + score::max_score(lists, order[i]);
-        i += 1;
+    for i in 1..n {
+        sum += score::max_score(lists, order[i]);
     }
     score::max_score(lists, order[0]) + sum
 }

@@ -10,30 +10,12 @@ ghost use Rattle.intersection_order.specs.Inner.Scorers.{query};
 ghost use Rattle.intersection_turn.specs.Inner.Stands.{Stands};
 ghost use Rattle.block_wand_intersection.specs.Inner.Runs.{Goes};
 
-use intersection_stage::{Due, Intersection, is_over};
+use intersection_stage::{Intersection, is_over};
 use intersection_turn::turn;
-use reports::Event;
+use reports::{Event, Gone};
 use slot_rows::place::{Blocks, Places};
 use term_scorer::Floats;
 use term_scorer::score::Leg;
-
-// Where a run stands behind its turns, how many they were, and why it stands.
-#[derive(Clone, Copy)]
-pub struct Gone {
-    pub intersection: Intersection,
-    pub taken: usize,
-    pub event: Event,
-}
-
-fn standing(intersection: Intersection, taken: usize, event: Event) -> Gone
-    ensures { result ≡ record { intersection = intersection; taken = taken; event = event } }
-{
-    Gone {
-        intersection,
-        taken,
-        event,
-    }
-}
 
 // On by turns under one threshold: to the next report that is due, to the end, or through all turns that are allowed.
 pub fn go(
@@ -46,7 +28,7 @@ pub fn go(
     places: &mut Places,
     blocks: &mut Blocks,
     floats: &mut Floats,
-) -> Gone
+) -> Gone<Intersection>
     requires { let asked = query leg.similarity file.now lists.now norms.now intersection.len order.now in
         Stands asked intersection (held places.old blocks.old) floats.old }
     ensures { let asked = query leg.similarity file.now lists.now norms.now intersection.len order.now in
@@ -58,19 +40,16 @@ pub fn go(
     let mut taken = 0usize;
     loop {
         if is_over(v) {
-            return standing(v, taken, Event::Over);
+            return Gone::new(v, taken, Event::Over);
         }
         if taken == leg.turns {
-            return standing(v, taken, Event::Paused);
+            return Gone::new(v, taken, Event::Paused);
         }
         let turned = turn(file, leg, v, lists, norms, order, places, blocks, floats);
-        let next = turned.intersection;
-        let due = turned.due;
-        v = next;
+        v = turned.to;
         taken += 1;
-        match due {
-            Due::Report(doc, score) => return standing(v, taken, Event::Report(doc, score)),
-            Due::Nothing => {}
+        if let Some((doc, score)) = turned.due {
+            return Gone::new(v, taken, Event::Report(doc, score));
         }
     }
 }

@@ -23,9 +23,9 @@ use Rattle.term_scorer.specs.Inner.Weights.{FloatRows, FreshSlot}
 use Rattle.term_scorer.specs.declared.score.Similarity.{Similarity}
 use Rattle.single_hunt.specs.Inner.Places.{is_done, on_walk, phase_of, place_of, single_route}
 use Rattle.single_hunt.specs.Inner.Stands.{Hunted, Stands}
-use Rattle.block_wand_single.specs.Inner.Runs.{Goes, is_report}
+use Rattle.block_wand_single.specs.Inner.Runs.{Goes}
 use Rattle.single_walk.specs.Inner.Strides.{Steps, Strode}
-use Rattle.single_walk.specs.declared.Gone.{Gone}
+use Rattle.reports.specs.declared.Gone.{Gone}
 use Rattle.single_hunt.specs.declared.Phase.{Phase}
 use Rattle.single_hunt.specs.declared.Phase.TheVariants.{Called, Hunt, Over as Done, Walk}
 use Rattle.single_hunt.specs.declared.Single.{Single}
@@ -59,7 +59,7 @@ W file similarity lists x ord = single_route similarity.scoring file lists x.slo
 module _ {file : List ℕ} {similarity : Similarity} {lists : List (List ℕ)} {norms : List (List Float)} where
   -- a turn of the hunt is one without a report
   pub hunt-strides : {t : Float} {x : Single} {h h' : Held} {r : Single} {floats : List (List Float)} → x.phase ≡ Hunt → {turns : ℕ} → 0 < turns
-      → Hunted file similarity lists norms t x h r h' floats → Steps file similarity lists norms t turns x h (record { single = r; taken = 1; event = Paused }) h' floats
+      → Hunted file similarity lists norms t x h r h' floats → Steps file similarity lists norms t turns x h (record { to = r; taken = 1; event = Paused }) h' floats
   hunt-strides {t} {x} {h} {h'} {r} e {turns} some H = record {
     slot_is = H.slot_is;
     stands = H.stands;
@@ -122,10 +122,10 @@ module _ {file : List ℕ} {similarity : Similarity} {lists : List (List ℕ)} {
   ended ord = (W file similarity lists x ord).ended
 
   -- at the end, or all turns are taken
-  pub gone-over : is_done y.phase ≡ true → Goes file similarity lists norms t turns x h (record { single = y; taken = taken; event = Over }) h' floats
+  pub gone-over : is_done y.phase ≡ true → Goes file similarity lists norms t turns x h (record { to = y; taken = taken; event = Over }) h' floats
   gone-over e = record { slot_is = G.slot_is; stands = G.stands; went = λ ord. at-end (turn ord) (ended ord) t (G.passed ord) G.few e }
 
-  pub gone-through : is_done y.phase ≡ false → taken ≡ turns → Goes file similarity lists norms t turns x h (record { single = y; taken = taken; event = Paused }) h' floats
+  pub gone-through : is_done y.phase ≡ false → taken ≡ turns → Goes file similarity lists norms t turns x h (record { to = y; taken = taken; event = Paused }) h' floats
   gone-through e f = record {
     slot_is = G.slot_is;
     stands = G.stands;
@@ -133,27 +133,27 @@ module _ {file : List ℕ} {similarity : Similarity} {lists : List (List ℕ)} {
         (at_pause (turn ord) (ended ord) t (G.passed ord) e);
   }
 
-  module _ {r : Gone} {h'' : Held} {floats' : List (List Float)} (S : Steps file similarity lists norms t (turns - taken) y h' r h'' floats') where
+  module _ {r : Gone Single} {h'' : Held} {floats' : List (List Float)} (S : Steps file similarity lists norms t (turns - taken) y h' r h'' floats') where
     abbrev Strides : ℕ → Event → Type 0
-    Strides ord e = Strode file similarity lists norms t (turns - taken) (W file similarity lists x ord) (place_of y h'.places) r.taken (place_of r.single h''.places) e
+    Strides ord e = Strode file similarity lists norms t (turns - taken) (W file similarity lists x ord) (place_of y h'.places) r.taken (place_of r.to h''.places) e
 
     strode : (ord : ℕ) → Strides ord r.event
     strode ord =
         subst (λ (q : ℕ). Strode file similarity lists norms t (turns - taken) (single_route similarity.scoring file lists q ord)
-        (place_of y h'.places) r.taken (place_of r.single h''.places) r.event) G.slot_is (S.strode ord)
+        (place_of y h'.places) r.taken (place_of r.to h''.places) r.event) G.slot_is (S.strode ord)
 
     -- a stretch without a report
-    no-report : (ord : ℕ) (e : Event) → is_report e ≡ false → Strides ord e
-        → (0 < r.taken) × (r.taken ≤ turns - taken) × Quietly (turn ord) (ended ord) t (place_of y h'.places) r.taken (place_of r.single h''.places)
-    no-report ord (Report d s) f v = absurd (true≢false f)
+    no-report : (ord : ℕ) (e : Event) → ((d : ℕ) (s : Float) → e ≡ Report d s → ⊥) → Strides ord e
+        → (0 < r.taken) × (r.taken ≤ turns - taken) × Quietly (turn ord) (ended ord) t (place_of y h'.places) r.taken (place_of r.to h''.places)
+    no-report ord (Report d s) f v = absurd (f d s refl)
     no-report ord Over f v = absurd v
     no-report ord Paused f v = (v.0, v.1, record { place_is = v.2; silent = v.3 })
 
-    with-report : (ord : ℕ) (e : Event) → is_report e ≡ true → Strides ord e
-        → Went (turn ord) (ended ord) t (place_of x h.places) turns (taken + r.taken) (place_of r.single h''.places) e
+    with-report : (ord : ℕ) (e : Event) {d : ℕ} {s : Float} → e ≡ Report d s → Strides ord e
+        → Went (turn ord) (ended ord) t (place_of x h.places) turns (taken + r.taken) (place_of r.to h''.places) e
     with-report ord (Report d s) f v = then-report (turn ord) (ended ord) t G.few (G.passed ord) v
-    with-report ord Over f v = absurd (false≢true f)
-    with-report ord Paused f v = absurd (false≢true f)
+    with-report ord Over f v = absurd v
+    with-report ord Paused f v = cc
 
     pub taken-fits : taken + r.taken ≤ turns
     taken-fits = taken-by 0 r.event (strode 0)
@@ -163,14 +163,14 @@ module _ {file : List ℕ} {similarity : Similarity} {lists : List (List ℕ)} {
         taken-by ord Over v = absurd v
         taken-by ord Paused v = omega (arith, v.1, G.few)
 
-    pub gone-report : is_report r.event ≡ true → Goes file similarity lists norms t turns x h (record { single = r.single; taken = taken + r.taken; event = r.event }) h'' floats'
+    pub gone-report : {d : ℕ} {s : Float} → r.event ≡ Report d s → Goes file similarity lists norms t turns x h (record { to = r.to; taken = taken + r.taken; event = r.event }) h'' floats'
     gone-report f = record {
       slot_is = S.slot_is ∙ G.slot_is;
       stands = S.stands;
       went = λ ord. with-report ord r.event f (strode ord);
     }
 
-    pub going_on : is_report r.event ≡ false → Going file similarity lists norms t turns x h (taken + r.taken) r.single h'' floats'
+    pub going_on : ((d : ℕ) (s : Float) → r.event ≡ Report d s → ⊥) → Going file similarity lists norms t turns x h (taken + r.taken) r.to h'' floats'
     going_on f = record {
       few = taken-fits;
       slot_is = S.slot_is ∙ G.slot_is;
@@ -178,5 +178,5 @@ module _ {file : List ℕ} {similarity : Similarity} {lists : List (List ℕ)} {
       passed = λ ord. and_then (turn ord) (ended ord) t (G.passed ord) (no-report ord r.event f (strode ord)).2;
     }
 
-    pub going_less : is_report r.event ≡ false → turns - (taken + r.taken) < turns - taken
+    pub going_less : ((d : ℕ) (s : Float) → r.event ≡ Report d s → ⊥) → turns - (taken + r.taken) < turns - taken
     going_less f = let v = no-report 0 r.event f (strode 0) in omega (arith, v.0, v.1)

@@ -16,20 +16,18 @@ use Rattle.reports.specs.declared.Event.TheVariants as event
 use Rattle.reports.proofs.TurnLaws.{Quietly, at-end, at_pause, at-report, none_yet, one_more}
 use Rattle.term_scorer.specs.Inner.Slots.{Held}
 use Rattle.union_moves.specs.Inner.Seats.{terms}
-use Rattle.union_turn.specs.Inner.Turns.{Turned, due_of, stage_of}
+use Rattle.std.specs.Prelude.{Some, None}
+use Rattle.union_turn.specs.Inner.Turns.{Turned, stage_of}
 use Rattle.union_turn.specs.Inner.Runs.{Stands, place_of, union_ended}
 use Rattle.union_turn.specs.declared.Union.{Union}
-use Rattle.union_turn.specs.declared.Step.{Step}
+use Rattle.reports.specs.Inner.Due.{due_of}
+use Rattle.reports.specs.declared.Step.{Step}
 use Rattle.union_turn.proofs.Standing.{place_is}
 
 -- a negated test
 pub not-true : (b : Bool) → not b ≡ true → b ≡ false
 not-true true e = sym e
 not-true false e = refl
-
-pub not-false : (b : Bool) → not b ≡ false → b ≡ true
-not-false true e = refl
-not-false false e = sym e
 
 -- ---- the loop of `go`
 
@@ -56,17 +54,17 @@ module _ {file : List ℕ} {lists : List (List ℕ)} {scoring : Scoring} {norms 
     pub paused : taken ≡ turns → Went (union_turn 128 f32) union_ended t from turns taken (place_of file lists scoring u order h.places) event.Paused
     paused e = rw (sym e) (at_pause (union_turn 128 f32) union_ended t S.quietly on)
 
-    module _ (room : taken < turns) {h' : Held} {order' : List ℕ} {floats' : List (List Float)} {r : Step}
+    module _ (room : taken < turns) {h' : Held} {order' : List ℕ} {floats' : List (List Float)} {r : Step Union}
         (D : Turned file lists (terms scoring norms floats) t u.stage h order u.len h' order' floats' r) where
-      next-is : (union_turn 128 f32 t (place_of file lists scoring u order h.places)).next ≡ place_of file lists scoring r.union order' h'.places
+      next-is : (union_turn 128 f32 t (place_of file lists scoring u order h.places)).next ≡ place_of file lists scoring r.to order' h'.places
       next-is =
-          sym (ap (λ z. (union_turn 128 f32 t z).next) (place_is file lists scoring h.places u order)) ∙ D.does.next-is ∙ place_is file lists scoring h'.places r.union order'
+          sym (ap (λ z. (union_turn 128 f32 t z).next) (place_is file lists scoring h.places u order)) ∙ D.does.next-is ∙ place_is file lists scoring h'.places r.to order'
 
-      due-is : (union_turn 128 f32 t (place_of file lists scoring u order h.places)).due ≡ due_of r
+      due-is : (union_turn 128 f32 t (place_of file lists scoring u order h.places)).due ≡ due_of r.due
       due-is = sym (ap (λ z. (union_turn 128 f32 t z).due) (place_is file lists scoring h.places u order)) ∙ D.does.due-is
 
       -- a turn leaves a run that can go on
-      pub stands_on : Stands file lists (terms scoring norms floats') r.union order' h'
+      pub stands_on : Stands file lists (terms scoring norms floats') r.to order' h'
       stands_on =
           let a = D.few in
           let b = S.stands.few in
@@ -78,14 +76,14 @@ module _ {file : List ℕ} {lists : List (List ℕ)} {scoring : Scoring} {norms 
           }
 
       -- a turn without a report
-      pub quiet-turn : r.due ≡ false → OnWay file lists scoring norms t from turns h' floats' r.union order' (taken + 1)
+      pub quiet-turn : r.due ≡ None → OnWay file lists scoring norms t from turns h' floats' r.to order' (taken + 1)
       quiet-turn e = record {
         quietly = rw add-one (one_more (union_turn 128 f32) union_ended t S.quietly on (due-is ∙ rw e) next-is);
         stands = stands_on;
         within = omega arith;
       }
 
-      pub reports : r.due ≡ true
-          → Went (union_turn 128 f32) union_ended t from turns (taken + 1) (place_of file lists scoring r.union order' h'.places) (event.Report r.doc r.score)
+      pub reports : {doc : ℕ} {score : Float} → r.due ≡ Some (doc, score)
+          → Went (union_turn 128 f32) union_ended t from turns (taken + 1) (place_of file lists scoring r.to order' h'.places) (event.Report doc score)
       reports e =
           rw add-one (at-report (union_turn 128 f32) union_ended t S.quietly room on (due-is ∙ rw e) next-is)

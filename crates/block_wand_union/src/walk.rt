@@ -7,35 +7,18 @@ ghost use Rattle.reports.specs.Inner.Turns.{Went};
 ghost use Rattle.term_scorer.specs.Inner.Slots.{held};
 ghost use Rattle.union_moves.specs.Inner.Seats.{terms};
 ghost use Rattle.union_turn.specs.Inner.Turns.{stage_of};
-ghost use Rattle.block_wand_union.specs.Inner.Runs.{gone_to};
 ghost use Rattle.union_turn.specs.Inner.Runs.{Stands, place_of, union_ended};
 
-use crate::Gone;
-use reports::Event;
+use reports::{Event, Gone};
 use slot_rows::place::{Blocks, Places};
 use term_scorer::Floats;
 use term_scorer::score::Leg;
 use union_turn::{Stage, Union, turn};
 
-fn stopped(union: Union, taken: usize, event: Event) -> Gone
-    ensures { result ≡ gone_to union taken event }
-{
-    Gone {
-        union,
-        taken,
-        event,
-    }
-}
-
 fn is_over(union: Union) -> bool
     ensures { result ≡ is_over (stage_of union.stage) }
 {
-    let stage = union.stage;
-    match stage {
-        Stage::Looking => false,
-        Stage::Called(_) => false,
-        Stage::Over => true,
-    }
+    matches!(union.stage, Stage::Over)
 }
 
 // Turn after turn, until a report is due, the route is over, or `turns` turns are taken.
@@ -49,7 +32,7 @@ pub fn go(
     places: &mut Places,
     blocks: &mut Blocks,
     floats: &mut Floats,
-) -> Gone
+) -> Gone<Union>
     requires { let scoring = leg.similarity.scoring in
         let slots = held places.old blocks.old in
         (leg.similarity.norms ≡ norm_reader file.now)
@@ -57,23 +40,22 @@ pub fn go(
     ensures { let scoring = leg.similarity.scoring in
         let slots = held places.new blocks.new in
         let from = place_of file.now lists.now scoring union order.old places.old in
-        let to = place_of file.now lists.now scoring result.union order.new places.new in
-        Stands file.now lists.now (terms scoring norms.now floats.new) result.union order.new slots
+        let to = place_of file.now lists.now scoring result.to order.new places.new in
+        Stands file.now lists.now (terms scoring norms.now floats.new) result.to order.new slots
         × Went (union_turn 128 f32) union_ended leg.threshold from leg.turns result.taken to result.event }
 {
     let mut now = union;
     let mut taken = 0usize;
     while !is_over(now) {
         if taken == leg.turns {
-            return stopped(now, taken, Event::Paused);
+            return Gone::new(now, taken, Event::Paused);
         }
         let step = turn(file, leg, now, lists, norms, order, places, blocks, floats);
-        now = step.union;
+        now = step.to;
         taken += 1;
-        if step.due {
-            let event = Event::Report(step.doc, step.score);
-            return stopped(now, taken, event);
+        if let Some((doc, score)) = step.due {
+            return Gone::new(now, taken, Event::Report(doc, score));
         }
     }
-    stopped(now, taken, Event::Over)
+    Gone::new(now, taken, Event::Over)
 }

@@ -51,10 +51,8 @@ pub fn compute_tf_cache(average: f32) -> [f32; 256]
 {
     let lengths = lengths::field_lengths();
     let mut cache = [0.0f32; 256];
-    let mut i = 0usize;
-    while i < 256 {
+    for i in 0..256 {
         cache[i] = cached_tf_component(lengths[i], average);
-        i += 1;
     }
     cache
 }

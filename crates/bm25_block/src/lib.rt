@@ -5,7 +5,7 @@ ghost use Rattle.std.specs.Prelude.{◌≡◌, true, ◌≤◌};
 ghost use Rattle.floats.specs.Whole.{whole_f32};
 ghost use Rattle.bm25.specs.declared.Scoring.TheVariants.{Unstepped, Stepped};
 ghost use Rattle.block_norms.specs.Inner.Codes.{Below};
-ghost use Rattle.bm25_block.specs.Inner.Block.{Weighed, CutDown, ScoredBy, Scored, ExactWhere, all_exact};
+ghost use Rattle.bm25_block.specs.Inner.Block.{Weighed, CutDown, ScoredBy, Scored, ExactWhere, Rounds, all_exact};
 
 use block_norms::{all_at_most, read_norms_below};
 use bm25::{Bm25Weight, Scoring};
@@ -30,30 +30,19 @@ pub fn exact(n: u32) -> f32
     (n % 33554432) as f32
 }
 
-// Scores in place of norms, where f32 holds each frequency.
-fn weigh_exact(weight: f32, term_freqs: &[u32; 128], scores: &mut [f32; 128])
-    requires { all_exact term_freqs.now ≡ true }
+// Scores in place of norms, each frequency made f32 by `to_f32`.
+fn weigh_by<F: Fn(u32) -> f32>(
+    to_f32: F,
+    weight: f32,
+    term_freqs: &[u32; 128],
+    scores: &mut [f32; 128],
+)
+    requires { Rounds (F.pre to_f32) (F.post to_f32) 128 term_freqs.now }
     ensures { Weighed weight term_freqs.now scores.old scores.new }
 {
-    let n = (&scores[..]).len();
-    let mut i = 0usize;
-    while i < n {
-        let tf = exact(term_freqs[i]);
+    for i in 0..128 {
+        let tf = to_f32(term_freqs[i]);
         scores[i] = bm25::score_at(weight, scores[i], tf);
-        i += 1;
-    }
-}
-
-// Scores in place of norms, each frequency rounded to the nearest f32.
-fn weigh_rounded(weight: f32, term_freqs: &[u32; 128], scores: &mut [f32; 128])
-    ensures { Weighed weight term_freqs.now scores.old scores.new }
-{
-    let n = (&scores[..]).len();
-    let mut i = 0usize;
-    while i < n {
-        let tf = floats::u32_to_f32(term_freqs[i]);
-        scores[i] = bm25::score_at(weight, scores[i], tf);
-        i += 1;
     }
 }
 
@@ -63,9 +52,9 @@ fn weigh(weight: f32, small: bool, term_freqs: &[u32; 128], scores: &mut [f32; 1
     ensures { Weighed weight term_freqs.now scores.old scores.new }
 {
     if all_exact(small, term_freqs) {
-        weigh_exact(weight, term_freqs, scores);
+        weigh_by(|n| exact(n), weight, term_freqs, scores);
     } else {
-        weigh_rounded(weight, term_freqs, scores);
+        weigh_by(|n| floats::u32_to_f32(n), weight, term_freqs, scores);
     }
 }
 
@@ -73,11 +62,8 @@ fn weigh(weight: f32, small: bool, term_freqs: &[u32; 128], scores: &mut [f32; 1
 fn step_all(scores: &mut [f32; 128])
     ensures { CutDown scores.old scores.new }
 {
-    let n = (&scores[..]).len();
-    let mut i = 0usize;
-    while i < n {
-        scores[i] = floats::step_down(scores[i]);
-        i += 1;
+    for score in scores.iter_mut() {
+        *score = floats::step_down(*score);
     }
 }
 

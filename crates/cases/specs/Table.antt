@@ -1,11 +1,10 @@
 -- Cases (a) to (l): seven runs over the small file, two that are refused, one over a changed file, and figures of three definitions.
-use Rattle.std.specs.Prelude.{◌≡◌, true, false, List, [], ◌∷◌, ℕ, pos, length, set, Float}
+use Rattle.std.specs.Prelude.{◌≡◌, true, false, List, [], ◌∷◌, ℕ, pos, length, set, Some, Float}
 use Rattle.std.specs.Float.{fin}
 use Rattle.std.specs.Float.Ieee.Exact.{HasValue}
 use Rattle.floats.specs.Step.{grid_f}
 use Rattle.floats.specs.Whole.{whole_f32}
 use Rattle.codec.specs.VInt.{vint_at}
-use Rattle.codec.specs.declared.vint.VInt.TheVariants.{Value}
 use Rattle.route.specs.Report.{Report}
 use Rattle.route.specs.Rule as rules
 use Rattle.bm25.specs.Bound.{max_tf}
@@ -46,7 +45,7 @@ Runs q n answer =
 abbrev pub Holds : Case → Type 0
 Holds (run q rows answer) = Runs q rows answer
 Holds (code c frequency) = max_tf c ≡ frequency
-Holds (vint bytes value) = vint_at bytes (length bytes) 0 ≡ Value value (length bytes)
+Holds (vint bytes value) = vint_at bytes (length bytes) 0 ≡ Some (value, length bytes)
 Holds (whole n nearest) = HasValue (whole_f32 n) false nearest 1
 
 -- a report with its score in 1/1024

@@ -9,36 +9,35 @@ use lib.Arith.{digits_lt}
 use lib.ListN.{get_or}
 use borrow.Author.Tests.{lt-ltb, le-ltb}
 use Rattle.codec.specs.VInt.{more, vint_from, capped, vint_at}
-use Rattle.codec.specs.declared.vint.VInt.{VInt}
-use Rattle.codec.specs.declared.vint.VInt.TheVariants.{Value, Broken}
+use Rattle.std.proofs.Common.{Option, Some, None}
 
 -- v in the low k bits, and what follows
-abbrev shifted : ℕ → ℕ → VInt → VInt
-shifted v k (Value x next) = Value (v + 2 ^ k * x) next
-shifted v k Broken = Broken
+abbrev shifted : ℕ → ℕ → Option (ℕ × ℕ) → Option (ℕ × ℕ)
+shifted v k (Some (x, next)) = Some (v + 2 ^ k * x, next)
+shifted v k None = None
 
-shifted-zero : (r : VInt) → r ≡ shifted 0 0 r
-shifted-zero (Value x next) = ap (λ (y : ℕ). Value y next) (omega arith)
-shifted-zero Broken = refl
+shifted-zero : (r : Option (ℕ × ℕ)) → r ≡ shifted 0 0 r
+shifted-zero (Some (x, next)) = ap (λ (y : ℕ). Some (y, next)) (omega arith)
+shifted-zero None = refl
 
 spread : (v u b x : ℕ) → v + u * (b + 128 * x) ≡ v + b * u + u * 128 * x
 spread v u b x = rw (mul-add, ← mul_assoc, mul_comm u b, add_assoc)
 
-shifted-more : (v k b : ℕ) (r : VInt) → shifted v k (more b r) ≡ shifted (v + b * 2 ^ k) (k + 7) r
-shifted-more v k b (Value x next) = ap (λ (y : ℕ). Value y next) (spread v (2 ^ k) b x ∙ ap (λ (z : ℕ). v + b * 2 ^ k + z * x) (sym (pow-add 2 k 7)))
-shifted-more v k b Broken = refl
+shifted-more : (v k b : ℕ) (r : Option (ℕ × ℕ)) → shifted v k (more b r) ≡ shifted (v + b * 2 ^ k) (k + 7) r
+shifted-more v k b (Some (x, next)) = ap (λ (y : ℕ). Some (y, next)) (spread v (2 ^ k) b x ∙ ap (λ (z : ℕ). v + b * 2 ^ k + z * x) (sym (pow-add 2 k 7)))
+shifted-more v k b None = refl
 
 module _ (s : List ℕ) (e p n : ℕ) where
-  pub from_end : e ≤ p → vint_from n s e p ≡ Broken
+  pub from_end : e ≤ p → vint_from n s e p ≡ None
   unfolding vint_from
   from_end h = go n
     where
-      go : (m : ℕ) → vint_from m s e p ≡ Broken
+      go : (m : ℕ) → vint_from m s e p ≡ None
       go zero = refl
       go (suc m) = simp (le-ltb p e h)
 
   module _ (h : p < e) where
-    pub from_last : 128 ≤ get_or s p 0 → vint_from (suc n) s e p ≡ Value (get_or s p 0 - 128) (p + 1)
+    pub from_last : 128 ≤ get_or s p 0 → vint_from (suc n) s e p ≡ Some (get_or s p 0 - 128, p + 1)
     unfolding vint_from
     from_last k = simp (lt-ltb p e h, le-ltb (get_or s p 0) 128 k)
 
@@ -73,10 +72,10 @@ module _ {s : List ℕ} {e at v shift p : ℕ} (R : Reading s e at v shift p) wh
       let top : shift + 7 ≤ 64 = omega (arith, R.top) in
       rw (exact b shift (omega arith) R.top) (lt_of_lt_of_le (grown b v shift h R.small) (pow_mono {j = 64} top))
 
-  pub at-end : e ≤ p → Broken ≡ vint_at s e at
-  at-end h = sym (R.same ∙ ap (λ (r : VInt). capped (shifted v shift r)) (from_end s e p ((35 - shift) / 7) h))
+  pub at-end : e ≤ p → None ≡ vint_at s e at
+  at-end h = sym (R.same ∙ ap (λ (r : Option (ℕ × ℕ)). capped (shifted v shift r)) (from_end s e p ((35 - shift) / 7) h))
 
-  pub at_five : 35 ≤ shift → Broken ≡ vint_at s e at
+  pub at_five : 35 ≤ shift → None ≡ vint_at s e at
   unfolding vint_from
   at_five h = sym (R.same ∙ ap (λ (n : ℕ). capped (shifted v shift (vint_from n s e p))) (none shift h))
     where
@@ -84,17 +83,17 @@ module _ {s : List ℕ} {e at v shift p : ℕ} (R : Reading s e at v shift p) wh
       none shift h = omega arith
 
   module _ (h : p < e) (k : shift < 35) {b : ℕ} (w : b ≡ get_or s p 0) (B : b < 256) where
-    last : 128 ≤ b → vint_at s e at ≡ capped (Value (v + (b - 128) * 2 ^ shift % 18446744073709551616) (p + 1))
+    last : 128 ≤ b → vint_at s e at ≡ capped (Some (v + (b - 128) * 2 ^ shift % 18446744073709551616, p + 1))
     last l =
         R.same
         ∙ ap (λ (n : ℕ). capped (shifted v shift (vint_from n s e p))) (fuel shift k R.sevens)
-        ∙ ap (λ (r : VInt). capped (shifted v shift r)) (from_last s e p ((35 - (shift + 7)) / 7) h (subst (λ (x : ℕ). 128 ≤ x) w l))
-        ∙ ap (λ (x : ℕ). capped (Value (v + x) (p + 1))) (ap (λ (x : ℕ). 2 ^ shift * (x - 128)) (sym w) ∙ mul_comm (2 ^ shift) (b - 128) ∙ sym (exact (b - 128) shift (omega arith) R.top))
+        ∙ ap (λ (r : Option (ℕ × ℕ)). capped (shifted v shift r)) (from_last s e p ((35 - (shift + 7)) / 7) h (subst (λ (x : ℕ). 128 ≤ x) w l))
+        ∙ ap (λ (x : ℕ). capped (Some (v + x, p + 1))) (ap (λ (x : ℕ). 2 ^ shift * (x - 128)) (sym w) ∙ mul_comm (2 ^ shift) (b - 128) ∙ sym (exact (b - 128) shift (omega arith) R.top))
 
-    pub last_fits : 128 ≤ b → v + (b - 128) * 2 ^ shift % 18446744073709551616 ≤ 4294967295 → Value (v + (b - 128) * 2 ^ shift % 18446744073709551616) (p + 1) ≡ vint_at s e at
+    pub last_fits : 128 ≤ b → v + (b - 128) * 2 ^ shift % 18446744073709551616 ≤ 4294967295 → Some (v + (b - 128) * 2 ^ shift % 18446744073709551616, p + 1) ≡ vint_at s e at
     last_fits l f = sym (last l ∙ simp (lt-ltb (v + (b - 128) * 2 ^ shift % 18446744073709551616) 4294967296 (omega arith)))
 
-    pub last-over : 128 ≤ b → 4294967295 < v + (b - 128) * 2 ^ shift % 18446744073709551616 → Broken ≡ vint_at s e at
+    pub last-over : 128 ≤ b → 4294967295 < v + (b - 128) * 2 ^ shift % 18446744073709551616 → None ≡ vint_at s e at
     last-over l f = sym (last l ∙ simp (le-ltb (v + (b - 128) * 2 ^ shift % 18446744073709551616) 4294967296 f))
 
     pub goes_on : b < 128 → Reading s e at (v + b * 2 ^ shift % 18446744073709551616) (shift + 7) (p + 1)
@@ -105,7 +104,7 @@ module _ {s : List ℕ} {e at v shift p : ℕ} (R : Reading s e at v shift p) wh
       same =
           R.same
           ∙ ap (λ (n : ℕ). capped (shifted v shift (vint_from n s e p))) (fuel shift k R.sevens)
-          ∙ ap (λ (r : VInt). capped (shifted v shift r)) (from_more s e p ((35 - (shift + 7)) / 7) h (subst (λ (x : ℕ). x < 128) w l) ∙ ap (λ (x : ℕ). more x (vint_from ((35 - (shift + 7)) / 7) s e (p + 1))) (sym w))
+          ∙ ap (λ (r : Option (ℕ × ℕ)). capped (shifted v shift r)) (from_more s e p ((35 - (shift + 7)) / 7) h (subst (λ (x : ℕ). x < 128) w l) ∙ ap (λ (x : ℕ). more x (vint_from ((35 - (shift + 7)) / 7) s e (p + 1))) (sym w))
           ∙ ap capped (shifted-more v shift b (vint_from ((35 - (shift + 7)) / 7) s e (p + 1)));
     })
       where

@@ -6,7 +6,7 @@ ghost use Rattle.codec.specs.Bits.{bits_at, word_at};
 pub fn wide(b: u8) -> u32
     ensures { (result ≡ b) × (result < 256) }
 {
-    b as u32
+    u32::from(b)
 }
 
 // The number in n whole bytes, most significant first.
@@ -15,10 +15,8 @@ pub fn read_be(s: &[u8], at: usize, n: usize) -> u64
     ensures { result ≡ bits_at s.now (8 * at) (8 * n) }
 {
     let mut v: u64 = 0;
-    let mut i: usize = 0;
-    while i < n {
-        v = v * 256 + (wide(s[at + i]) as u64);
-        i += 1;
+    for i in 0..n {
+        v = v * 256 + u64::from(s[at + i]);
     }
     v
 }
@@ -28,9 +26,5 @@ pub fn read_u32(s: &[u8], at: usize) -> u32
     requires { at + 4 ≤ length s.now }
     ensures { (result ≡ word_at s.now at) × (result < 4294967296) }
 {
-    let a = wide(s[at]);
-    let b = wide(s[at + 1]);
-    let c = wide(s[at + 2]);
-    let d = wide(s[at + 3]);
-    a + 256 * b + 65536 * c + 16777216 * d
+    u32::from_le_bytes([s[at], s[at + 1], s[at + 2], s[at + 3]])
 }

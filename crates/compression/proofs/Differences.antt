@@ -1,5 +1,5 @@
 -- Documents by differences: the sums in 32 bits, and why tests of these are tests of the documents.
-use Rattle.std.proofs.Common.{◌≡◌, ℕ, zero, suc, ◌+◌, ◌-◌, ◌*◌, ◌%◌, ◌<◌, ◌≤◌, Bool, true, false, ◌&&◌, ltb, ◌⊎◌, List, length, get_or, set, sym, refl, ap, ◌∙◌, subst, inl, inr, ⊎_elim, true≢false, add_assoc, mod-eq_of_lt, add-one, arith, w64, Fits, ltb-true, lt-ltb}
+use Rattle.std.proofs.Common.{◌≡◌, ℕ, zero, suc, ◌+◌, ◌-◌, ◌*◌, ◌%◌, ◌<◌, ◌≤◌, Bool, true, false, ◌&&◌, ltb, ◌⊎◌, List, length, get_or, set, sym, refl, ap, ◌∙◌, subst, inl, inr, ⊎_elim, true≢false, add_assoc, mod-eq_of_lt, add-one, arith, ltb-true, lt-ltb}
 use native.Mathlib.Nat.{add-mod, add-mod-mod}
 use Rattle.arrays.specs.Every.{every}
 use Rattle.arrays.proofs.Order.{climbs}
@@ -8,6 +8,18 @@ use Rattle.arrays.proofs.Filling.{Filling, begun as filling, goes-on4}
 use Rattle.bitpacker.specs.declared.Four.{Four}
 use Rattle.compression.specs.Documents.{gap_of, start_of, base_at, doc_at, above_last, rises, docs_right}
 use Rattle.compression.specs.Inner.Sums.{FourSums, Summed, Narrow}
+
+-- tests that are the same one by one
+same_every : (n : ℕ) (P Q : ℕ → Bool) → ((i : ℕ) → i < n → P i ≡ Q i) → every n P ≡ every n Q
+same_every n P Q h =
+    same_test (every n P) (every n Q) (λ e. all Q n (λ i l. sym (h i l) ∙ each P n i e l)) (λ e. all P n (λ i l. h i l ∙ each Q n i e l))
+
+-- a part of a list rises where its numbers do
+pub part-rises : (f : ℕ → ℕ) (part : List ℕ) (n : ℕ) → length part ≡ n → ((k : ℕ) → k < n → get_or part k 0 ≡ f k)
+    → every (length part - 1) (λ i. ltb (get_or part i 0) (get_or part (i + 1) 0)) ≡ every (n - 1) (λ i. ltb (f i) (f (i + 1)))
+part-rises f part n e h =
+    ap (λ (m : ℕ). every (m - 1) (λ i. ltb (get_or part i 0) (get_or part (i + 1) 0))) e
+    ∙ same_every (n - 1) (λ i. ltb (get_or part i 0) (get_or part (i + 1) 0)) (λ i. ltb (f i) (f (i + 1))) (λ i l. rw (h i (omega arith), h (i + 1) (omega arith)) refl)
 
 -- a sum in 32 bits of sums in 32 bits
 pub wrapped : {x y r : ℕ} (a b : ℕ) → x ≡ a % 4294967296 → y ≡ b % 4294967296 → r ≡ (x + y) % 4294967296 → r ≡ (a + b) % 4294967296
@@ -19,35 +31,6 @@ onto p b e f = f ∙ ap (λ (z : ℕ). (p + z) % 4294967296) e ∙ add-mod-mod p
 pub gap-small : (strict : Bool) → gap_of strict ≤ 1
 gap-small true = omega arith
 gap-small false = omega arith
-
--- what the code asks of the places of four values from place i on, each value of 4 bytes
-pub record Four-places (i : ℕ) : Type 0 where
-  pub in-1 : i + 1 < 128
-  pub in-2 : i + 2 < 128
-  pub in-3 : i + 3 < 128
-  pub fits-1 : Fits w64 (i + 1)
-  pub fits-2 : Fits w64 (i + 2)
-  pub fits-3 : Fits w64 (i + 3)
-  pub fits-4 : Fits w64 (i + 4)
-  pub bytes-0 : Fits w64 (i * 4)
-  pub bytes-1 : Fits w64 ((i + 1) * 4)
-  pub bytes_2 : Fits w64 ((i + 2) * 4)
-  pub bytes-3 : Fits w64 ((i + 3) * 4)
-
-pub four-places : {i : ℕ} → i % 4 ≡ 0 → i < 128 → Four-places i
-four-places f h = record {
-  in-1 = omega arith;
-  in-2 = omega arith;
-  in-3 = omega arith;
-  fits-1 = omega arith;
-  fits-2 = omega arith;
-  fits-3 = omega arith;
-  fits-4 = omega arith;
-  bytes-0 = omega arith;
-  bytes-1 = omega arith;
-  bytes_2 = omega arith;
-  bytes-3 = omega arith;
-}
 
 module _ (vs : List ℕ) (strict first : Bool) (previous : ℕ) where
   abbrev value : ℕ → ℕ
@@ -95,9 +78,6 @@ module _ (vs : List ℕ) (strict first : Bool) (previous : ℕ) where
       go x q g f = omega arith
 
 module _ {vs : List ℕ} {strict first : Bool} {previous : ℕ} {out : List ℕ} {p i : ℕ} (S : Summing vs strict first previous out p i) where
-  pub all-summed : 128 ≤ i → Summed vs strict first previous out
-  all-summed h = record { long = S.place.long; docs = λ k l. S.place.done k (omega arith) }
-
   module _ (h : i < 128) {g : ℕ} (e : g ≡ gap_of strict) (x : Four) (F : FourSums p g (get_or out i 0) (get_or out (i + 1) 0) (get_or out (i + 2) 0) (get_or out (i + 3) 0) x) where
     pub row_more : Summing vs strict first previous (set (set (set (set out i x.a) (i + 1) x.b) (i + 2) x.c) (i + 3) x.d) x.d (i + 4)
     row_more =

@@ -48,8 +48,8 @@ pub fn sums(values: &mut [u32; 128], strict: bool, first: bool, previous: u32)
 {
     let add = gap(strict);
     let mut p = before(first, previous, strict);
-    let mut i: usize = 0;
-    while i < 128 {
+    for row in 0..32 {
+        let i = 4 * row;
         let x = four_sums(
             p,
             add,
@@ -63,22 +63,18 @@ pub fn sums(values: &mut [u32; 128], strict: bool, first: bool, previous: u32)
         values[i + 2] = x.c;
         values[i + 3] = x.d;
         p = x.d;
-        i += 4;
     }
 }
 
-// Whether each of the first n is above the one before it.
-fn rising(docs: &[u32; 128], n: usize) -> bool
-    requires { n ≤ 128 }
-    ensures { result ≡ every (n - 1) (λ i. nat_lt (slice_index docs.now i) (slice_index docs.now (i + 1))) }
+// Whether each document is above the one before it. All are looked at: without an early return they are compared many at a time.
+pub fn rising(docs: &[u32]) -> bool
+    ensures { result ≡ every (length docs.now - 1) (λ i. nat_lt (slice_index docs.now i) (slice_index docs.now (i + 1))) }
 {
     let mut right = true;
-    let mut i: usize = 0;
-    while i + 1 < n {
-        if docs[i + 1] <= docs[i] {
+    for i in 1..docs.len() {
+        if docs[i] <= docs[i - 1] {
             right = false;
         }
-        i += 1;
     }
     right
 }
@@ -115,5 +111,5 @@ pub fn documents(
     if narrow {
         return true;
     }
-    rising(values, n)
+    rising(&values[..n])
 }

@@ -6,12 +6,15 @@ ghost use Rattle.std.specs.Float.{nan};
 ghost use Rattle.arrays.specs.Every.{every};
 ghost use Rattle.bm25.specs.Limits.{weight_ok, average_ok};
 ghost use Rattle.notefile.specs.Conditions.{list_fits};
-ghost use Rattle.contents.specs.Contents.{Contents, lists, list_at, reader_of};
+ghost use Rattle.outcome.specs.Refusals.{refusal_number};
+ghost use Rattle.contents.specs.Contents as spec;
+ghost use Rattle.contents.specs.Contents.{lists, list_at, reader_of};
 ghost use Rattle.contents.specs.Refusal.{head_right, buffers_right, head_refusal};
-ghost use Rattle.contents.specs.Inner.Handed.{contents_of};
+ghost use Rattle.contents.specs.Inner.Handed.{contents_of, contents_in};
 
-use contents::Head;
+use contents::{Contents, Head};
 use fieldnorm::FieldNormReader;
+use outcome::refusal::Refusal;
 
 // Whether row 1 lets so many lists and a head through.
 fn head_right(h: Head, lists: usize) -> bool
@@ -56,41 +59,36 @@ fn weight_right(weight: f32) -> bool
 // All postings that the counts of at most 16 lists state.
 fn total(counts: &[u32]) -> usize
     requires { length counts.now ≤ 16 }
-    ensures { (c : Contents) → c.counts ≡ counts.now → result ≡ list_at c (lists c) }
+    ensures { (c : spec.Contents) → c.counts ≡ counts.now → result ≡ list_at c (lists c) }
 {
     let mut sum: usize = 0;
-    let mut l: usize = 0;
-    while l < counts.len() {
+    for l in 0..counts.len() {
         sum += counts[l] as usize;
-        l += 1;
     }
     sum
 }
 
 // Whether row 3 lets the buffers through.
-fn buffers_right(
-    h: Head,
-    norms: &[u8],
-    weights: &[f32],
-    counts: &[u32],
-    docs: &[u32],
-    freqs: &[u32],
-) -> bool
-    requires { length counts.now ≤ 16 }
-    ensures { result ≡ buffers_right (contents_of h norms.now weights.now counts.now docs.now freqs.now) }
+fn buffers_right(c: Contents<'_>) -> bool
+    requires { length c.counts.now ≤ 16 }
+    ensures { result ≡ buffers_right (contents_in c.entry) }
 {
-    let bytes = if h.kind == 0 { h.documents as usize } else { 0 };
-    if norms.len() != bytes {
+    let bytes = if c.head.kind == 0 {
+        c.head.documents as usize
+    } else {
+        0
+    };
+    if c.norms.len() != bytes {
         return false;
     }
-    if weights.len() != counts.len() {
+    if c.weights.len() != c.counts.len() {
         return false;
     }
-    let postings = total(counts);
-    if docs.len() != postings {
+    let postings = total(c.counts);
+    if c.docs.len() != postings {
         return false;
     }
-    freqs.len() == postings
+    c.freqs.len() == postings
 }
 
 // Whether row 4 lets a list's weight and count through.
@@ -109,40 +107,31 @@ fn lists_right(documents: u32, weights: &[f32], counts: &[u32]) -> bool
     ensures { result ≡ every (length counts.now) (λ l. list_fits (get_or weights.now l nan) (get_or counts.now l 0) documents) }
 {
     let mut right = true;
-    let mut l: usize = 0;
-    while l < counts.len() {
+    for l in 0..counts.len() {
         if !list_right(weights[l], counts[l], documents) {
             right = false;
         }
-        l += 1;
     }
     right
 }
 
-// What contents are refused for, of 1 to 4, or 0.
-pub fn head_refusal(
-    h: Head,
-    norms: &[u8],
-    weights: &[f32],
-    counts: &[u32],
-    docs: &[u32],
-    freqs: &[u32],
-) -> u32
-    ensures { result ≡ head_refusal (contents_of h norms.now weights.now counts.now docs.now freqs.now) }
+// Whether rows 1 to 4 let contents through; the first that does not refuses them.
+pub fn check_head(c: Contents<'_>) -> Result<(), Refusal>
+    ensures { refusal_number result ≡ head_refusal (contents_in c.entry) }
 {
-    if !head_right(h, counts.len()) {
-        return 1;
+    if !head_right(c.head, c.counts.len()) {
+        return Err(Refusal::Header);
     }
-    if !average_right(h.average) {
-        return 2;
+    if !average_right(c.head.average) {
+        return Err(Refusal::Average);
     }
-    if !buffers_right(h, norms, weights, counts, docs, freqs) {
-        return 3;
+    if !buffers_right(c) {
+        return Err(Refusal::Length);
     }
-    if !lists_right(h.documents, weights, counts) {
-        return 4;
+    if !lists_right(c.head.documents, c.weights, c.counts) {
+        return Err(Refusal::Entry);
     }
-    0
+    Ok(())
 }
 
 // Where norm codes are read: from the bytes handed in, or one code for all.

@@ -12,10 +12,20 @@ pub struct Head {
     pub average: f32,
 }
 
-// The refusal of contents; where there is none, the length of each list's postings and of the whole file.
+// Contents as they are lent: the head, a norm byte for each document of kind 0, and each list's weight, count, documents and frequencies.
+#[derive(Clone, Copy)]
+pub struct Contents<'a> {
+    pub head: Head,
+    pub norms: &'a [u8],
+    pub weights: &'a [f32],
+    pub counts: &'a [u32],
+    pub docs: &'a [u32],
+    pub freqs: &'a [u32],
+}
+
+// Of contents that are not refused, the length of each list's postings and of the whole file.
 #[derive(Clone, Copy)]
 pub struct Price {
-    pub refusal: u32,
     pub postings: [usize; 16],
     pub total: usize,
 }

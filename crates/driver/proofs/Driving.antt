@@ -26,7 +26,7 @@ use Rattle.machine.specs.Inner.Kept.{KeptIn}
 use Rattle.machine.specs.Inner.Stands.{Tables, place_in, StandsIn}
 use Rattle.notefile.specs.Header.{norm_reader}
 use Rattle.machine.specs.Inner.Goes.{GoesOn}
-use Rattle.machine.specs.declared.Gone.{Gone}
+use Rattle.reports.specs.declared.Gone.{Gone}
 use Rattle.machine.specs.declared.Machine.{Machine}
 use Rattle.machine.proofs.Nearing.{cost_in, machine-nears}
 use Rattle.driver.specs.Inner.Drives.{leg_to, stopped_as, Drives}
@@ -40,7 +40,7 @@ for-leg file lists norms s t e old m S =
     subst (λ (z : Leg). (z.similarity.norms ≡ norm_reader file) × StandsIn file z.similarity lists norms old m) (sym e) S
 
 -- and went on by it
-pub by-leg : (file : List ℕ) (lists : List (List ℕ)) (norms : List (List Float)) (s : Similarity) (t : Float) {leg : Leg} → leg ≡ leg_to s t → {old : Tables} {m : Machine} {new : Tables} {r : Gone}
+pub by-leg : (file : List ℕ) (lists : List (List ℕ)) (norms : List (List Float)) (s : Similarity) (t : Float) {leg : Leg} → leg ≡ leg_to s t → {old : Tables} {m : Machine} {new : Tables} {r : Gone Machine}
     → GoesOn file leg.similarity lists norms leg.threshold leg.turns old m new r → GoesOn file s lists norms t 18446744073709551615 old m new r
 by-leg file lists norms s t e {old} {m} {new} {r} G =
     subst (λ (z : Leg). GoesOn file z.similarity lists norms z.threshold z.turns old m new r) e G
@@ -76,50 +76,50 @@ module _ (file : List ℕ) (script : List Float) (lists : List (List ℕ)) (norm
         let l : t.reports < rows_of documents₀ scores₀ = lt_of_ne (omega (arith, w.fit, count-is K)) (λ e. ne (e ∙ sym g)) in
         (l, omega (arith, l, documents-long w), omega (arith, l, scores-long w))
 
-    module _ {turns : ℕ} {h' : Tables} {r : Gone} (G : GoesOn file task.similarity lists norms t.now turns h m h' r) where
+    module _ {turns : ℕ} {h' : Tables} {r : Gone Machine} (G : GoesOn file task.similarity lists norms t.now turns h m h' r) where
       abbrev Turns : Event → Type 0
-      Turns event = Went turn_in over_in t.now (at h m) turns r.taken (at h' r.machine) event
+      Turns event = Went turn_in over_in t.now (at h m) turns r.taken (at h' r.to) event
 
       went-as : {event : Event} → r.event ≡ event → Turns event
       went-as e = subst Turns e G.went
 
-      near : KeptIn N (at h' r.machine) × (r.taken + cost_in N (at h' r.machine) ≤ cost_in N (at h m))
+      near : KeptIn N (at h' r.to) × (r.taken + cost_in N (at h' r.to) ≤ cost_in N (at h m))
       near = went-near (machine_from (at h m)) (machine-nears N (at h m) D.kept) t.now (at h m) r.event D.kept G.went
 
       -- a report that has a row
       pub reports-on : {doc : ℕ} {score : Float} → r.event ≡ Report doc score → {room : ℕ} → (t.reports ≡ room → ⊥) → room ≡ rows_of documents₀ scores₀
           → {t' : Threshold} {best' : List Float} {documents' : List ℕ} {values' : List Float}
-          → Reported task.rule script doc score t best documents values t' best' documents' values' → Driving t' best' h' r.machine documents' values'
+          → Reported task.rule script doc score t best documents values t' best' documents' values' → Driving t' best' h' r.to documents' values'
       reports-on e ne g R = record {
         stands = G.stands;
         going = went-reports W task.rule script documents₀ scores₀ D.going (went-as e) (has-row ne g).0 R;
         kept = near.0;
       }
 
-      pub reports-nearer : {doc : ℕ} {score : Float} → r.event ≡ Report doc score → cost_in N (at h' r.machine) < cost_in N (at h m)
+      pub reports-nearer : {doc : ℕ} {score : Float} → r.event ≡ Report doc score → cost_in N (at h' r.to) < cost_in N (at h m)
       reports-nearer e = let s = (went-as e).stood in omega (arith, near.1, s.1)
 
       -- one for which no row is left
       pub stops-full : {doc : ℕ} {score : Float} → r.event ≡ Report doc score → {room : ℕ} → t.reports ≡ room → room ≡ rows_of documents₀ scores₀
-          → {x : Driven} → x ≡ stopped_as r.machine true room → Drives file script lists norms task old documents₀ scores₀ h' documents values x
+          → {x : Driven} → x ≡ stopped_as r.to true room → Drives file script lists norms task old documents₀ scores₀ h' documents values x
       stops-full e {room} f g x-is =
           subst (Drives file script lists norms task old documents₀ scores₀ h' documents values) (sym x-is)
           (record {
             stands = G.stands;
-            ran = subst (λ (n : ℕ). Ran W task.rule script documents₀ scores₀ true n documents values (at h' r.machine)) f
+            ran = subst (λ (n : ℕ). Ran W task.rule script documents₀ scores₀ true n documents values (at h' r.to)) f
                 (went-full W task.rule script documents₀ scores₀ D.going (went-as e) (f ∙ g));
           })
 
       -- the route's end
-      pub stops-over : r.event ≡ Over → {x : Driven} → x ≡ stopped_as r.machine false t.reports
+      pub stops-over : r.event ≡ Over → {x : Driven} → x ≡ stopped_as r.to false t.reports
           → Drives file script lists norms task old documents₀ scores₀ h' documents values x
       stops-over e x-is =
           subst (Drives file script lists norms task old documents₀ scores₀ h' documents values) (sym x-is)
           (record { stands = G.stands; ran = went-over W task.rule script documents₀ scores₀ D.going (went-as e) })
 
       -- turns that were taken without a report
-      pub pauses-on : r.event ≡ Paused → Driving t best h' r.machine documents values
+      pub pauses-on : r.event ≡ Paused → Driving t best h' r.to documents values
       pauses-on e = record { stands = G.stands; going = went-paused W task.rule script documents₀ scores₀ D.going (went-as e); kept = near.0 }
 
-      pub pauses-nearer : r.event ≡ Paused → 0 < turns → cost_in N (at h' r.machine) < cost_in N (at h m)
+      pub pauses-nearer : r.event ≡ Paused → 0 < turns → cost_in N (at h' r.to) < cost_in N (at h m)
       pauses-nearer e l = omega (arith, near.1, (went-as e).stood.2, l)

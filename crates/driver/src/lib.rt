@@ -16,7 +16,8 @@ use slot_rows::place::{Blocks, Places};
 use term_scorer::Floats;
 use term_scorer::score::{Leg, Similarity};
 
-// Where the run stopped, whether a report found every row full, and how many rows are written.
+// Where the run stopped, whether a report found every row full, and how many rows are written. A count stands beside either answer of
+// `full`, so the flag hides no Option.
 #[derive(Clone, Copy)]
 pub struct Driven {
     pub machine: Machine,
@@ -80,7 +81,7 @@ pub fn drive(
     loop {
         let leg = leg_to(task.similarity, t.now);
         let g = go_on(file, leg, now, lists, norms, order, places, blocks, floats);
-        now = g.machine;
+        now = g.to;
         let event = g.event;
         match event {
             Event::Report(doc, score) => {

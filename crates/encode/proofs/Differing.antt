@@ -54,14 +54,7 @@ pub record Taking (d : ℕ → ℕ) (strict first : Bool) (previous n : ℕ) (be
 taken-both : (x y z : ℕ) → x - y - z ≡ x - (y + z)
 taken-both x y z = omega arith
 
--- none are asked for
-pub none-taken : (f : ℕ → ℕ) {n : ℕ} (before : List ℕ) → length before ≡ 128 → n ≡ 0 → Fronted f n before before
-none-taken f before h e = record { long = h; values = λ k l. absurd (omega (arith, e)); kept = λ k l. refl }
-
 module _ (d : ℕ → ℕ) (strict first : Bool) (previous n : ℕ) (R : Rising d strict first previous n) where
-  pub first-less : 0 < n → {x base : ℕ} → x ≡ d 0 → base ≡ start_of strict previous first → base ≤ x
-  first-less h e f = omega (arith, R.floors 0 h, e, f)
-
   pub begun : 0 < n → (before : List ℕ) {x base : ℕ} → length before ≡ 128 → x ≡ d 0 → base ≡ start_of strict previous first
       → Taking d strict first previous n before (set before 0 (x - base)) 1
   unfolding differ
@@ -88,12 +81,6 @@ module _ {d : ℕ → ℕ} {strict first : Bool} {previous n : ℕ} {before out 
       over : (i : ℕ) → 0 < i → i < n → d (i - 1) + gap_of strict ≤ d i
       over zero k l = absurd (omega arith)
       over (suc i) k l = let z : suc i - 1 ≡ i = omega arith in rw z (R.floors (suc i) l)
-
-      pub no_less : y ≤ x
-      no_less = omega (arith, over i T.some h, ex, ey)
-
-      pub no-less-gap : add ≤ x - y
-      no-less-gap = omega (arith, over i T.some h, ex, ey, ea)
 
       value : (i : ℕ) → 0 < i → d i - d (i - 1) - gap_of strict ≡ differ d strict first previous i
       unfolding differ

@@ -10,14 +10,13 @@ use lib.Pow.{shr_lt}
 use borrow.Author.Tests.{lt-ltb, le-ltb}
 use Rattle.arrays.proofs.Order.{lt-or-ge}
 use Rattle.codec.specs.VInt.{more, vint_from, capped, vint_at}
-use Rattle.codec.specs.declared.vint.VInt.{VInt}
-use Rattle.codec.specs.declared.vint.VInt.TheVariants.{Value, Broken}
 use Rattle.codec.proofs.OneVInt.{from_end, from_last, from_more}
 use Rattle.pieces.specs.Inner.Written.{Written, Put, Stands}
 use Rattle.pieces.proofs.Writes.{none, one, fully}
-use Rattle.encode.proofs.WholeVInt.{no_value, Ends, ends, uncapped}
+use Rattle.encode.proofs.WholeVInt.{no_value, same-value, same-next, Ends, ends, uncapped}
 use Rattle.encode.specs.ShortVInt.{short_from, short_vint}
 use Rattle.encode.specs.Inner.VIntBytes.{vint_length, vint_byte}
+use Rattle.std.proofs.Common.{Option, Some, None}
 
 -- a number that fits the last byte, and one that does not
 pub short-last : (n v : ℕ) → v < 128 → short_from (suc n) v ≡ (v + 128) ∷ []
@@ -66,7 +65,7 @@ module _ (s : List ℕ) (e : ℕ) where
   -- the bytes of the shortest VInt of v stand at p, below e
   short-reads : (n v p : ℕ) → v < 2 ^ (7 * n) → 0 < n → p + length (short_from n v) ≤ e
       → ((k : ℕ) → k < length (short_from n v) → get_or s (p + k) 0 ≡ get_or (short_from n v) k 0)
-      → vint_from n s e p ≡ Value v (p + length (short_from n v))
+      → vint_from n s e p ≡ Some (v, p + length (short_from n v))
   short-reads zero v p h z l b = absurd (not-suc-le-zero z)
   short-reads (suc n) v p h z l b = ⊎_elim
       (λ m.
@@ -74,19 +73,19 @@ module _ (s : List ℕ) (e : ℕ) where
       let k = last-long n v m in
       let x : get_or s p 0 ≡ v + 128 = head ∙ ap (λ (y : List ℕ). get_or y 0 0) q in
       from_last s e p n (omega arith) (omega arith)
-      ∙ ap (λ (y : ℕ). Value y (p + 1)) (omega arith)
-      ∙ ap (λ (y : ℕ). Value v (p + y)) (sym k))
+      ∙ ap (λ (y : ℕ). Some (y, p + 1)) (omega arith)
+      ∙ ap (λ (y : ℕ). Some (v, p + y)) (sym k))
       (λ m.
       let q = short-more n v m in
       let k = more-long n v m in
       let x : get_or s p 0 ≡ v % 128 = head ∙ ap (λ (y : List ℕ). get_or y 0 0) q in
-      let i : vint_from n s e (p + 1) ≡ Value (v / 128) (p + 1 + length (short_from n (v / 128))) =
+      let i : vint_from n s e (p + 1) ≡ Some (v / 128, p + 1 + length (short_from n (v / 128))) =
       short-reads n (v / 128) (p + 1) (less n v h) (some n v h m) (omega arith)
       (λ j g. ap (λ (y : ℕ). get_or s y 0) (next p j) ∙ b (suc j) (omega arith) ∙ ap (λ (y : List ℕ). get_or y (suc j) 0) q) in
       from_more s e p n (omega arith) (omega arith)
       ∙ ap (more (get_or s p 0)) i
-      ∙ ap (λ (y : ℕ). Value y (p + 1 + length (short_from n (v / 128)))) (whole (get_or s p 0) v x)
-      ∙ ap (Value v) (omega arith))
+      ∙ ap (λ (y : ℕ). Some (y, p + 1 + length (short_from n (v / 128)))) (whole (get_or s p 0) v x)
+      ∙ ap (λ (y : ℕ). Some (v, y)) (omega arith))
       (lt-or-ge v 128)
     where
       head : get_or s p 0 ≡ get_or (short_from (suc n) v) 0 0
@@ -100,7 +99,7 @@ module _ (s : List ℕ) (e : ℕ) where
 
   module _ (bytes : (i : ℕ) → get_or s i 0 < 256) where
     -- a whole VInt is not shorter than the shortest of its value, and of that length it has its bytes
-    shortest : (n p v next : ℕ) → vint_from n s e p ≡ Value v next
+    shortest : (n p v next : ℕ) → vint_from n s e p ≡ Some (v, next)
         → Shortest s p next (short_from n v)
     unfolding vint_from
     shortest zero p v next q = absurd (no_value q)
@@ -112,11 +111,11 @@ module _ (s : List ℕ) (e : ℕ) where
         (λ h. absurd (no_value (sym (from_end s e p (suc n) h) ∙ q)))
         (lt-or-ge p e)
       where
-        last : Value (get_or s p 0 - 128) (p + 1) ≡ Value v next → 128 ≤ get_or s p 0
+        last : ◌≡◌ {A = Option (ℕ × ℕ)} (Some (get_or s p 0 - 128, p + 1)) (Some (v, next)) → 128 ≤ get_or s p 0
             → Shortest s p next (short_from (suc n) v)
         last g l =
-            let a : get_or s p 0 - 128 ≡ v = cc in
-            let b : p + 1 ≡ next = cc in
+            let a = same-value g in
+            let b = same-next g in
             let m : v < 128 = omega (arith, bytes p) in
             let j = last-long n v m in
             record {
@@ -124,12 +123,12 @@ module _ (s : List ℕ) (e : ℕ) where
               same = λ _ k f. let z : k ≡ 0 = omega arith in rw (z, add-zero p, short-last n v m) (omega arith);
             }
 
-        longer : p < e → get_or s p 0 < 128 → (r : VInt) → vint_from n s e (p + 1) ≡ r
-            → ((x m : ℕ) → vint_from n s e (p + 1) ≡ Value x m → Shortest s (p + 1) m (short_from n x)) → more (get_or s p 0) r ≡ Value v next
+        longer : p < e → get_or s p 0 < 128 → (r : Option (ℕ × ℕ)) → vint_from n s e (p + 1) ≡ r
+            → ((x m : ℕ) → vint_from n s e (p + 1) ≡ Some (x, m) → Shortest s (p + 1) m (short_from n x)) → more (get_or s p 0) r ≡ Some (v, next)
             → Shortest s p next (short_from (suc n) v)
-        longer h l (Value x m) f H g =
-            let a : get_or s p 0 + 128 * x ≡ v = cc in
-            let b : m ≡ next = cc in
+        longer h l (Some (x, m)) f H g =
+            let a = same-value g in
+            let b = same-next g in
             let E : Ends n e (p + 1) m = ends s e n (p + 1) x m f in
             let J = joined (get_or s p 0) x v l (sym a) in
             ⊎_elim
@@ -151,15 +150,15 @@ module _ (s : List ℕ) (e : ℕ) where
                 → (k : ℕ) → k < suc (length (short_from n x)) → get_or s (p + k) 0 ≡ get_or (short_from (suc n) v) k 0
             each u c d I zero i = rw (add-zero p, short-more n v u) (sym c)
             each u c d I (suc k) i = rw (short-more n v u, d) (ap (λ (y : ℕ). get_or s y 0) (next' p k) ∙ I k (omega arith))
-        longer h l Broken f H g = absurd (no_value g)
+        longer h l None f H g = absurd (no_value g)
 
 -- the shortest VInt of a number of 32 bits, written at p, is read as the number
 module _ (s : List ℕ) (e p v : ℕ) where
-  pub vint-back : v < 4294967296 → p + vint_length v ≤ e → Stands s p (short_vint v) → vint_at s e p ≡ Value v (p + vint_length v)
+  pub vint-back : v < 4294967296 → p + vint_length v ≤ e → Stands s p (short_vint v) → vint_at s e p ≡ Some (v, p + vint_length v)
   unfolding vint_at short_vint
   vint-back h l S = ap capped (short-reads s e 5 v p (omega arith) (omega arith) l S.at) ∙ simp (lt-ltb v 4294967296 h)
 
-  module _ (bytes : (i : ℕ) → get_or s i 0 < 256) (next : ℕ) (q : vint_at s e p ≡ Value v next) where
+  module _ (bytes : (i : ℕ) → get_or s i 0 < 256) (next : ℕ) (q : vint_at s e p ≡ Some (v, next)) where
     -- no whole VInt of the number is shorter
     pub vint-shortest : p + vint_length v ≤ next
     unfolding vint_at short_vint

@@ -1,13 +1,12 @@
 -- A skip entry's fields read back, and no other bytes do.
-use mathlib.Core.Path.{◌≡◌, refl, sym, ap, ◌∙◌}
+use mathlib.Core.Path.{◌≡◌, refl, sym, ◌∙◌}
 use mathlib.Core.List.{List}
-use Prim.Native.Nat.{ℕ, zero, suc, ◌+◌, ◌/◌, ◌%◌, ◌≤◌, ◌<◌}
+use Prim.Native.Nat.{ℕ, zero, suc, ◌+◌, ◌/◌, ◌%◌, ◌<◌}
 use native.Mathlib.Omega.{arith}
-use lib.ListN.{length, get_or, set}
+use lib.ListN.{get_or}
 use Rattle.codec.specs.Bits.{word_at}
 use Rattle.pieces.specs.Bytes.{little_byte}
-use Rattle.pieces.specs.Inner.Written.{Written, Put, Stands}
-use Rattle.pieces.proofs.Writes.{one, recast}
+use Rattle.pieces.specs.Inner.Written.{Stands}
 use Rattle.pieces.proofs.Words.{word_back, word-only}
 use Rattle.encode.specs.SkipEntry.{skip_entry}
 
@@ -30,19 +29,6 @@ entry-low last doc_bits freq_bits norm_code freq_code (suc (suc (suc (suc k)))) 
   where
     no : (k : ℕ) → suc (suc (suc (suc k))) < 4 → ⊥
     no k h = omega arith
-
--- the last document's word, and a byte for each other field
-pub skip-written : (last doc_bits freq_bits norm_code freq_code : ℕ) {before mid : List ℕ} {p v : ℕ} → v ≡ last → p + 8 ≤ length before
-    → Written before p 4 (little_byte v) mid
-    → Put before p (skip_entry last doc_bits freq_bits norm_code freq_code)
-    (set (set (set (set mid (p + 4) (doc_bits + 64)) (p + 5) freq_bits) (p + 6) norm_code) (p + 7) freq_code)
-skip-written last doc_bits freq_bits norm_code freq_code {before} {mid} {p} {v} e h W =
-    let f : ℕ → ℕ = λ k. get_or (skip_entry last doc_bits freq_bits norm_code freq_code) k 0 in
-    let w4 = recast W f (λ k l. ap (λ (x : ℕ). little_byte x k) e ∙ entry-low last doc_bits freq_bits norm_code freq_code k l) in
-    let w5 = one w4 (p + 4) (doc_bits + 64) refl (omega arith) refl in
-    let w6 = one w5 (p + 5) freq_bits refl (omega arith) refl in
-    let w7 = one w6 (p + 6) norm_code refl (omega arith) refl in
-    record { written = one w7 (p + 7) freq_code refl (omega arith) refl }
 
 module _ (s : List ℕ) (p last doc_bits freq_bits norm_code freq_code : ℕ) where
   pub skip-back : last < 4294967296 → Stands s p (skip_entry last doc_bits freq_bits norm_code freq_code)

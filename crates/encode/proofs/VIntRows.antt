@@ -9,14 +9,13 @@ use native.Mathlib.Omega.{arith}
 use lib.ListN.{length, get_or, length-append}
 use Rattle.codec.specs.VInt.{vint_at, whole, value_of, next_of}
 use Rattle.codec.specs.VInts.{vint_place, vint_value, vint_whole}
-use Rattle.codec.specs.declared.vint.VInt.{VInt}
-use Rattle.codec.specs.declared.vint.VInt.TheVariants.{Value, Broken}
 use Rattle.pieces.specs.Inner.Written.{Put, Stands}
 use Rattle.encode.specs.ShortVInt.{short_vint, vint_row}
 use Rattle.encode.specs.Inner.VIntBytes.{vint_length, row_length}
 use Rattle.pieces.proofs.Puts.{put-nothing, put_as, put-behind}
 use Rattle.encode.proofs.ShortVInts.{vint-back, vint-shortest, vint-only, vint-most}
 use Rattle.pieces.proofs.Standing.{none-stands, first-stands, second-stands, both-stand}
+use Rattle.std.proofs.Common.{Option, Some, None}
 
 -- a row knows no more than its n numbers
 pub row_same : (n : ℕ) (u v : ℕ → ℕ) → ((k : ℕ) → k < n → u k ≡ v k) → vint_row n u ≡ vint_row n v
@@ -49,14 +48,14 @@ module _ (v : ℕ → ℕ) where
 
     -- a row that stands at p is read
     module _ (n : ℕ) (small : (k : ℕ) → k < n → v k < 4294967296) (S : Stands s p (vint_row n v)) (inside : p + row_length n v ≤ e) where
-      row_at : (k : ℕ) → k < n → vint_at s e (p + row_length k v) ≡ Value (v k) (p + row_length (suc k) v)
+      row_at : (k : ℕ) → k < n → vint_at s e (p + row_length k v) ≡ Some (v k, p + row_length (suc k) v)
       unfolding vint_row
       row_at k h =
           let q : n ≡ suc k + (n - suc k) = omega arith in
           let T : Stands s p (vint_row (suc k) v) = fewer (suc k) (n - suc k) (subst (λ (x : ℕ). Stands s p (vint_row x v)) q S) in
           let U : Stands s (p + length (vint_row k v)) (short_vint (v k)) = second-stands s p (vint_row k v) (short_vint (v k)) T in
           vint-back s e (p + row_length k v) (v k) (small k h) (omega (arith, row_more k, row-mono (suc k) n h)) U
-          ∙ ap (Value (v k)) (add_assoc p (row_length k v) (vint_length (v k)) ∙ ap (λ (x : ℕ). p + x) (sym (row_more k)))
+          ∙ ap (λ (y : ℕ). Some (v k, y)) (add_assoc p (row_length k v) (vint_length (v k)) ∙ ap (λ (x : ℕ). p + x) (sym (row_more k)))
 
       pub row-place : (k : ℕ) → k ≤ n → vint_place s e p k ≡ p + row_length k v
       unfolding vint_place vint_row
@@ -75,12 +74,12 @@ module _ (v : ℕ → ℕ) where
 
     -- whole VInts of these values
     module _ (bytes : (i : ℕ) → get_or s i 0 < 256) where
-      told : (q x : ℕ) (r : VInt) → r ≡ vint_at s e q → whole r ≡ true → value_of r ≡ x → vint_at s e q ≡ Value x (next_of q r)
-      told q x (Value y m) f w g = sym f ∙ ap (λ (z : ℕ). Value z m) g
-      told q x Broken f w g = absurd (true≢false (sym w))
+      told : (q x : ℕ) (r : Option (ℕ × ℕ)) → r ≡ vint_at s e q → whole r ≡ true → value_of r ≡ x → vint_at s e q ≡ Some (x, next_of q r)
+      told q x (Some (y, m)) f w g = sym f ∙ ap (λ (z : ℕ). Some (z, m)) g
+      told q x None f w g = absurd (true≢false (sym w))
 
       next-at : (k : ℕ) → vint_whole s e p k ≡ true → vint_value s e p k ≡ v k
-          → vint_at s e (vint_place s e p k) ≡ Value (v k) (vint_place s e p (suc k))
+          → vint_at s e (vint_place s e p k) ≡ Some (v k, vint_place s e p (suc k))
       unfolding vint_place vint_value vint_whole
       next-at k w x = told (vint_place s e p k) (v k) (vint_at s e (vint_place s e p k)) refl w x
 
@@ -165,6 +164,3 @@ module _ {v : ℕ → ℕ} {n sum i : ℕ} (S : Summing v n sum i) where
 
   pub sum_more : i < n → {x y : ℕ} → x ≡ v i → y ≡ vint_length x → Summing v n (sum + y) (i + 1)
   sum_more h {x} {y} e f = rw add-one (record { within = h; sum_is = omega (arith, f, ap vint_length e, S.sum_is, row_more v i) })
-
-  pub sum-all : n ≤ i → sum ≡ row_length n v
-  sum-all h = let e : i ≡ n = omega (arith, S.within) in S.sum_is ∙ ap (λ (x : ℕ). row_length x v) e

@@ -4,7 +4,7 @@ ghost use Rattle.pieces.specs.Inner.Written.{Put};
 ghost use Rattle.encode.specs.Fields.{field_bytes, header_fields, entry_fields};
 ghost use Rattle.encode.specs.Inner.FieldsFit.{Fit};
 
-use pieces::{write_be4, write_be5};
+use pieces::write_be;
 
 // The 9 bytes of a header.
 pub fn write_header(
@@ -19,12 +19,13 @@ pub fn write_header(
     requires { Fit (header_fields kind lists code documents average) × (at + 9 ≤ length out.old) }
     ensures { Put out.old at (field_bytes 9 (header_fields kind lists code documents average)) out.new }
 {
-    write_be5(
+    write_be(
         out,
         at,
+        5,
         68719476736 + kind * 34359738368 + lists * 1073741824 + code * 4194304 + documents * 2,
     );
-    write_be4(out, at + 5, average);
+    write_be(out, at + 5, 4, average);
 }
 
 // The 13 bytes of an entry. The skip length's low six bits stand beside the postings length.
@@ -40,7 +41,7 @@ pub fn write_entry(
     requires { Fit (entry_fields weight count kind skips postings) × (at + 13 ≤ length out.old) }
     ensures { Put out.old at (field_bytes 13 (entry_fields weight count kind skips postings)) out.new }
 {
-    write_be4(out, at, weight);
-    write_be5(out, at + 4, count * 524288 + kind * 262144 + skips / 64);
-    write_be4(out, at + 9, skips % 64 * 67108864 + postings);
+    write_be(out, at, 4, weight);
+    write_be(out, at + 4, 5, count * 524288 + kind * 262144 + skips / 64);
+    write_be(out, at + 9, 4, skips % 64 * 67108864 + postings);
 }

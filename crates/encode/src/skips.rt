@@ -5,13 +5,6 @@ ghost use Rattle.encode.specs.SkipEntry.{skip_entry};
 
 use pieces::write_low;
 
-// A document as a wider number.
-fn wide(x: u32) -> u64
-    ensures { result ≡ x }
-{
-    x as u64
-}
-
 // The 8 bytes of a skip entry of kind 0, of a strict block.
 pub fn write_skip_entry(
     out: &mut [u8],
@@ -25,7 +18,7 @@ pub fn write_skip_entry(
     requires { (doc_bits < 32) × (freq_bits ≤ 32) × (at + 8 ≤ length out.old) }
     ensures { Put out.old at (skip_entry last doc_bits freq_bits norm_code freq_code) out.new }
 {
-    write_low(out, at, wide(last));
+    write_low(out, at, u64::from(last));
     out[at + 4] = (doc_bits + 64) as u8;
     out[at + 5] = freq_bits as u8;
     out[at + 6] = norm_code;

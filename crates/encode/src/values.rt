@@ -33,10 +33,8 @@ pub fn differences(
     }
     let add = gap(strict);
     out[0] = docs[from] - first_base(strict, first, previous);
-    let mut i: usize = 1;
-    while i < n {
+    for i in 1..n {
         out[i] = docs[from + i] - docs[from + i - 1] - add;
-        i += 1;
     }
 }
 
@@ -47,9 +45,7 @@ pub fn lowered(freqs: &[u32], from: usize, n: usize, strict: bool, out: &mut [u3
     ensures { Fronted (λ i. get_or freqs.now (from + i) 0 - gap_of strict) n out.old out.new }
 {
     let less = gap(strict);
-    let mut i: usize = 0;
-    while i < n {
+    for i in 0..n {
         out[i] = freqs[from + i] - less;
-        i += 1;
     }
 }

@@ -27,10 +27,8 @@ pub fn vints_len(values: &[u32; 128], n: usize) -> usize
     ensures { result ≡ row_length n (λ k. get_or values.now k 0) }
 {
     let mut sum: usize = 0;
-    let mut i: usize = 0;
-    while i < n {
+    for i in 0..n {
         sum += vint_len(values[i]);
-        i += 1;
     }
     sum
 }
@@ -58,10 +56,8 @@ pub fn write_vints(values: &[u32; 128], n: usize, out: &mut [u8], at: usize) -> 
         (result ≡ at + row_length n numbers) × Put out.old at (vint_row n numbers) out.new }
 {
     let mut p = at;
-    let mut i: usize = 0;
-    while i < n {
+    for i in 0..n {
         p = write_vint(out, p, values[i]);
-        i += 1;
     }
     p
 }

@@ -3,7 +3,7 @@ ghost use Rattle.std.specs.Prelude.{◌<◌};
 
 use noterank::noterank_find;
 use samples::rows::{DOCUMENT, ROWS, SCORE, rows_agree};
-use samples::words::{FEW, Replayed, part, read_few, size, threshold, word};
+use samples::words::{FEW, Replayed, part, read_numbers, size, threshold, word};
 
 // The find of the case at a place: after its size and the lengths of file and query come mode, scoring, the start's kind and bits, and k.
 fn call(
@@ -43,10 +43,10 @@ fn agree(
     rows_at: usize,
     code: u32,
     count: u32,
-    reported: &[u32; 256],
-    values: &[f32; 256],
-    documents: &[u32; 256],
-    scores: &[f32; 256],
+    reported: &[u32; ROWS],
+    values: &[f32; ROWS],
+    documents: &[u32; ROWS],
+    scores: &[f32; ROWS],
 ) -> bool
     requires { (at < 4000000000) × (rows_at < 4100000000) }
 {
@@ -72,10 +72,10 @@ fn hold(data: &[u8], at: usize, file: &[u8], query: &[u32], rows_at: usize) -> R
     let values_len = size(data, at + 36, ROWS);
     let documents_len = size(data, at + 40, ROWS);
     let scores_len = size(data, at + 44, ROWS);
-    let mut reported = [DOCUMENT; 256];
-    let mut values = [SCORE; 256];
-    let mut documents = [DOCUMENT; 256];
-    let mut scores = [SCORE; 256];
+    let mut reported = [DOCUMENT; ROWS];
+    let mut values = [SCORE; ROWS];
+    let mut documents = [DOCUMENT; ROWS];
+    let mut scores = [SCORE; ROWS];
     let mut count = 1u32;
     let code = call(
         data,
@@ -104,6 +104,6 @@ pub fn replay_find(data: &[u8], at: usize) -> Replayed
     let rows_at = at + 60 + 4 * query_len;
     let file_len = size(data, at + 4, 32768);
     let file = part(data, rows_at + 8 * reports + 8 * notes, file_len);
-    let query = read_few(data, at + 60);
+    let query: [u32; FEW] = read_numbers(data, at + 60);
     hold(data, at, file, &query[..query_len], rows_at)
 }

@@ -1,6 +1,6 @@
 -- Values of clear sign, finite or infinite: none is a NaN, their sums are such values too, and comparisons order them.
 use mathlib.Core.Path.{◌≡◌, refl, sym, subst}
-use mathlib.Core.Bool.{Bool, true, false, true≢false, not, cond}
+use mathlib.Core.Bool.{Bool, true, false, true≢false, cond}
 use Prim.Native.Nat.{ℕ, zero, suc, ◌+◌, ◌*◌, ◌^◌}
 use native.Mathlib.Nat.{le_of_lt}
 use lib.Dec.{T, ltb}

@@ -1,5 +1,5 @@
 -- Frequencies: a test in 32 bits is one of the frequency, and the loop over a block.
-use Rattle.std.proofs.Common.{◌≡◌, ℕ, ◌+◌, ◌%◌, ◌<◌, ◌≤◌, Bool, true, false, ◌&&◌, ltb, leb, List, length, get_or, set, sym, refl, ap, ◌∙◌, ⊎_elim, mod-eq_of_lt, arith, lt-ltb, leb-true}
+use Rattle.std.proofs.Common.{◌≡◌, ℕ, ◌+◌, ◌%◌, ◌<◌, ◌≤◌, Bool, true, false, ltb, leb, List, length, get_or, set, sym, refl, ap, ◌∙◌, ⊎_elim, mod-eq_of_lt, arith, leb-true}
 use Rattle.arrays.specs.Every.{every}
 use Rattle.arrays.proofs.Order.{lt-or-ge}
 use Rattle.arrays.proofs.Every.{second-true, stays, lowered, each}
@@ -8,12 +8,6 @@ use Rattle.compression.specs.Documents.{gap_of}
 use Rattle.frequencies.specs.Frequencies.{freq_right}
 use Rattle.frequencies.specs.Inner.Counts.{Counted}
 use Rattle.compression.proofs.Differences.{gap-small}
-
-pub zero-wrong : {f : ℕ} → f ≡ 0 → false ≡ freq_right f
-zero-wrong e = rw e refl
-
-pub right-if : (f : ℕ) → (f ≡ 0 → ⊥) → leb f 2013265944 ≡ freq_right f
-right-if f h = sym (ap (λ (b : Bool). b && leb f 2013265944) (lt-ltb 0 f (omega arith)))
 
 -- one that leaves 32 bits is 0 there, which is wrong too
 right-wraps : (f : ℕ) → f ≤ 4294967296 → freq_right (f % 4294967296) ≡ freq_right f
@@ -29,16 +23,6 @@ pub begun : {vs : List ℕ} (strict : Bool) (n : ℕ) → length vs ≡ 128 → 
 begun {vs} strict n h = record { within = omega arith; same = refl; place = filling 0 128 (λ k. (get_or vs k 0 + gap_of strict) % 4294967296) vs h }
 
 module _ {vs : List ℕ} {n : ℕ} {strict : Bool} {out : List ℕ} {right : Bool} {i : ℕ} (C : Counting vs n strict out right i) where
-  pub all-counted : n ≤ i → Counted vs n strict right out
-  all-counted h =
-      let e : i ≡ n = omega (arith, C.within) in
-      record {
-        same = C.same ∙ ap (λ (k : ℕ). every k (λ k. freq_right (get_or vs k 0 + gap_of strict))) e;
-        long = C.place.long;
-        freqs = λ k l. C.place.done k (omega arith);
-        kept = λ k l. C.place.rest k (omega arith);
-      }
-
   module _ (h : i < n) (top : n ≤ 128) (small : (k : ℕ) → k < n → get_or vs k 0 < 4294967296) {g f : ℕ} (e : g ≡ gap_of strict) (s : f ≡ (get_or out i 0 + g) % 4294967296) where
     freq-is : f ≡ (get_or vs i 0 + gap_of strict) % 4294967296
     freq-is = s ∙ ap (λ (x : ℕ). (x + g) % 4294967296) (C.place.rest i (omega arith)) ∙ ap (λ (x : ℕ). (get_or vs i 0 + x) % 4294967296) e

@@ -12,7 +12,7 @@ use std::num::wrapping_add_u32;
 fn in_range(f: u32) -> bool
     ensures { result ≡ freq_right f }
 {
-    if f == 0 { false } else { f <= 2013265944 }
+    f != 0 && f <= 2013265944
 }
 
 // The first n values turned into frequencies, each in 32 bits, and whether all of them are right. A value + 1 that leaves 32 bits is 0, so
@@ -23,14 +23,12 @@ pub fn frequencies(values: &mut [u32; 128], n: usize, strict: bool) -> bool
 {
     let add = gap(strict);
     let mut right = true;
-    let mut i: usize = 0;
-    while i < n {
+    for i in 0..n {
         let f = wrapping_add_u32(values[i], add);
         values[i] = f;
         if !in_range(f) {
             right = false;
         }
-        i += 1;
     }
     right
 }

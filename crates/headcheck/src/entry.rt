@@ -28,12 +28,10 @@ pub fn entries_right(file: &[u8], h: Header) -> bool
 {
     let lists = h.lists;
     let mut right = true;
-    let mut l: usize = 0;
-    while l < lists {
+    for l in 0..lists {
         if !entry_right(file, h, l) {
             right = false;
         }
-        l += 1;
     }
     right
 }

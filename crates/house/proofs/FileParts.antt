@@ -18,7 +18,7 @@ use Rattle.encode.specs.ShortVInt.{vint_row}
 use Rattle.notefile.specs.Header.{norm_kind, documents}
 use Rattle.notefile.specs.Parts.{skips_at}
 use Rattle.contents.specs.Contents.{Contents, Typed, lists, weight_of, count_of, doc_of, freq_of, code_of, score_of}
-use Rattle.house.specs.House.{doc_differ, doc_values, freq_values, doc_bits, freq_bits, block_bytes, blocks_bytes, tail_bytes, postings_bytes, list_skips, list_postings, header, entry, parts}
+use Rattle.house.specs.House.{doc_differ, doc_values, freq_values, doc_bits, freq_bits, block_bytes, blocks_bytes, tail_bytes, postings_bytes, list_skips, list_postings, header, entry}
 use Rattle.contents.specs.Inner.HeadOk.{HeadOk}
 use Rattle.house.proofs.FilePlaces.{Housed, head_fields, list_fields, list_place, next-list, parts_none}
 use Rattle.house.proofs.ListSkips.{skips-long}

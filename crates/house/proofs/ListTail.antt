@@ -13,7 +13,6 @@ use borrow.Author.Tests.{eq-eqb, le-leb, le-ltb}
 use Rattle.arrays.specs.Every.{every}
 use Rattle.arrays.proofs.Every.{and-true, all}
 use Rattle.codec.specs.VInts.{vint_place, vint_value, vint_whole}
-use Rattle.codec.specs.declared.vint.VInt.TheVariants.{Value}
 use Rattle.bitpacker.specs.Packed.{packed_at}
 use Rattle.compression.specs.Documents.{gap_of}
 use Rattle.pieces.specs.Inner.Written.{Stands}
@@ -34,13 +33,14 @@ use Rattle.house.proofs.Given.{Laid}
 use Rattle.house.proofs.ListValues.{differ-small}
 use Rattle.house.proofs.ListDecoded.{Decodes}
 use Rattle.house.proofs.ListBlocks.{tail-stands, tail-ends, full-decodes}
+use Rattle.std.proofs.Common.{Some}
 
 -- a row's VInts are the shortest
 pub row-shortest : (v : ℕ → ℕ) (s : List ℕ) (e p n : ℕ) → ((k : ℕ) → k < n → v k < 4294967296) → Stands s p (vint_row n v)
     → p + row_length n v ≤ e → Shortest s e p n
 row-shortest v s e p n small S inside k h t bytes end q next a =
     shorter p (row_length k v) (row_length (suc k) v) (vint_length (v k)) q next (row_more v k)
-    (vint-shortest t end q (v k) bytes next (a ∙ ap (λ (y : ℕ). Value y next) (row-value v s e p n small S inside k h)))
+    (vint-shortest t end q (v k) bytes next (a ∙ ap (λ (y : ℕ). Some (y, next)) (row-value v s e p n small S inside k h)))
     (row-place v s e p n small S inside k (omega arith)) (row-place v s e p n small S inside (suc k) h)
   where
     shorter : (p l m u q next : ℕ) {a b : ℕ} → m ≡ l + u → q + u ≤ next → a ≡ p + l → b ≡ p + m → b + q ≤ next + a

@@ -12,8 +12,6 @@ use Rattle.arrays.specs.Every.{every}
 use Rattle.arrays.proofs.Every.{first-true, second-true, each}
 use Rattle.codec.specs.VInt.{vint_from, vint_at, whole, value_of, next_of}
 use Rattle.codec.specs.VInts.{vint_place, vint_value, vint_whole}
-use Rattle.codec.specs.declared.vint.VInt.{VInt}
-use Rattle.codec.specs.declared.vint.VInt.TheVariants.{Value, Broken}
 use Rattle.pieces.specs.Inner.Written.{Stands}
 use Rattle.pieces.proofs.Standing.{both-stand}
 use Rattle.encode.specs.ShortVInt.{short_vint, vint_row}
@@ -30,27 +28,28 @@ use Rattle.house.proofs.ShortBytes.{short-bytes}
 use Rattle.house.proofs.Given.{Read}
 use Rattle.house.proofs.OnlyRead.{doc-values, freq-values, tail-not-strict}
 use Rattle.house.proofs.OnlyBlocks.{behind}
+use Rattle.std.proofs.Common.{Option, Some, None}
 
 -- VInts from place p on that are whole and the shortest
 module _ (s : List ℕ) (e p : ℕ) (bytes : (i : ℕ) → get_or s i 0 < 256) where
-  told : (q : ℕ) (r : VInt) → r ≡ vint_at s e q → whole r ≡ true → vint_at s e q ≡ Value (value_of r) (next_of q r)
-  told q (Value y m) f w = sym f
-  told q Broken f w = absurd (true≢false (sym w))
+  told : (q : ℕ) (r : Option (ℕ × ℕ)) → r ≡ vint_at s e q → whole r ≡ true → vint_at s e q ≡ Some (value_of r, next_of q r)
+  told q (Some (y, m)) f w = sym f
+  told q None f w = absurd (true≢false (sym w))
 
-  one_at : (k : ℕ) → vint_whole s e p k ≡ true → vint_at s e (vint_place s e p k) ≡ Value (vint_value s e p k) (vint_place s e p (suc k))
+  one_at : (k : ℕ) → vint_whole s e p k ≡ true → vint_at s e (vint_place s e p k) ≡ Some (vint_value s e p k, vint_place s e p (suc k))
   unfolding vint_place vint_value vint_whole
   one_at k w = told (vint_place s e p k) (vint_at s e (vint_place s e p k)) refl w
 
-  fits : (q v next : ℕ) → vint_at s e q ≡ Value v next → v < 4294967296
+  fits : (q v next : ℕ) → vint_at s e q ≡ Some (v, next) → v < 4294967296
   unfolding vint_at
   fits q v next t = (uncapped s e (vint_from 5 s e q) t).1
 
   -- the shortest of a number is one of its VInts
-  itself : (v : ℕ) → v < 4294967296 → vint_at (short_vint v) (vint_length v) 0 ≡ Value v (vint_length v)
+  itself : (v : ℕ) → v < 4294967296 → vint_at (short_vint v) (vint_length v) 0 ≡ Some (v, vint_length v)
   itself v h =
       vint-back (short_vint v) (vint_length v) 0 v h (omega arith)
       (record { at = λ k _. ap (λ (z : ℕ). get_or (short_vint v) z 0) (zero-add k) })
-      ∙ ap (Value v) (zero-add (vint_length v))
+      ∙ ap (λ (y : ℕ). Some (v, y)) (zero-add (vint_length v))
 
   -- so each has its length, and they are the row of their values
   module _ (n : ℕ) (all : every n (vint_whole s e p) ≡ true) (least : Shortest s e p n) where

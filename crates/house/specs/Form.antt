@@ -1,10 +1,9 @@
 -- The house form, as a predicate on the bytes of a file, from the words of 02's order 1: "skip kind 0, strict blocks, least widths, shortest
 -- VInts. A block's pair is that of its highest unstepped score, the lowest document among equals, with frequencies above 254 coded 255."
-use Rattle.std.specs.Prelude.{◌≡◌, true, false, List, ℕ, suc, ◌+◌, ◌^◌, ◌≤◌, ◌<◌, get_or}
+use Rattle.std.specs.Prelude.{◌≡◌, true, false, List, ℕ, suc, ◌+◌, ◌^◌, ◌≤◌, ◌<◌, get_or, Some}
 use Rattle.std.specs.Float.Ieee.{lt}
 use Rattle.codec.specs.VInt.{vint_at}
 use Rattle.codec.specs.VInts.{vint_place, vint_value}
-use Rattle.codec.specs.declared.vint.VInt.TheVariants.{Value}
 use Rattle.bm25_pair.specs.Pair.{freq_code}
 use Rattle.notefile.specs.Header.{list_count, norm_code_of}
 use Rattle.notefile.specs.Parts.{skip_kind, part_of}
@@ -21,7 +20,7 @@ pub record Least (w : ℕ) (v : ℕ → ℕ) : Type 0 where
 abbrev pub Shortest : List ℕ → ℕ → ℕ → ℕ → Type 0
 Shortest file e p n =
     (k : ℕ) → k < n → (s : List ℕ) → ((i : ℕ) → get_or s i 0 < 256) → (end q next : ℕ)
-    → vint_at s end q ≡ Value (vint_value file e p k) next → vint_place file e p (suc k) + q ≤ next + vint_place file e p k
+    → vint_at s end q ≡ Some (vint_value file e p k, next) → vint_place file e p (suc k) + q ≤ next + vint_place file e p k
 
 module _ (file : List ℕ) (x : Part) where
   -- the pair of block b is that of posting m: no score of the block is higher, and earlier ones are lower

@@ -32,7 +32,7 @@ use Rattle.term_scorer.specs.Inner.Slots.{Held, SlotIn, cursor_at, list_at, part
 use Rattle.term_scorer.specs.Inner.Weights.{BlockScores}
 use Rattle.intersection_candidate.specs.Inner.Candidates.{BlockRows, Finds, candidates_left, left_in}
 use Rattle.intersection_candidate.specs.declared.leader.Candidates.{Candidates}
-use Rattle.intersection_candidate.specs.declared.leader.Next.TheVariants.{At, Nowhere}
+use Rattle.std.specs.Prelude.{Some, None}
 
 -- the leader's block, with its place in the list
 module _ (scoring : Scoring) {file : List ℕ} {lists : List (List ℕ)} {h : Held} {q : ℕ} (S : SlotIn file lists h q) where
@@ -165,7 +165,7 @@ module _ (l : Postings Float) (b : ℕ) (c : Candidates) where
   pub begun : c.next ≤ 128 → Finding c.next
   begun k = record { high = k; same = refl }
 
-  pub ends : {i : ℕ} → Finding i → candidates_left l b c.score_threshold c.window_end i ≡ [] → Finds l b c Nowhere
+  pub ends : {i : ℕ} → Finding i → candidates_left l b c.score_threshold c.window_end i ≡ [] → Finds l b c None
   ends F z = record { finds = F.same ∙ z }
 
 module _ {l : Postings Float} {b : ℕ} {docs : List ℕ} {scores : List Float} (R : BlockRows l b docs scores) (c : Candidates) {i : ℕ} (F : Finding l b c i) (hi : i < 128)
@@ -173,7 +173,7 @@ module _ {l : Postings Float} {b : ℕ} {docs : List ℕ} {scores : List Float} 
   pub skips : f32.above score c.score_threshold ≡ false → Finding l b c (i + 1)
   skips a = record { high = omega arith; same = F.same ∙ leaves-out R c.window_end c.score_threshold i hi ed k n es a }
 
-  pub hits : f32.above score c.score_threshold ≡ true → Finds l b c (At (i + 1) (record { doc = doc; score = score }))
+  pub hits : f32.above score c.score_threshold ≡ true → Finds l b c (Some (i + 1, record { doc = doc; score = score }))
   hits a = record {
     finds = (F.same ∙ takes R c.window_end c.score_threshold i hi ed k n es a, omega arith, doc-small R c.window_end c.score_threshold i hi ed k n);
   }

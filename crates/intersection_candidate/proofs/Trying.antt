@@ -23,8 +23,8 @@ use Rattle.skip_reader.specs.Inner.Decoded.{doc-is, doc_in}
 use Rattle.term_scorer.specs.Inner.Slots.{Held, MovedSlot, SameRows, cursor_at, list_at, part_at}
 use Rattle.intersection_order.specs.Inner.Scorers.{InOrder, Query, SlotsIn, StillKept, scorer_at, scorers_between, secondaries_in, slot_at, Rests}
 use Rattle.intersection_candidate.specs.Inner.Candidates.{Tries, candidate_of}
-use Rattle.intersection_candidate.specs.declared.candidate.Candidate.{Candidate}
-use Rattle.intersection_candidate.specs.declared.candidate.Candidate.TheVariants.{Due, Passed}
+use Rattle.std.specs.Prelude.{Some, None}
+use Rattle.std.specs.Prelude as prelude
 use Rattle.intersection_order.proofs.Parts.{part-first, part-last, part_none, part-split}
 use Rattle.intersection_order.proofs.Seats.{leader-stays, moved-only, others-stay, scorer-is, still_kept, still-seated, unmoved, unmoved-trans}
 
@@ -98,7 +98,7 @@ module _ (x : Query) (c : ℕ) (score t : Float) (rests : List Float) (h₀ : He
     module _ {i : ℕ} {total : Float} {h : Held} (T : Trying i total h) where
       -- what is left has answered: the secondaries before place i are those of h still
       answers : {h' : Held} → SlotsIn x h' → SameRows h h' (slot_at x 0) → StillKept x h.places h'.places
-          → scorers_between x h'.places 1 i ≡ scorers_between x h.places 1 i → {r : Candidate} (o : Option Float) → r ≡ candidate_of t o
+          → scorers_between x h'.places 1 i ≡ scorers_between x h.places 1 i → {r : prelude.Option Float} (o : Option Float) → r ≡ candidate_of t o
           → ((bs : List Float) → Rests x.len bs rests → left i total h bs ≡ record { secs = scorers_between x h'.places i x.len; found = o }) → Tries x c score t rests h₀ h' r
       answers {h'} S u k p {r} o e a = record {
         seated = S;
@@ -113,16 +113,16 @@ module _ (x : Query) (c : ℕ) (score t : Float) (rests : List Float) (h₀ : He
 
       -- all secondaries have it
       module _ (end : x.len ≤ i) where
-        all_have : {r : Candidate} → r ≡ candidate_of t (some total) → Tries x c score t rests h₀ h r
+        all_have : {r : prelude.Option Float} → r ≡ candidate_of t (some total) → Tries x c score t rests h₀ h r
         all_have e =
             let nothing = part_none x.order (scorer_at x h.places) i x.len end in
             answers T.seated (unmoved (slot_at x 0) h) (λ bounds B. B) refl (some total) e
             (λ bs s. rw nothing)
 
-        pub due : f32.above total t ≡ true → Tries x c score t rests h₀ h (Due total)
+        pub due : f32.above total t ≡ true → Tries x c score t rests h₀ h (Some total)
         due b = all_have (rw b)
 
-        pub not-above : f32.above total t ≡ false → Tries x c score t rests h₀ h Passed
+        pub not-above : f32.above total t ≡ false → Tries x c score t rests h₀ h None
         not-above b = all_have (rw b)
 
       module _ (hi : i < x.len) where
@@ -175,11 +175,11 @@ module _ (x : Query) (c : ℕ) (score t : Float) (rests : List Float) (h₀ : He
               ∙ ap (λ (z : Scorer Float). z ∷ rest) sought-is
 
           drops : ((bs : List Float) → Rests x.len bs rests → try_candidate 128 f32 c t total (s ∷ rest) (drop i (f32.nil ∷ bs)) ≡ dropped (seek 128 c s ∷ rest))
-              → Tries x c score t rests h₀ h' Passed
+              → Tries x c score t rests h₀ h' None
           drops a =
               answers seated-there leader-there (still_kept x T.seated hq M) front-stays none refl (λ bs k. left_is bs ∙ a bs k ∙ ap dropped (sym there))
 
-          pub missed : (sought ≡ c → ⊥) → Tries x c score t rests h₀ h' Passed
+          pub missed : (sought ≡ c → ⊥) → Tries x c score t rests h₀ h' None
           missed n = drops (λ bs _. try-missed c t total s rest (drop i (f32.nil ∷ bs)) (ap (λ (z : ℕ). eqb z c) doc-there ∙ ne_eqb sought c n))
 
           module _ (e : sought ≡ c) {v : Float} (ev : v ≡ (list_at x.scoring x.file x.lists q).score (cursor_at h'.places q).at) where
@@ -199,7 +199,7 @@ module _ (x : Query) (c : ℕ) (score t : Float) (rests : List Float) (h₀ : He
                 ap (λ (z : Float). f32.above (f32.add (f32.add total z) (sum_back f32 (tail_of (drop i (f32.nil ∷ bs))))) t) score-is
                 ∙ ap (λ (z : Float). f32.above (f32.add (f32.add total v) z) t) (bound-is bs k)
 
-            pub too-low : f32.above (f32.add (f32.add total v) (get_or rests i nan)) t ≡ false → Tries x c score t rests h₀ h' Passed
+            pub too-low : f32.above (f32.add (f32.add total v) (get_or rests i nan)) t ≡ false → Tries x c score t rests h₀ h' None
             too-low b = drops (λ bs k. try-low c t total s rest (drop i (f32.nil ∷ bs)) on (test-is bs k ∙ b))
 
             pub goes_on : f32.above (f32.add (f32.add total v) (get_or rests i nan)) t ≡ true → Trying (i + 1) (f32.add total v) h'

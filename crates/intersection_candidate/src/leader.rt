@@ -14,35 +14,30 @@ pub struct Candidates {
     pub score_threshold: f32,
 }
 
-// The first of them, with the place behind it; or none is left.
-#[derive(Clone, Copy)]
-pub enum Next {
-    At(usize, Posting),
-    Nowhere,
-}
-
 // On to the first candidate: the leader's score has to be above score_threshold. Both rows are of its block, by place.
-pub fn next_candidate(left: Candidates, docs: &[u32; 128], scores: &[f32; 128]) -> Next
+// The place behind it, and the candidate; or none is left.
+pub fn next_candidate(
+    left: Candidates,
+    docs: &[u32; 128],
+    scores: &[f32; 128],
+) -> Option<(usize, Posting)>
     requires { left.next ≤ 128 }
     ensures { (l : Postings Float) (b : ℕ) → BlockRows l b docs.now scores.now → Finds l b left result }
 {
     let window_end = left.window_end;
     let score_threshold = left.score_threshold;
-    let mut i = left.next;
-    while i < 128 {
+    for i in left.next..128 {
         let doc = docs[i];
         if doc > window_end {
-            return Next::Nowhere;
+            return None;
         }
         if doc == TERMINATED {
-            return Next::Nowhere;
+            return None;
         }
         let score = scores[i];
-        i += 1;
         if score > score_threshold {
-            let candidate = Posting { doc, score };
-            return Next::At(i, candidate);
+            return Some((i + 1, Posting { doc, score }));
         }
     }
-    Next::Nowhere
+    None
 }

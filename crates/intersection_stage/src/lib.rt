@@ -7,8 +7,9 @@ ghost use Rattle.intersection_candidate.specs.Inner.Candidates.{behind};
 ghost use Rattle.intersection_stage.specs.Inner.Steps.{behind_candidate, over_in, quietly};
 ghost use Rattle.intersection_stage.specs.declared.Stage.TheVariants.{Over, Within};
 
-use intersection_candidate::candidate::{Candidate, Posting};
+use intersection_candidate::candidate::Posting;
 use intersection_candidate::leader::Candidates;
+use reports::Step;
 
 // At the early exit; at `while doc < TERMINATED`; at the candidates left of a window; behind a call of the callback; returned.
 #[derive(Clone, Copy)]
@@ -29,47 +30,20 @@ pub struct Intersection {
     pub stage: Stage,
 }
 
-// A report is due, its document and its score; or none.
-#[derive(Clone, Copy)]
-pub enum Due {
-    Report(u32, f32),
-    Nothing,
-}
-
-// Where a run stands behind a turn, and the turn's report.
-#[derive(Clone, Copy)]
-pub struct Turned {
-    pub intersection: Intersection,
-    pub due: Due,
-}
-
 // Whether the run has returned.
 pub fn is_over(v: Intersection) -> bool
     ensures { result ≡ over_in v.stage }
 {
-    let stage = v.stage;
-    match stage {
-        Stage::Over => true,
-        Stage::Early => false,
-        Stage::Window => false,
-        Stage::Within(_) => false,
-        Stage::Called(_) => false,
-    }
+    matches!(v.stage, Stage::Over)
 }
 
 // A turn without a report.
-pub fn quiet(v: Intersection, doc: u32, stage: Stage) -> Turned
+pub fn quiet(v: Intersection, doc: u32, stage: Stage) -> Step<Intersection>
     ensures { result ≡ quietly v doc stage }
 {
-    let intersection = Intersection {
-        len: v.len,
-        doc,
-        max_sum: v.max_sum,
-        stage,
-    };
-    Turned {
-        intersection,
-        due: Due::Nothing,
+    Step {
+        to: Intersection { doc, stage, ..v },
+        due: None,
     }
 }
 
@@ -86,7 +60,7 @@ pub fn within(next: usize, window_end: u32, score_threshold: f32) -> Stage
 }
 
 // The two exits: on to the stage where a document can still exceed the threshold, else over.
-pub fn exit(v: Intersection, threshold: f32, stage: Stage) -> Turned
+pub fn exit(v: Intersection, threshold: f32, stage: Stage) -> Step<Intersection>
     ensures { result ≡ quietly v v.doc (cond (f32.above v.max_sum threshold) stage Over) }
 {
     if v.max_sum > threshold {
@@ -101,27 +75,17 @@ pub fn after_candidate(
     left: Candidates,
     next: usize,
     candidate: Posting,
-    tried: Candidate,
-) -> Turned
+    tried: Option<f32>,
+) -> Step<Intersection>
     ensures { result ≡ behind_candidate v (behind left next) candidate tried }
 {
-    let rest = Candidates {
-        next,
-        window_end: left.window_end,
-        score_threshold: left.score_threshold,
+    let rest = Candidates { next, ..left };
+    let Some(score) = tried else {
+        return quiet(v, v.doc, Stage::Within(rest));
     };
-    match tried {
-        Candidate::Passed => quiet(v, v.doc, Stage::Within(rest)),
-        Candidate::Due(score) => {
-            let stage = Stage::Called(rest);
-            let intersection = Intersection {
-                len: v.len,
-                doc: v.doc,
-                max_sum: v.max_sum,
-                stage,
-            };
-            let due = Due::Report(candidate.doc, score);
-            Turned { intersection, due }
-        }
+    let stage = Stage::Called(rest);
+    Step {
+        to: Intersection { stage, ..v },
+        due: Some((candidate.doc, score)),
     }
 }

@@ -2,6 +2,8 @@
 use mathlib.Core.Bool.{cond}
 use mathlib.Core.List.{List, [], ◌∷◌, map}
 use mathlib.Core.Option.{Option, none, some}
+use Rattle.std.specs.Prelude.{Some, None}
+use Rattle.std.specs.Prelude as prelude
 use mathlib.Core.Path.{ap, refl, subst, sym, ◌∙◌, ◌≡◌}
 use Prim.Native.Nat.{ℕ, ◌+◌, ◌<◌, ◌≤◌}
 use native.Mathlib.Numerals.{add-one}
@@ -30,12 +32,8 @@ use Rattle.slot_scores.proofs.Made.{made-cursor, made_kept, made-scores, made-sl
 use Rattle.intersection_order.specs.Inner.Scorers.{BoundsKept, Query, Ready, ScoredIn, leader_in, list_in, place_at, scorer_at, secondaries_in, slot_at, Rests}
 use Rattle.intersection_candidate.specs.Inner.Candidates.{BlockRows, Finds, FindsBy, Tries, behind, candidate_of, left_in}
 use Rattle.intersection_window.specs.Inner.Windows.{Sums, Turns, Windowed, bounds_of, bounds_row, rests_row, scores_row}
-use Rattle.intersection_candidate.specs.declared.candidate.Candidate.{Candidate}
-use Rattle.intersection_candidate.specs.declared.candidate.Candidate.TheVariants.{Due as DueWith, Passed}
 use Rattle.intersection_candidate.specs.declared.candidate.Posting.{Posting}
 use Rattle.intersection_candidate.specs.declared.leader.Candidates.{Candidates}
-use Rattle.intersection_candidate.specs.declared.leader.Next.{Next}
-use Rattle.intersection_candidate.specs.declared.leader.Next.TheVariants.{At, Nowhere}
 use Rattle.intersection_window.specs.declared.window.Window.{Window as Answer}
 use Rattle.intersection_window.specs.declared.window.Window.TheVariants.{Low, Open as Opened, Over as RunOut}
 use Rattle.intersection_window.proofs.Gathering.{map-map}
@@ -47,8 +45,7 @@ use Rattle.intersection_turn.specs.Inner.Turns.{TakesTurn, inter_turn}
 use Rattle.intersection_stage.specs.declared.Intersection.{Intersection}
 use Rattle.intersection_stage.specs.declared.Stage.{Stage}
 use Rattle.intersection_stage.specs.declared.Stage.TheVariants.{Called, Early, Over, Window, Within}
-use Rattle.intersection_stage.specs.declared.Due.TheVariants.{Report as Reports}
-use Rattle.intersection_stage.specs.declared.Turned.{Turned}
+use Rattle.reports.specs.declared.Step.{Step}
 
 map_same : {A B : Type 0} (f g : A → B) → ((a : A) → f a ≡ g a) → (l : List A) → map f l ≡ map g l
 map_same f g e [] = refl
@@ -60,20 +57,20 @@ max-is x places = ap (λ (z : List Float). f32.add (list_in x (slot_at x 0)).top
 
 -- the route's turn at a candidate, by the answer
 module _ (t : Float) (c : ℕ) (cs : List (Report Float)) (e : ℕ) (bs : List Float) (d : ℕ) (ld : Scorer Float) (ss : List (Scorer Float)) (ls : List Load) where
-  turn-passed : (o : Option Float) → Passed ≡ candidate_of t o
+  turn-passed : (o : Option Float) → None ≡ candidate_of t o
       → ((found_turn 128 f32 t o c cs e bs d ld ss ls).next ≡ record { stage = within cs e bs; doc = d; leader = ld; secs = ss }) × ((found_turn 128 f32 t o c cs e bs d ld ss ls).due ≡ none)
   turn-passed none q = (refl, refl)
   turn-passed (some v) q =
-      on_test (f32.above v t) (λ b. let z : Passed ≡ DueWith v = rw b at q in absurd (let w : ◌≡◌ {A = ℕ} 0 1 = cc in omega arith)) (λ b. (rw b, rw b))
+      on_test (f32.above v t) (λ b. let z : None ≡ Some v = rw b at q in absurd (let w : ◌≡◌ {A = ℕ} 0 1 = cc in omega arith)) (λ b. (rw b, rw b))
 
-  turn-due : (v : Float) (o : Option Float) → DueWith v ≡ candidate_of t o
+  turn-due : (v : Float) (o : Option Float) → Some v ≡ candidate_of t o
       → ((found_turn 128 f32 t o c cs e bs d ld ss ls).next ≡ record { stage = called cs e bs; doc = d; leader = ld; secs = ss })
       × ((found_turn 128 f32 t o c cs e bs d ld ss ls).due ≡ some (record { doc = c; score = v }))
   turn-due v none q = absurd (let w : ◌≡◌ {A = ℕ} 0 1 = cc in omega arith)
   turn-due v (some w) q =
       on_test (f32.above w t)
-      (λ b. let z : DueWith v ≡ DueWith w = rw b at q in let k : v ≡ w = cc in (rw b, rw (b, k)))
-      (λ b. let z : DueWith v ≡ Passed = rw b at q in absurd (let n : ◌≡◌ {A = ℕ} 0 1 = cc in omega arith))
+      (λ b. let z : Some v ≡ Some w = rw b at q in let k : v ≡ w = cc in (rw b, rw (b, k)))
+      (λ b. let z : Some v ≡ None = rw b at q in absurd (let n : ◌≡◌ {A = ℕ} 0 1 = cc in omega arith))
 
 module _ (x : Query) (t : Float) {v : Intersection} {h : Held} {floats : List (List Float)} (S : Stands x v h floats) where
   -- the place at a stage
@@ -84,7 +81,7 @@ module _ (x : Query) (t : Float) {v : Intersection} {h : Held} {floats : List (L
   stands_at : (d : ℕ) (stage : Stage) → StageKept x h.places floats stage → Stands x (moved_to v d stage) h floats
   stands_at d stage k = record { order = S.order; ready = S.ready; rows = S.rows; scores = S.scores; len_is = S.len_is; max-is = S.max-is; stage = k }
 
-  abbrev Taken : Turned → Type 0
+  abbrev Taken : Step Intersection → Type 0
   Taken r = TakesTurn x t v h floats r h floats
 
   -- ---- the exits
@@ -102,16 +99,16 @@ module _ (x : Query) (t : Float) {v : Intersection} {h : Held} {floats : List (L
         (λ b. let a = test-is ∙ b in rw b (record { stands = stands_at v.doc to k; next-is = n ∙ rw a; due-is = u }))
         (λ b. let a = test-is ∙ b in rw b (record { stands = stands_at v.doc Over tt; next-is = n ∙ rw a; due-is = u }))
 
-  pub exits-early : v.stage ≡ Early → {r : Turned} → r ≡ quietly v v.doc (cond (f32.above v.max_sum t) Window Over) → Taken r
+  pub exits-early : v.stage ≡ Early → {r : Step Intersection} → r ≡ quietly v v.doc (cond (f32.above v.max_sum t) Window Over) → Taken r
   exits-early e er =
       subst Taken (sym er) (exits Window tt (ap (λ (s : Stage). (inter_turn t (at s)).next) e) (ap (λ (s : Stage). (inter_turn t (at s)).due) e))
 
-  pub exits-called : (c : Candidates) → v.stage ≡ Called c → {r : Turned} → r ≡ quietly v v.doc (cond (f32.above v.max_sum t) (Within c) Over) → Taken r
+  pub exits-called : (c : Candidates) → v.stage ≡ Called c → {r : Step Intersection} → r ≡ quietly v v.doc (cond (f32.above v.max_sum t) (Within c) Over) → Taken r
   exits-called c e er =
       subst Taken (sym er)
       (exits (Within c) (subst (StageKept x h.places floats) e S.stage) (ap (λ (s : Stage). (inter_turn t (at s)).next) e) (ap (λ (s : Stage). (inter_turn t (at s)).due) e))
 
-  pub stays-over : v.stage ≡ Over → {r : Turned} → r ≡ quietly v v.doc Over → Taken r
+  pub stays-over : v.stage ≡ Over → {r : Step Intersection} → r ≡ quietly v v.doc Over → Taken r
   stays-over e er =
       subst Taken (sym er)
       (record { stands = stands_at v.doc Over tt; next-is = ap (λ (s : Stage). (inter_turn t (at s)).next) e; due-is = ap (λ (s : Stage). (inter_turn t (at s)).due) e })
@@ -128,7 +125,7 @@ module _ (x : Query) (t : Float) {v : Intersection} {h : Held} {floats : List (L
     no-report : (inter_turn t (at v.stage)).due ≡ none
     no-report = ap (λ (s : Stage). (inter_turn t (at s)).due) w
 
-    pub ends-windows : 2147483647 ≤ v.doc → {r : Turned} → r ≡ quietly v v.doc Over → Taken r
+    pub ends-windows : 2147483647 ≤ v.doc → {r : Step Intersection} → r ≡ quietly v v.doc Over → Taken r
     ends-windows k er =
         let l = le-ltb v.doc TERMINATED k in
         subst Taken (sym er) (record { stands = stands_at v.doc Over tt; next-is = turns-to (rw l); due-is = no-report })
@@ -161,17 +158,17 @@ module _ (x : Query) (t : Float) {v : Intersection} {h : Held} {floats : List (L
         stage = k;
       }
 
-      pub window-over : a ≡ RunOut → {r : Turned} → r ≡ quietly v v.doc Over → TakesTurn x t v h floats r h' floats₁
+      pub window-over : a ≡ RunOut → {r : Step Intersection} → r ≡ quietly v v.doc Over → TakesTurn x t v h floats r h' floats₁
       window-over e er =
-          subst (λ (z : Turned). TakesTurn x t v h floats z h' floats₁) (sym er)
+          subst (λ (z : Step Intersection). TakesTurn x t v h floats z h' floats₁) (sym er)
           (record { stands = stands-there v.doc Over tt; next-is = turns-to (subst By e T.turned); due-is = no-report })
 
       pub low_end : {end : ℕ} → a ≡ Low end → end ≤ 2147483647
       low_end e = (subst By e T.turned).1
 
-      pub window-low : {end : ℕ} → a ≡ Low end → {r : Turned} → r ≡ quietly v (end + 1) Window → TakesTurn x t v h floats r h' floats₁
+      pub window-low : {end : ℕ} → a ≡ Low end → {r : Step Intersection} → r ≡ quietly v (end + 1) Window → TakesTurn x t v h floats r h' floats₁
       window-low {end} e er =
-          subst (λ (z : Turned). TakesTurn x t v h floats z h' floats₁) (sym er)
+          subst (λ (z : Step Intersection). TakesTurn x t v h floats z h' floats₁) (sym er)
           (record { stands = stands-there (end + 1) Window tt; next-is = turns-to (rw add-one (subst By e T.turned).0); due-is = no-report })
 
       -- the leader's scores are made, and the bounds that follow are summed
@@ -244,9 +241,9 @@ module _ (x : Query) (t : Float) {v : Intersection} {h : Held} {floats : List (L
           rests = subst (λ (z : List Float). Rests x.len (bounds_of x z) (rests_row floats₃)) (sym U.bounds) U.rests;
         }
 
-        pub window-open : {r : Turned} → r ≡ quietly v v.doc (Within left) → TakesTurn x t v h floats r h₂ floats₃
+        pub window-open : {r : Step Intersection} → r ≡ quietly v v.doc (Within left) → TakesTurn x t v h floats r h₂ floats₃
         window-open er =
-            subst (λ (z : Turned). TakesTurn x t v h floats z h₂ floats₃) (sym er)
+            subst (λ (z : Step Intersection). TakesTurn x t v h floats z h₂ floats₃) (sym er)
             (record {
               stands = stands-open (scored-then, open-there);
               next-is =
@@ -288,8 +285,8 @@ module _ (x : Query) (t : Float) {v : Intersection} {h : Held} {floats : List (L
     abbrev before : List (Report Float) → InterPlace Float
     before cs = place_at x h.places (within cs c.window_end bs) v.doc
 
-    module _ {a : Next} (F : Finds l b c a) where
-      pub window-ends : a ≡ Nowhere → {r : Turned} → r ≡ quietly v (c.window_end + 1) Window → Taken r
+    module _ {a : prelude.Option (ℕ × Posting)} (F : Finds l b c a) where
+      pub window-ends : a ≡ None → {r : Step Intersection} → r ≡ quietly v (c.window_end + 1) Window → Taken r
       window-ends e er =
           let z : left_in l b c ≡ [] = subst (FindsBy l b c) e F.finds in
           subst Taken (sym er)
@@ -299,14 +296,14 @@ module _ (x : Query) (t : Float) {v : Intersection} {h : Held} {floats : List (L
             due-is = ap (λ (s : Stage). (inter_turn t (at s)).due) w ∙ ap (λ (cs : List (Report Float)). (inter_turn t (before cs)).due) z;
           })
 
-      module _ {i : ℕ} {p : Posting} (e : a ≡ At i p) where
-        pub found : FindsBy l b c (At i p)
+      module _ {i : ℕ} {p : Posting} (e : a ≡ Some (i, p)) where
+        pub found : FindsBy l b c (Some (i, p))
         found = subst (FindsBy l b c) e F.finds
 
         abbrev rest : Candidates
         rest = behind c i
 
-        module _ {h' : Held} {k : Candidate} (T : Tries x p.doc p.score t (rests_row floats) h h' k) where
+        module _ {h' : Held} {k : prelude.Option Float} (T : Tries x p.doc p.score t (rests_row floats) h h' k) where
           abbrev X : Tried Float
           X = try_candidate 128 f32 p.doc t p.score (secondaries_in x h.places) bs
 
@@ -347,20 +344,20 @@ module _ (x : Query) (t : Float) {v : Intersection} {h : Held} {floats : List (L
             stage = o;
           }
 
-          candidate-passed : Passed ≡ candidate_of t X.found → TakesTurn x t v h floats (quietly v v.doc (Within rest)) h' floats
+          candidate-passed : None ≡ candidate_of t X.found → TakesTurn x t v h floats (quietly v v.doc (Within rest)) h' floats
           candidate-passed o =
               let z = turn-passed t p.doc (left_in l b rest) c.window_end bs v.doc (leader_in x h.places) X.secs ls X.found o in
               record { stands = stands-then (Within rest) still_open; next-is = next-by ∙ z.0 ∙ moved_on (λ cs. within cs c.window_end bs); due-is = due-by ∙ z.1 }
 
-          candidate-due : (s : Float) → DueWith s ≡ candidate_of t X.found
-              → TakesTurn x t v h floats (record { intersection = moved_to v v.doc (Called rest); due = Reports p.doc s }) h' floats
+          candidate-due : (s : Float) → Some s ≡ candidate_of t X.found
+              → TakesTurn x t v h floats (record { to = moved_to v v.doc (Called rest); due = Some (p.doc, s) }) h' floats
           candidate-due s o =
               let z = turn-due t p.doc (left_in l b rest) c.window_end bs v.doc (leader_in x h.places) X.secs ls s X.found o in
               record { stands = stands-then (Called rest) still_open; next-is = next-by ∙ z.0 ∙ moved_on (λ cs. called cs c.window_end bs); due-is = due-by ∙ z.1 }
 
-        candidate-turn : {h' : Held} (k : Candidate) → Tries x p.doc p.score t (rests_row floats) h h' k → TakesTurn x t v h floats (behind_candidate v rest p k) h' floats
-        candidate-turn Passed T = candidate-passed T (T.answer-is bs opened.rests)
-        candidate-turn (DueWith s) T = candidate-due T s (T.answer-is bs opened.rests)
+        candidate-turn : {h' : Held} (k : prelude.Option Float) → Tries x p.doc p.score t (rests_row floats) h h' k → TakesTurn x t v h floats (behind_candidate v rest p k) h' floats
+        candidate-turn None T = candidate-passed T (T.answer-is bs opened.rests)
+        candidate-turn (Some s) T = candidate-due T s (T.answer-is bs opened.rests)
 
-        pub tried : {h' : Held} (k : Candidate) → Tries x p.doc p.score t (rests_row floats) h h' k → {r : Turned} → r ≡ behind_candidate v rest p k → TakesTurn x t v h floats r h' floats
-        tried {h'} k T er = subst (λ (z : Turned). TakesTurn x t v h floats z h' floats) (sym er) (candidate-turn k T)
+        pub tried : {h' : Held} (k : prelude.Option Float) → Tries x p.doc p.score t (rests_row floats) h h' k → {r : Step Intersection} → r ≡ behind_candidate v rest p k → TakesTurn x t v h floats r h' floats
+        tried {h'} k T er = subst (λ (z : Step Intersection). TakesTurn x t v h floats z h' floats) (sym er) (candidate-turn k T)

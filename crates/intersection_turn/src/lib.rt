@@ -9,10 +9,11 @@ ghost use Rattle.intersection_turn.specs.Inner.Turns.{TakesTurn};
 
 use block_search::count_below;
 use intersection_candidate::candidate::try_candidate;
-use intersection_candidate::leader::{Candidates, Next, next_candidate};
-use intersection_stage::{Intersection, Stage, Turned, after_candidate, exit, quiet, within};
+use intersection_candidate::leader::{Candidates, next_candidate};
+use intersection_stage::{Intersection, Stage, after_candidate, exit, quiet, within};
 use intersection_window::window::{Window, next_window, sum_rests};
 use notefile::block::{DOCS, TERMINATED};
+use reports::Step;
 use slot_rows::place::{Blocks, Places};
 use slot_scores::keep_scores;
 use term_scorer::score::Leg;
@@ -29,7 +30,7 @@ fn window_turn(
     places: &mut Places,
     blocks: &mut Blocks,
     floats: &mut Floats,
-) -> Turned
+) -> Step<Intersection>
     requires { let asked = query leg.similarity file.now lists.now norms.now v.len order.now in
         Stands asked v (held places.old blocks.old) floats.old × AtWindow v × (v.doc < 2147483647) }
     ensures { let asked = query leg.similarity file.now lists.now norms.now v.len order.now in
@@ -76,7 +77,7 @@ fn within_turn(
     places: &mut Places,
     blocks: &mut Blocks,
     floats: &Floats,
-) -> Turned
+) -> Step<Intersection>
     requires { let asked = query leg.similarity file.now lists.now norms.now v.len order.now in
         Stands asked v (held places.old blocks.old) floats.now × AtCandidates v left }
     ensures { let asked = query leg.similarity file.now lists.now norms.now v.len order.now in
@@ -86,24 +87,22 @@ fn within_turn(
 {
     let leader = order[0];
     let found = next_candidate(left, &blocks[leader][DOCS], &floats[SCORES + leader]);
-    match found {
-        Next::Nowhere => quiet(v, left.window_end + 1, Stage::Window),
-        Next::At(next, candidate) => {
-            let tried = try_candidate(
-                file,
-                leg,
-                lists,
-                norms,
-                v.len,
-                order,
-                &floats[RESTS],
-                candidate,
-                places,
-                blocks,
-            );
-            after_candidate(v, left, next, candidate, tried)
-        }
-    }
+    let Some((next, candidate)) = found else {
+        return quiet(v, left.window_end + 1, Stage::Window);
+    };
+    let tried = try_candidate(
+        file,
+        leg,
+        lists,
+        norms,
+        v.len,
+        order,
+        &floats[RESTS],
+        candidate,
+        places,
+        blocks,
+    );
+    after_candidate(v, left, next, candidate, tried)
 }
 
 // One turn.
@@ -117,7 +116,7 @@ pub fn turn(
     places: &mut Places,
     blocks: &mut Blocks,
     floats: &mut Floats,
-) -> Turned
+) -> Step<Intersection>
     requires { let asked = query leg.similarity file.now lists.now norms.now v.len order.now in
         Stands asked v (held places.old blocks.old) floats.old }
     ensures { let asked = query leg.similarity file.now lists.now norms.now v.len order.now in
@@ -125,8 +124,7 @@ pub fn turn(
         let new = held places.new blocks.new in
         TakesTurn asked leg.threshold v old floats.old result new floats.new }
 {
-    let stage = v.stage;
-    match stage {
+    match v.stage {
         Stage::Early => exit(v, leg.threshold, Stage::Window),
         Stage::Window => {
             if v.doc >= TERMINATED {

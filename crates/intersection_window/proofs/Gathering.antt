@@ -1,5 +1,5 @@
 -- `gather`'s loop: the skip readers before place i have gone on, and those from it on stand where they stood.
-use mathlib.Core.Bool.{Bool, false, true, true≢false}
+use mathlib.Core.Bool.{Bool, false, true}
 use mathlib.Core.List.{List, map, [], ◌∷◌}
 use mathlib.Core.Logic.{inl, inr}
 use mathlib.Core.Path.{ap, refl, sym, ◌∙◌, ◌≡◌}
@@ -24,6 +24,7 @@ use Rattle.slot_rows.specs.Inner.Rows.{cursor_in}
 use Rattle.term_scorer.specs.Inner.Slots.{Held, MovedSlot, Shallowed, cursor_at, held, last_at, list_at, part_at}
 use Rattle.slot_bounds.specs.Inner.Bounds.{Bounded}
 use Rattle.intersection_order.specs.Inner.Scorers.{BoundsKept, InOrder, Query, Ready, SlotsIn, list_in, scorer_at, scorers_between, secondaries_in, slot_at}
+use Rattle.std.specs.Prelude.{Some, None}
 use Rattle.intersection_window.specs.Inner.Windows.{Gathers, RunOut, bounds_of}
 use Rattle.intersection_order.proofs.Parts.{part-first, part_none, part_same}
 use Rattle.intersection_order.proofs.Seats.{last-here, moved-only, scorer-is, shallow-moves, still_kept, still-seated}
@@ -104,7 +105,7 @@ module _ (x : Query) (d leader_end : ℕ) (h₀ : Held) where
 
     module _ {i end : ℕ} {total : Float} {places : List (List ℕ)} {bounds : List Float} (G : Gathering i end total places bounds) where
       -- all have gone on
-      pub ended : x.len ≤ i → Gathers x d leader_end h₀ places bounds (record { remain = true; window_end = end; block_max_sum = total })
+      pub ended : x.len ≤ i → Gathers x d leader_end h₀ places bounds (Some (record { window_end = end; block_max_sum = total }))
       ended e =
           let at-end : i ≡ x.len = let g = G.high in omega arith in
           let same : secondaries_in x places ≡ map sought (slots 1) =
@@ -116,21 +117,22 @@ module _ (x : Query) (d leader_end : ℕ) (h₀ : Held) where
           let nl = part_none x.order sought_last i x.len e in
           let nb = part_none x.order sought_bound i x.len e in
           record {
-            remain-is = sym (G.remain ∙ rw nr);
-            gathered = λ _. record {
-              ready = G.ready;
-              leader = G.leader;
-              secs-are = same ∙ sym (map-map (seek_block 128 d) (scorer_at x h₀.places) (slots 1));
-              end_is = λ s es.
-                  sym (least-is s (secondaries_in x places) ∙ ap (λ (z : ℕ). least_of z (map (last_doc_in_block 128) (secondaries_in x places))) es
-                  ∙ ap (λ (z : List (Scorer Float)). least_of leader_end (map (last_doc_in_block 128) z)) same ∙ ap (least_of leader_end) (map-map (last_doc_in_block 128) sought (slots 1))
-                  ∙ G.ends ∙ rw nl);
-              bounds-are = bs;
-              sum_is =
-                  sym (ap (sum_from f32 f32.nil) (bs ∙ ap (map (block_max_score 128 f32)) same ∙ map-map (block_max_score 128 f32) sought (slots 1)) ∙ G.sums ∙ rw nb);
-              small = G.small;
-            };
-            run_out = λ f. absurd (true≢false f);
+            by = (
+              G.remain ∙ rw nr,
+              record {
+                ready = G.ready;
+                leader = G.leader;
+                secs-are = same ∙ sym (map-map (seek_block 128 d) (scorer_at x h₀.places) (slots 1));
+                end_is = λ s es.
+                    sym (least-is s (secondaries_in x places) ∙ ap (λ (z : ℕ). least_of z (map (last_doc_in_block 128) (secondaries_in x places))) es
+                    ∙ ap (λ (z : List (Scorer Float)). least_of leader_end (map (last_doc_in_block 128) z)) same ∙ ap (least_of leader_end) (map-map (last_doc_in_block 128) sought (slots 1))
+                    ∙ G.ends ∙ rw nl);
+                bounds-are = bs;
+                sum_is =
+                    sym (ap (sum_from f32 f32.nil) (bs ∙ ap (map (block_max_score 128 f32)) same ∙ map-map (block_max_score 128 f32) sought (slots 1)) ∙ G.sums ∙ rw nb);
+                small = G.small;
+              },
+            );
           }
 
       module _ (hi : i < x.len) where
@@ -203,10 +205,10 @@ module _ (x : Query) (d leader_end : ℕ) (h₀ : Held) where
                   let l = G.low in
                   record { ready = record { seated = seated-there; kept = kept_there; long = G.ready.long }; leader = row-there 0 O.leader (λ z. omega arith) ∙ G.leader; secs-are = from_place (i - 1) 1 (omega arith) (omega arith) }
 
-            pub runs-out : more ≡ false → Gathers x d leader_end h₀ places₁ bounds (record { remain = false; window_end = end; block_max_sum = total })
+            pub runs-out : more ≡ false → Gathers x d leader_end h₀ places₁ bounds None
             runs-out e =
                 let t = test-is ∙ e in
-                record { remain-is = sym (G.remain ∙ ap (all_remain 128 d) here ∙ rw t); gathered = λ f. absurd (true≢false (sym f)); run_out = λ _. ran_out t }
+                record { by = (G.remain ∙ ap (all_remain 128 d) here ∙ rw t, ran_out t) }
 
             module _ (e : more ≡ true) {last end' : ℕ} (el : last ≡ last_at places₁ q) (ee : end' ≡ min end last)
                 {places₂ : List (List ℕ)} {bounds₂ : List Float} {b : Float} (B : Bounded x.scoring x.file x.lists q places₁ bounds places₂ bounds₂ b) where

@@ -1,5 +1,5 @@
 -- `window` is one turn of the route: the leader's skip reader goes on, then the secondaries', and the bounds decide.
-use mathlib.Core.Bool.{Bool, false, not, true}
+use mathlib.Core.Bool.{false, true}
 use mathlib.Core.List.{List, map, [], ◌∷◌}
 use mathlib.Core.Path.{ap, refl, sym, ◌∙◌, ◌≡◌}
 use Prim.Native.Nat.{suc, ℕ, ◌<◌, ◌≤◌}
@@ -21,6 +21,7 @@ use Rattle.slot_rows.specs.Inner.Rows.{cursor_in, first_of}
 use Rattle.term_scorer.specs.Inner.Slots.{Held, MovedSlot, Shallowed, cursor_at, held, last_at, list_at, part_at}
 use Rattle.slot_bounds.specs.Inner.Bounds.{Bounded}
 use Rattle.intersection_order.specs.Inner.Scorers.{BoundsKept, InOrder, Query, Ready, SlotsIn, StillScored, leader_in, list_in, scorer_at, secondaries_in, slot_at}
+use Rattle.std.specs.Prelude.{Some, None}
 use Rattle.intersection_window.specs.Inner.Windows.{Gathered, Gathers, Turns, bounds_of}
 use Rattle.intersection_window.specs.declared.window.Secondaries.{Secondaries}
 use Rattle.intersection_window.specs.declared.window.Window.TheVariants.{Low, Open, Over}
@@ -33,10 +34,6 @@ all-sought d (s ∷ ss) e =
     on_test (has_remaining_docs 128 (seek_block 128 d s))
     (λ t. rw t (ap (λ (z : List (Scorer Float)). seek_block 128 d s ∷ z) (all-sought d ss (rw t at e))))
     (λ t. let z : false ≡ true = rw t at e in absurd (let w : ◌≡◌ {A = ℕ} 0 1 = cc in omega arith))
-
-not_back : (b c : Bool) → not b ≡ c → b ≡ not c
-not_back true c e = ap not e
-not_back false c e = ap not e
 
 -- the route's turn, by what its tests show
 module _ (t : Float) (d : ℕ) (ld : Scorer Float) (ss : List (Scorer Float)) (live : d < TERMINATED) where
@@ -104,34 +101,29 @@ module _ (x : Query) (O : InOrder x) (t : Float) (d : ℕ) (live : d < 214748364
           others-stay x O O.leader (known_only x O.few leader-seated hq B) 1 x.len (omega arith) (λ k u v e. omega arith)
           ∙ others-stay x O O.leader (moved-only x R.seated hq M) 1 x.len (omega arith) (λ k u v e. omega arith)
 
-      module _ {last : ℕ} (el : last ≡ last_at places₂ q) {places₃ : List (List ℕ)} {bounds₃ : List Float} {r : Secondaries}
-          (G : Gathers x d last (held places₂ h.blocks) places₃ bounds₃ r) where
-        leader-still : get_or places₃ q [] ≡ get_or places₂ q [] → leader_in x places₃ ≡ seek_block 128 d ld
-        leader-still e = ap (λ (row : List ℕ). record { ord = q; list = list_in x q; cur = cursor_in row }) e ∙ leader-there
+      leader-still : (places₃ : List (List ℕ)) → get_or places₃ q [] ≡ get_or places₂ q [] → leader_in x places₃ ≡ seek_block 128 d ld
+      leader-still places₃ e = ap (λ (row : List ℕ). record { ord = q; list = list_in x q; cur = cursor_in row }) e ∙ leader-there
 
-        scores-still : get_or places₃ q [] ≡ get_or places₂ q [] → StillScored x q h.places places₃
-        scores-still e floats K =
-            row-scored x places₂ places₃ q e floats (known-scored x O.few leader-seated hq B floats (moved-scored x R.seated hq M floats K))
+      scores-still : (places₃ : List (List ℕ)) → get_or places₃ q [] ≡ get_or places₂ q [] → StillScored x q h.places places₃
+      scores-still places₃ e floats K =
+          row-scored x places₂ places₃ q e floats (known-scored x O.few leader-seated hq B floats (moved-scored x R.seated hq M floats K))
 
-        remain-is : all_remain 128 d ss ≡ r.remain
-        remain-is = sym (G.remain-is ∙ ap (all_remain 128 d) secs-stay)
-
-        pub window-over : not r.remain ≡ true → Turns x t d h Over (held places₃ h.blocks) bounds₃
-        window-over e =
-            let none = not_back r.remain true e in
-            let U = G.run_out none in
+      module _ {last : ℕ} (el : last ≡ last_at places₂ q) {places₃ : List (List ℕ)} {bounds₃ : List Float} where
+        pub window-over : Gathers x d last (held places₂ h.blocks) places₃ bounds₃ None → Turns x t d h Over (held places₃ h.blocks) bounds₃
+        window-over G =
+            let U = G.by.1 in
             record {
               ready = U.ready;
-              scores = scores-still U.leader;
+              scores = scores-still places₃ U.leader;
               turned =
-                  turn-over t d ld ss live (remain-is ∙ none)
-                  ∙ ap (λ (z : Scorer Float). record { stage = over; doc = d; leader = z; secs = seek_block_all 128 d ss }) (sym (leader-still U.leader))
+                  turn-over t d ld ss live (sym (ap (all_remain 128 d) secs-stay) ∙ G.by.0)
+                  ∙ ap (λ (z : Scorer Float). record { stage = over; doc = d; leader = z; secs = seek_block_all 128 d ss }) (sym (leader-still places₃ U.leader))
                   ∙ ap (λ (z : List (Scorer Float)). record { stage = over; doc = d; leader = leader_in x places₃; secs = z }) (sym (U.secs-are ∙ ap (seek_block_all 128 d) secs-stay));
             }
 
-        module _ (e : not r.remain ≡ false) where
+        module _ {r : Secondaries} (G : Gathers x d last (held places₂ h.blocks) places₃ bounds₃ (Some r)) where
           pub gathered : Gathered x d last (held places₂ h.blocks) places₃ bounds₃ r
-          gathered = G.gathered (not_back r.remain false e)
+          gathered = G.by.1
 
           abbrev end : ℕ
           end = r.window_end
@@ -140,13 +132,13 @@ module _ (x : Query) (O : InOrder x) (t : Float) (d : ℕ) (live : d < 214748364
           total = r.block_max_sum
 
           all : all_remain 128 d ss ≡ true
-          all = remain-is ∙ not_back r.remain false e
+          all = sym (ap (all_remain 128 d) secs-stay) ∙ G.by.0
 
           secs-are : seek_block_all 128 d ss ≡ secondaries_in x places₃
           secs-are = all-sought d ss all ∙ sym (gathered.secs-are ∙ ap (map (seek_block 128 d)) secs-stay)
 
           leader-then : leader_in x places₃ ≡ seek_block 128 d ld
-          leader-then = leader-still gathered.leader
+          leader-then = leader-still places₃ gathered.leader
 
           last-is : last_doc_in_block 128 (seek_block 128 d ld) ≡ last
           last-is = ap (last_doc_in_block 128) (sym leader-there) ∙ last-here ready-there.seated hq ∙ sym el
@@ -166,7 +158,7 @@ module _ (x : Query) (O : InOrder x) (t : Float) (d : ℕ) (live : d < 214748364
           pub window-low : f32.above (f32.add b total) t ≡ false → Turns x t d h (Low end) (held places₃ h.blocks) bounds₃
           window-low a = record {
             ready = gathered.ready;
-            scores = scores-still gathered.leader;
+            scores = scores-still places₃ gathered.leader;
             turned = (
               turn_low t d ld ss live all secs-are ends sums (test-is ∙ a)
                   ∙ ap (λ (z : Scorer Float). record { stage = window; doc = suc end; leader = z; secs = secondaries_in x places₃ }) (sym leader-then),
@@ -200,7 +192,7 @@ module _ (x : Query) (O : InOrder x) (t : Float) (d : ℕ) (live : d < 214748364
             pub window-open : Turns x t d h (Open end total) h' bounds₃
             window-open = record {
               ready = record { seated = still-seated x S hq L; kept = still_kept x S hq L bounds₃ gathered.ready.kept; long = gathered.ready.long };
-              scores = λ floats K. moved-scored x S hq L floats (scores-still gathered.leader floats K);
+              scores = λ floats K. moved-scored x S hq L floats (scores-still places₃ gathered.leader floats K);
               turned = (
                 turn-open t d ld ss live all secs-are ends sums (test-is ∙ a)
                     ∙ ap (λ (z : ℕ). place_of (stage_of z (map (block_max_score 128 f32) (secondaries_in x places₃))) (load_leader 128 (seek_block 128 d ld)) (secondaries_in x places₃)) block-is

@@ -1,6 +1,6 @@
 // A window: all skip readers on the blocks that may hold a document, and the bounds of these blocks against the threshold.
-ghost use Rattle.std.specs.Prelude.{◌≡◌, min, ◌≤◌, ◌<◌};
-ghost use Rattle.term_scorer.specs.Inner.Slots.{held, Sixteen};
+ghost use Rattle.std.specs.Prelude.{◌≤◌, ◌<◌};
+ghost use Rattle.term_scorer.specs.Inner.Slots.{held};
 ghost use Rattle.term_scorer.specs.Inner.Weights.{FloatRows};
 ghost use Rattle.intersection_order.specs.Inner.Scorers.{query, InOrder, Ready};
 ghost use Rattle.intersection_order.specs.Inner.Sizes.{InSlots};
@@ -11,10 +11,9 @@ use slot_rows::place::{Blocks, Places};
 use term_scorer::score::{Leg, Similarity};
 use term_scorer::{BOUNDS, Floats, RESTS, slot};
 
-// Whether every secondary has documents left, where the first of all present blocks ends, and the secondaries' bounds summed.
+// Where the first of all present blocks ends, and the secondaries' bounds summed.
 #[derive(Clone, Copy)]
 pub struct Secondaries {
-    pub remain: bool,
     pub window_end: u32,
     pub block_max_sum: f32,
 }
@@ -27,14 +26,7 @@ pub enum Window {
     Open(u32, f32),
 }
 
-// The lower of two documents.
-fn least(a: u32, b: u32) -> u32
-    ensures { result ≡ min a b }
-{
-    if a < b { a } else { b }
-}
-
-// The secondaries go on to the blocks that may hold doc, up to the first that has none.
+// The secondaries go on to the blocks that may hold doc, up to the first that has none: then there is no window.
 fn gather(
     file: &[u8],
     similarity: Similarity,
@@ -47,7 +39,7 @@ fn gather(
     places: &mut Places,
     blocks: &Blocks,
     bounds: &mut [f32; 128],
-) -> Secondaries
+) -> Option<Secondaries>
     requires { let asked = query similarity file.now lists.now norms.now n order.now in
         let slots = held places.old blocks.now in
         InOrder asked × Ready asked slots bounds.old × (doc ≤ 2147483647) }
@@ -57,27 +49,20 @@ fn gather(
 {
     let mut window_end = leader_end;
     let mut block_max_sum = 0.0f32;
-    let mut i = 1usize;
-    while i < n {
+    for i in 1..n {
         let q = order[i];
         slot::shallow_seek(file, lists, q, doc, places);
         if !slot::has_remaining_docs(file, lists, q, places) {
-            return Secondaries {
-                remain: false,
-                window_end,
-                block_max_sum,
-            };
+            return None;
         }
-        window_end = least(window_end, slot::last_doc_in_block(q, places));
+        window_end = window_end.min(slot::last_doc_in_block(q, places));
         let bound = block_max(file, similarity, lists, norms, q, places, blocks, bounds);
-        block_max_sum = block_max_sum + bound;
-        i += 1;
+        block_max_sum += bound;
     }
-    Secondaries {
-        remain: true,
+    Some(Secondaries {
         window_end,
         block_max_sum,
-    }
+    })
 }
 
 // The window from doc on: over where a list has run out, else too low or open, the leader's block loaded.
@@ -103,12 +88,12 @@ pub fn next_window(
     slot::seek_block(file, lists, q, doc, places);
     let leader_block_max = new_block_max(file, similarity, lists, norms, q, places, blocks, bounds);
     let leader_end = slot::last_doc_in_block(q, places);
-    let found = gather(
+    let gathered = gather(
         file, similarity, lists, norms, n, order, doc, leader_end, places, blocks, bounds,
     );
-    if !found.remain {
+    let Some(found) = gathered else {
         return Window::Over;
-    }
+    };
     if leader_block_max + found.block_max_sum > leg.threshold {
         slot::load(file, lists, q, places, blocks);
         return Window::Open(found.window_end, found.block_max_sum);
@@ -118,15 +103,13 @@ pub fn next_window(
 
 // Behind each secondary the sum of the bounds that follow, added from the last on.
 pub fn sum_rests(n: usize, order: &[usize; 16], floats: &mut Floats)
-    requires { (0 < n) × (n ≤ 16) × Sixteen order.now × InSlots n order.now × FloatRows floats.old }
+    requires { (0 < n) × (n ≤ 16) × InSlots n order.now × FloatRows floats.old }
     ensures { Sums n order.now floats.old floats.new }
 {
     let mut running = 0.0f32;
-    let mut i = n;
-    while 1 < i {
-        i -= 1;
+    for i in (1..n).rev() {
         floats[RESTS][i] = running;
         let q = order[i];
-        running = running + floats[BOUNDS][q];
+        running += floats[BOUNDS][q];
     }
 }

@@ -9,6 +9,7 @@ use lib.Dec.{T, eqb, ltb, lit<}
 use lib.ListN.{length, get_or, length-append}
 use lib.Ieee.{Float, nan, lt}
 use borrow.Author.Tests.{eq-eqb, ne_eqb, ltb-true}
+use Rattle.std.specs.Prelude.{Ok}
 use Rattle.arrays.specs.Inner.Holds.{Holds}
 use Rattle.arrays.proofs.Every.{each, all, same_test, second-true}
 use Rattle.floats.specs.Step.{within}
@@ -134,16 +135,16 @@ module _ (y : Listed) (b : ℕ) where
 
   -- a full block's, by its widths
   module _ {first : Bool} (e : first ≡ is_first b) {previous limit : ℕ} (ep : previous ≡ doc_behind y.docs place first) {r : Look}
-      (K : Looked y.docs y.freqs place first previous limit r) (z : r.refusal ≡ 0) where
+      (K : Looked y.docs y.freqs place first previous limit (Ok r)) where
     doc-bits : r.doc_bits ≡ doc_bits (doc_in y) (freq_in y) b
     unfolding doc_bits doc_values
     doc-bits =
-        K.doc-bits-are z
+        K.doc-bits-are
         ∙ ap (λ (v : ℕ → ℕ). least_width (bytes_of 128 v)) (ap (differ (on_from y.docs place) true first) ep ∙ differs-on true e)
 
     freq-bits : r.freq_bits ≡ freq_bits (doc_in y) (freq_in y) b
     unfolding freq_bits freq_values
-    freq-bits = K.freq-bits-are z ∙ ap (λ (f : ℕ → ℕ). least_width (bytes_of 128 (λ i. f i - 1))) freqs-on
+    freq-bits = K.freq-bits-are ∙ ap (λ (f : ℕ → ℕ). least_width (bytes_of 128 (λ i. f i - 1))) freqs-on
 
     pub block-bytes : 16 * (r.doc_bits + r.freq_bits) ≡ length (block_bytes (doc_in y) (freq_in y) b)
     unfolding block_bytes

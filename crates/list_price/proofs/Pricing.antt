@@ -10,17 +10,19 @@ use native.Mathlib.Omega.{arith}
 use lib.Dec.{eqb}
 use lib.ListN.{length, get_or, set, length-set, length-append}
 use lib.Seq.{get_or-set_same, get_or-set_other}
+use Rattle.std.specs.Prelude.{Result}
 use Rattle.compression.specs.Documents.{rising_below}
 use Rattle.frequencies.specs.Frequencies.{freqs_right}
 use Rattle.bm25.specs.Bound.{max_score, all_covered}
 use Rattle.notefile.specs.Lists.{is_first}
 use Rattle.notefile.specs.Inner.Order.{first_of}
-use Rattle.notefile.specs.Inner.Reads.{lower}
 use Rattle.house.specs.House.{block_bytes, blocks_bytes, tail_bytes, postings_bytes}
 use Rattle.house.specs.Inner.Listed.{Listed, doc_in, freq_in, score_in, top_in, listed_refusal, postings_in, Fits}
 use Rattle.list_price.specs.Inner.Loads.{refused_for}
-use Rattle.list_price.specs.Inner.Prices.{refused_up_to, refused_from, BlocksPriced, TailPriced, Priced}
-use Rattle.list_price.specs.declared.list.ListPrice.{ListPrice}
+use Rattle.list_price.specs.Inner.Prices.{bytes_of, refused_up_to, refused_from, BlocksPriced, TailPriced, Priced}
+use Rattle.outcome.specs.Inner.Lower.{lower}
+use Rattle.outcome.specs.Refusals.{refusal_number}
+use Rattle.outcome.specs.declared.refusal.Refusal.{Refusal}
 use Rattle.list_price.proofs.Split.{lower-none, refused-split, docs-stop, docs-go-on}
 use Rattle.list_price.proofs.Loads.{both_right}
 use Rattle.list_price.proofs.Blocks.{docs_pass, freqs_pass, refused-is}
@@ -88,12 +90,12 @@ pub same-as : {y : Listed} {limit start : ℕ} {tops₀ tops tops' : List ℕ} {
 same-as P e f g = rw (e, f, g) P
 
 module _ {y : Listed} {limit start : ℕ} {tops₀ tops : List ℕ} {refusal postings b : ℕ} (P : Pricing y limit start tops₀ tops refusal postings b) where
-  pub all-priced : y.count / 128 ≤ b → {r : ListPrice} → r.refusal ≡ refusal → r.postings ≡ postings → BlocksPriced y limit start tops₀ r tops
-  all-priced h {r} er ep =
+  pub all-priced : y.count / 128 ≤ b → {r : Result ℕ Refusal} → refusal_number r ≡ refusal → (refusal_number r ≡ 0 → bytes_of r ≡ postings) → bytes_of r ≤ postings → BlocksPriced y limit start tops₀ r tops
+  all-priced h {r} er ep low =
       let e : b ≡ y.count / 128 = omega (arith, P.within) in record {
         refusal_is = er ∙ P.refusal_is ∙ ap (λ (k : ℕ). refused_up_to y limit (128 * k)) e;
-        length-is = λ z. ep ∙ P.length-is (sym er ∙ z) ∙ ap (λ (k : ℕ). length (blocks_bytes (doc_in y) (freq_in y) k)) e;
-        small = omega (arith, P.small, ep, e);
+        length-is = λ z. ep z ∙ P.length-is (sym er ∙ z) ∙ ap (λ (k : ℕ). length (blocks_bytes (doc_in y) (freq_in y) k)) e;
+        small = omega (arith, P.small, low, e);
         tops_are = λ z. record { at = λ k l. P.tops_are (sym er ∙ z) k (omega (arith, e, l)) };
         kept = P.kept;
       }
@@ -103,7 +105,7 @@ module _ {y : Listed} {limit start : ℕ} {tops₀ tops : List ℕ} {refusal pos
     found-is : found ≡ first_of (docs_pass y b 128 limit) (freqs_pass y b 128) true
     found-is = F ∙ refused-is y b 128 limit ef
 
-    pub stopped : found ≡ 7 → {r : ListPrice} → r.refusal ≡ 7 → r.postings ≡ 0 → BlocksPriced y limit start tops₀ r tops
+    pub stopped : found ≡ 7 → {r : Result ℕ Refusal} → refusal_number r ≡ 7 → bytes_of r ≡ 0 → BlocksPriced y limit start tops₀ r tops
     stopped e {r} er ep = record {
       refusal_is = er ∙ docs-stop y limit b (y.count / 128) h (docs-wrong (docs_pass y b 128 limit) (freqs_pass y b 128) (sym e ∙ found-is));
       length-is = λ z. absurd (omega (arith, er, z));
@@ -134,15 +136,18 @@ module _ {y : Listed} {limit start : ℕ} {tops₀ tops : List ℕ} {refusal pos
             (eight (freqs_right (freq_in y) (128 * b)) (all_covered (max_score y.weight y.average) (128 * b) (score_in y))
             (all_covered (max_score y.weight y.average) 128 (λ i. score_in y (128 * b + i))))
 
-        pub eighth : Pricing y limit start tops₀ tops 8 postings (b + 1)
+        found-eight : found ≡ 8
+        found-eight = found-is ∙ rw (passed, freqs-wrong (docs_pass y b 128 limit) (freqs_pass y b 128) found-is n7 n0) refl
+
+        pub eighth : Pricing y limit start tops₀ tops found postings (b + 1)
         eighth = record {
           within = omega arith;
           docs-right = docs-go-on y limit b P.docs-right passed;
-          refusal_is = joined eight_is refl;
-          length-is = λ z. absurd (omega arith);
+          refusal_is = joined (found-eight ∙ eight_is) refl;
+          length-is = λ z. absurd (n0 z);
           small = omega (arith, P.small);
           long = P.long;
-          tops_are = λ z. absurd (omega arith);
+          tops_are = λ z. absurd (n0 z);
           kept = P.kept;
         }
 
@@ -215,7 +220,7 @@ module _ (y : Listed) (limit : ℕ) where
     tail-found : found ≡ first_of (docs_pass y blocks rest limit) (freqs_pass y blocks rest) true
     tail-found = F ∙ refused-is y blocks rest limit ef
 
-    pub tail-refused : (found ≡ 0 → ⊥) → {r : ListPrice} → r.refusal ≡ found → r.postings ≡ 0 → TailPriced y limit r
+    pub tail-refused : (found ≡ 0 → ⊥) → {r : Result ℕ Refusal} → refusal_number r ≡ found → bytes_of r ≡ 0 → TailPriced y limit r
     unfolding refused_from
     tail-refused n {r} er ep = record {
       refusal_is = er ∙ refused-before (docs_pass y blocks rest limit) (freqs_pass y blocks rest) covers tail-found n;
@@ -228,19 +233,19 @@ module _ (y : Listed) (limit : ℕ) where
       unfolding refused_from
       tail-is = let both = both_right (docs_pass y blocks rest limit) (freqs_pass y blocks rest) (sym n0 ∙ tail-found) in rw (both.0, both.1)
 
-      pub tail-bound : covers ≡ false → {r : ListPrice} → r.refusal ≡ 9 → r.postings ≡ 0 → TailPriced y limit r
+      pub tail-bound : covers ≡ false → {r : Result ℕ Refusal} → refusal_number r ≡ 9 → bytes_of r ≡ 0 → TailPriced y limit r
       tail-bound e {r} er ep = record {
         refusal_is = er ∙ sym (tail-is ∙ ap (first_of true true) e);
         length-is = λ z. absurd (omega (arith, er, z));
         small = omega (arith, ep);
       }
 
-      pub tail-priced : covers ≡ true → {r : ListPrice} → r.refusal ≡ 0 → r.postings ≡ length (tail_bytes (doc_in y) (freq_in y) blocks rest) → r.postings ≤ 1280
+      pub tail-priced : covers ≡ true → {r : Result ℕ Refusal} → refusal_number r ≡ 0 → bytes_of r ≡ length (tail_bytes (doc_in y) (freq_in y) blocks rest) → bytes_of r ≤ 1280
           → TailPriced y limit r
       tail-priced e {r} er ep low = record { refusal_is = er ∙ sym (tail-is ∙ ap (first_of true true) e); length-is = λ z. ep; small = low }
 
 -- both together
-module _ {y : Listed} {limit start : ℕ} {tops₀ tops : List ℕ} {full : ListPrice} (B : BlocksPriced y limit start tops₀ full tops) where
+module _ {y : Listed} {limit start : ℕ} {tops₀ tops : List ℕ} {full : Result ℕ Refusal} (B : BlocksPriced y limit start tops₀ full tops) where
   whole : 128 * (y.count / 128) + y.count % 128 ≡ y.count
   whole = omega arith
 
@@ -248,7 +253,7 @@ module _ {y : Listed} {limit start : ℕ} {tops₀ tops : List ℕ} {full : List
   unfolding refused_up_to listed_refusal
   listed-is = refl
 
-  all-is : lower full.refusal (refused_from y limit (y.count / 128) (y.count % 128)) ≡ listed_refusal y limit
+  all-is : lower (refusal_number full) (refused_from y limit (y.count / 128) (y.count % 128)) ≡ listed_refusal y limit
   all-is =
       ap (λ (r : ℕ). lower r (refused_from y limit (y.count / 128) (y.count % 128))) B.refusal_is
       ∙ sym (refused-split y limit (y.count / 128) (y.count % 128)) ∙ ap (refused_up_to y limit) whole ∙ listed-is
@@ -259,7 +264,7 @@ module _ {y : Listed} {limit start : ℕ} {tops₀ tops : List ℕ} {full : List
   seven-stays true false c = refl
   seven-stays false f c = refl
 
-  seven_is : full.refusal ≡ 7 → 7 ≡ listed_refusal y limit
+  seven_is : refusal_number full ≡ 7 → 7 ≡ listed_refusal y limit
   unfolding refused_from
   seven_is e =
       sym (seven-stays (docs_pass y (y.count / 128) (y.count % 128) limit) (freqs_pass y (y.count / 128) (y.count % 128))
@@ -267,10 +272,10 @@ module _ {y : Listed} {limit start : ℕ} {tops₀ tops : List ℕ} {full : List
       ∙ ap (λ (r : ℕ). lower r (refused_from y limit (y.count / 128) (y.count % 128))) (sym e) ∙ all-is
 
   module _ (F : Fits y limit) where
-    few : full.postings ≤ 8388608
+    few : bytes_of full ≤ 8388608
     few = omega (arith, B.small, F.few, F.count-in)
 
-    pub seventh : full.refusal ≡ 7 → Priced y limit start tops₀ full tops
+    pub seventh : refusal_number full ≡ 7 → Priced y limit start tops₀ full tops
     seventh e = record {
       refusal_is = e ∙ seven_is e;
       length-is = λ z. absurd (omega (arith, e, z));
@@ -279,11 +284,11 @@ module _ {y : Listed} {limit start : ℕ} {tops₀ tops : List ℕ} {full : List
       kept = B.kept;
     }
 
-    module _ {tail : ListPrice} (L : TailPriced y limit tail) (r : ListPrice) (er : r.refusal ≡ lower full.refusal tail.refusal) where
-      none : r.refusal ≡ 0 → (full.refusal ≡ 0) × (tail.refusal ≡ 0)
-      none z = lower-none full.refusal tail.refusal (sym er ∙ z)
+    module _ {tail : Result ℕ Refusal} (L : TailPriced y limit tail) (r : Result ℕ Refusal) (er : refusal_number r ≡ lower (refusal_number full) (refusal_number tail)) where
+      none : refusal_number r ≡ 0 → (refusal_number full ≡ 0) × (refusal_number tail ≡ 0)
+      none z = lower-none (refusal_number full) (refusal_number tail) (sym er ∙ z)
 
-      bytes-are : r.refusal ≡ 0 → full.postings + tail.postings ≡ length (postings_in y)
+      bytes-are : refusal_number r ≡ 0 → bytes_of full + bytes_of tail ≡ length (postings_in y)
       unfolding postings_in postings_bytes
       bytes-are z =
           sums (B.length-is (none z).0) (L.length-is (none z).1)
@@ -292,11 +297,11 @@ module _ {y : Listed} {limit start : ℕ} {tops₀ tops : List ℕ} {full : List
           sums : {a c p q : ℕ} → a ≡ p → c ≡ q → a + c ≡ p + q
           sums e f = rw (e, f)
 
-      pub together : r.postings ≡ full.postings + tail.postings → Priced y limit start tops₀ r tops
-      together ep = record {
-        refusal_is = er ∙ ap (lower full.refusal) L.refusal_is ∙ all-is;
-        length-is = λ z. ep ∙ bytes-are z;
-        small = omega (arith, ep, few, L.small);
+      pub together : (refusal_number r ≡ 0 → bytes_of r ≡ bytes_of full + bytes_of tail) → bytes_of r ≤ bytes_of full + bytes_of tail → Priced y limit start tops₀ r tops
+      together ep low = record {
+        refusal_is = er ∙ ap (lower (refusal_number full)) L.refusal_is ∙ all-is;
+        length-is = λ z. ep z ∙ bytes-are z;
+        small = omega (arith, low, few, L.small);
         tops_are = λ z. B.tops_are (none z).0;
         kept = B.kept;
       }

@@ -14,7 +14,7 @@ use Rattle.frequencies.specs.Frequencies.{freq_right, freqs_right}
 use Rattle.bm25.specs.Bound.{max_score, all_covered}
 use Rattle.notefile.specs.Lists.{is_first}
 use Rattle.notefile.specs.Inner.Order.{first_of}
-use Rattle.notefile.specs.Inner.Reads.{lower}
+use Rattle.outcome.specs.Inner.Lower.{lower}
 use Rattle.notefile.proofs.Decoded.{every-same}
 use Rattle.house.specs.House.{doc_before}
 use Rattle.house.specs.Inner.Listed.{Listed, doc_in, freq_in, score_in}

@@ -2,7 +2,7 @@
 ghost use Rattle.std.specs.Prelude.{◌≡◌, cond, ◌+◌, ◌*◌, ◌/◌, ◌%◌, ◌≤◌, ◌<◌, eqb, length};
 ghost use Rattle.std.specs.Float.Ieee.{lt};
 ghost use Rattle.bm25.specs.Inner.Weight.{WeightOf};
-ghost use Rattle.notefile.specs.Inner.Reads.{lower};
+ghost use Rattle.outcome.specs.Refusals.{refusal_number};
 ghost use Rattle.house.specs.Inner.Listed.{listed, Fits};
 ghost use Rattle.list_price.specs.Inner.Loads.{Standing, Loaded, Right, tail_length};
 ghost use Rattle.list_price.specs.Inner.Prices.{CodeFits, BlocksPriced, TailPriced, Priced};
@@ -15,15 +15,9 @@ use contents::{Tops, doc_before};
 use encode::values::{differences, lowered};
 use encode::vint::vints_len;
 use fieldnorm::FieldNormReader;
+use outcome::refusal::{Refusal, lower_of};
 use posting_tests::tests::{copy, docs_right, freqs_right, places};
 use posting_tests::top::top_of;
-
-// What a list is refused for, of 7 to 9, and the bytes of its postings.
-#[derive(Clone, Copy)]
-pub struct ListPrice {
-    pub refusal: u32,
-    pub postings: usize,
-}
 
 // What n postings from a place on are refused for, of 7 and 8; right ones are copied into the block.
 fn load_block(
@@ -35,22 +29,22 @@ fn load_block(
     limit: u32,
     block_docs: &mut [u32; 128],
     block_freqs: &mut [u32; 128],
-) -> u32
+) -> Result<(), Refusal>
     requires { Standing docs.now freqs.now at n first }
-    ensures { Loaded docs.now freqs.now at n first limit result block_docs.new block_freqs.new }
+    ensures { Loaded docs.now freqs.now at n first limit (refusal_number result) block_docs.new block_freqs.new }
 {
     let previous = doc_before(docs, at, first);
     if !docs_right(docs, at, n, first, previous, limit) {
-        return 7;
+        return Err(Refusal::Documents);
     }
     if !freqs_right(freqs, at, n) {
-        return 8;
+        return Err(Refusal::Frequencies);
     }
     places(block_docs);
     copy(docs, at, n, block_docs);
     places(block_freqs);
     copy(freqs, at, n, block_freqs);
-    0
+    Ok(())
 }
 
 // The bytes of the tail's VInts.
@@ -75,25 +69,15 @@ fn tail_length(
 }
 
 // A refusal after one more score: 9 where the bound is below it, unless there is one already.
-fn with_score(found: u32, bound: f32, score: f32) -> u32
-    ensures { result ≡ cond (eqb found 0) (cond (lt bound score) 9 0) found }
+fn with_score(found: Result<(), Refusal>, bound: f32, score: f32) -> Result<(), Refusal>
+    ensures { let number = refusal_number found in
+        refusal_number result ≡ cond (eqb number 0) (cond (lt bound score) 9 0) number }
 {
-    if found == 0 {
-        if bound < score {
-            return 9;
-        }
+    found?;
+    if bound < score {
+        return Err(Refusal::Bound);
     }
-    found
-}
-
-// A list that is refused.
-fn refused(refusal: u32) -> ListPrice
-    ensures { (result.refusal ≡ refusal) × (result.postings ≡ 0) }
-{
-    ListPrice {
-        refusal,
-        postings: 0,
-    }
+    Ok(())
 }
 
 // The table has its 131,072 places.
@@ -113,7 +97,7 @@ fn code_byte(reader: FieldNormReader) -> u8
     }
 }
 
-// The full blocks. After a 7 nothing lower can come; an 8 stays.
+// The bytes of the full blocks, or what they are refused for. After a 7 nothing lower can come; an 8 stays.
 fn price_blocks(
     norms: &[u8],
     reader: FieldNormReader,
@@ -125,7 +109,7 @@ fn price_blocks(
     n: usize,
     start: usize,
     tops: &mut Tops,
-) -> ListPrice
+) -> Result<usize, Refusal>
     requires { let y = listed reader norms.now w.weight w.average docs.now freqs.now from n in
         Fits y limit × WeightOf w.weight w.average w × (start + n / 128 ≤ 131072) }
     ensures { let y = listed reader norms.now w.weight w.average docs.now freqs.now from n in
@@ -137,42 +121,39 @@ fn price_blocks(
     let mut block_docs = [0u32; 128];
     let mut block_freqs = [0u32; 128];
     let mut scores = [0.0f32; 128];
-    let mut refusal: u32 = 0;
+    let mut refusal = Ok(());
     let mut postings: usize = 0;
-    let mut b: usize = 0;
-    while b < n / 128 {
+    for b in 0..n / 128 {
         let at = from + 128 * b;
-        let found = look(docs, freqs, at, b == 0, doc_before(docs, at, b == 0), limit);
-        if found.refusal == 7 {
-            return refused(7);
+        match look(docs, freqs, at, b == 0, doc_before(docs, at, b == 0), limit) {
+            Ok(found) => {
+                copy(docs, at, 128, &mut block_docs);
+                copy(freqs, at, 128, &mut block_freqs);
+                score_block(
+                    norms,
+                    reader,
+                    w,
+                    Scoring::Unstepped,
+                    limit,
+                    found.freq_bits <= 24,
+                    &block_docs,
+                    &block_freqs,
+                    &mut scores,
+                );
+                let top = top_of(&scores);
+                tops[start + b] = top as u8;
+                refusal = with_score(refusal, bound, scores[top]);
+                postings += 16 * ((found.doc_bits + found.freq_bits) as usize);
+            }
+            Err(stop) if stop == Refusal::Documents => return Err(stop),
+            Err(stop) => refusal = Err(stop),
         }
-        if found.refusal == 0 {
-            copy(docs, at, 128, &mut block_docs);
-            copy(freqs, at, 128, &mut block_freqs);
-            score_block(
-                norms,
-                reader,
-                w,
-                Scoring::Unstepped,
-                limit,
-                found.freq_bits <= 24,
-                &block_docs,
-                &block_freqs,
-                &mut scores,
-            );
-            let top = top_of(&scores);
-            tops[start + b] = top as u8;
-            refusal = with_score(refusal, bound, scores[top]);
-            postings += 16 * ((found.doc_bits + found.freq_bits) as usize);
-        } else {
-            refusal = 8;
-        }
-        b += 1;
     }
-    ListPrice { refusal, postings }
+    refusal?;
+    Ok(postings)
 }
 
-// The tail.
+// The bytes of the tail, or what it is refused for.
 fn price_tail(
     norms: &[u8],
     reader: FieldNormReader,
@@ -182,7 +163,7 @@ fn price_tail(
     freqs: &[u32],
     from: usize,
     n: usize,
-) -> ListPrice
+) -> Result<usize, Refusal>
     requires { let y = listed reader norms.now w.weight w.average docs.now freqs.now from n in
         Fits y limit × WeightOf w.weight w.average w }
     ensures { let y = listed reader norms.now w.weight w.average docs.now freqs.now from n in
@@ -195,7 +176,7 @@ fn price_tail(
     let blocks = n / 128;
     let rest = n % 128;
     let at = from + 128 * blocks;
-    let found = load_block(
+    load_block(
         docs,
         freqs,
         at,
@@ -204,14 +185,11 @@ fn price_tail(
         limit,
         &mut block_docs,
         &mut block_freqs,
-    );
-    if found != 0 {
-        return refused(found);
-    }
+    )?;
     if !covered(norms, reader, w, &block_docs, &block_freqs, rest, bound) {
-        return refused(9);
+        return Err(Refusal::Bound);
     }
-    let postings = tail_length(
+    Ok(tail_length(
         docs,
         freqs,
         at,
@@ -219,30 +197,10 @@ fn price_tail(
         blocks == 0,
         &mut block_docs,
         &mut block_freqs,
-    );
-    ListPrice {
-        refusal: 0,
-        postings,
-    }
+    ))
 }
 
-// The lower of two refusals, where 0 is none.
-fn lower_of(a: u32, b: u32) -> u32
-    ensures { result ≡ lower a b }
-{
-    if a == 0 {
-        return b;
-    }
-    if b == 0 {
-        return a;
-    }
-    if b < a {
-        return b;
-    }
-    a
-}
-
-// A list: its full blocks, then its tail.
+// The bytes of a list's postings, or what it is refused for, of 7 to 9: its full blocks, then its tail.
 pub fn price_list(
     norms: &[u8],
     reader: FieldNormReader,
@@ -254,19 +212,17 @@ pub fn price_list(
     n: usize,
     start: usize,
     tops: &mut Tops,
-) -> ListPrice
+) -> Result<usize, Refusal>
     requires { let y = listed reader norms.now w.weight w.average docs.now freqs.now from n in
         Fits y limit × WeightOf w.weight w.average w × (start + n / 128 ≤ 131072) }
     ensures { let y = listed reader norms.now w.weight w.average docs.now freqs.now from n in
         Priced y limit start tops.old result tops.new }
 {
     let full = price_blocks(norms, reader, limit, w, docs, freqs, from, n, start, tops);
-    if full.refusal == 7 {
+    if full == Err(Refusal::Documents) {
         return full;
     }
     let tail = price_tail(norms, reader, limit, w, docs, freqs, from, n);
-    ListPrice {
-        refusal: lower_of(full.refusal, tail.refusal),
-        postings: full.postings + tail.postings,
-    }
+    lower_of(full.and(Ok(())), tail.and(Ok(())))?;
+    Ok(full? + tail?)
 }

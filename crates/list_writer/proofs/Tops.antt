@@ -3,7 +3,7 @@ use mathlib.Core.Path.{◌≡◌, refl, sym, ap, ◌∙◌, subst}
 use mathlib.Core.List.{List, ◌++◌}
 use Prim.Native.Nat.{ℕ, zero, suc, ◌+◌, ◌*◌, ◌/◌, ◌≤◌, ◌<◌}
 use native.Mathlib.Omega.{arith}
-use Rattle.bm25_pair.specs.Pair.{freq_code, highest}
+use Rattle.bm25_pair.specs.Pair.{freq_code}
 use Rattle.bm25_pair.proofs.Highest.{highest-in}
 use Rattle.house.specs.House.{top_of, entry_of, skips_bytes, postings_bytes, doc_bits, freq_bits}
 use Rattle.house.specs.Inner.Listed.{Listed, doc_in, freq_in, norm_in, score_in, top_in, skips_in, postings_in, Topped}

@@ -7,7 +7,7 @@ use native.Mathlib.Nat.{add_assoc}
 use native.Mathlib.Omega.{arith}
 use lib.Dec.{eqb}
 use lib.ListN.{length, get_or, set}
-use borrow.Author.Tests.{eqb-false, ne_eqb}
+use borrow.Author.Tests.{ne_eqb}
 use Rattle.compression.specs.Documents.{gap_of, start_of}
 use Rattle.encode.specs.Differences.{floor_at, differ}
 use Rattle.encode.specs.Inner.Fronted.{Rising, Fronted}
@@ -67,10 +67,6 @@ module _ (docs : List ℕ) (from : ℕ) where
       e
       ∙ ap (λ (t : Bool). cond t 0 (get_or docs (from + 128 * suc b - 1) 0)) (first-is (suc b))
       ∙ ap (λ (x : ℕ). get_or docs x 0) (let z : from + 128 * suc b - 1 ≡ from + (128 * b + 127) = omega arith in z)
-
-pub not_first : (from b : ℕ) → eqb b 0 ≡ false → 0 < from + 128 * b
-not_first from zero e = absurd (eqb-false 0 0 e refl)
-not_first from (suc b) e = omega arith
 
 module _ {docs freqs : List ℕ} {from : ℕ} (b n : ℕ) (P : PostingsIn docs freqs from (128 * b + n)) {first : Bool} {previous : ℕ}
     (g : first ≡ is_first b) (p : previous ≡ doc_before (numbers_from docs from) (numbers_from freqs from) b) (strict : Bool)

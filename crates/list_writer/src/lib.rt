@@ -149,13 +149,11 @@ pub fn write_list(
     let mut block = [[0u32; 128]; 2];
     let blocks = n / 128;
     let mut p = place + 8 * blocks;
-    let mut b: usize = 0;
-    while b < blocks {
+    for b in 0..blocks {
         let top = tops[start + b] as usize;
         let pair = pair_at(norms, reader, docs, freqs, from + (128 * b + top));
         let skip = place + 8 * b;
         p = write_block(docs, freqs, from, b, pair, &mut block, out, skip, p);
-        b += 1;
     }
     write_tail(docs, freqs, from, blocks, n % 128, &mut block, out, p)
 }

@@ -9,6 +9,7 @@ use lib.Dec.{T}
 use lib.ListN.{length, get_or, set}
 use lib.Ieee.{Float}
 use borrow.Author.Tests.{lt-ltb, le-ltb}
+use Rattle.outcome.specs.Inner.Lower.{lower}
 use Rattle.arrays.specs.Every.{every}
 use Rattle.arrays.proofs.Every.{fails, one_more}
 use Rattle.floats.specs.Step.{within}
@@ -23,7 +24,7 @@ use Rattle.notefile.specs.Conditions.{block_docs_right, block_freqs_right, cover
 use Rattle.notefile.specs.Inner.Order.{first_of, blocks_refusal}
 use Rattle.notefile.specs.Inner.Structs.{skip_entry_of}
 use Rattle.notefile.specs.Inner.Given.{Limits, WeightIn}
-use Rattle.notefile.specs.Inner.Reads.{docs_of, freqs_of, DocsRead, FreqsRead, Sized, TailValues, score_among, block_refusal, lower}
+use Rattle.notefile.specs.Inner.Reads.{docs_of, freqs_of, DocsRead, FreqsRead, Sized, TailValues, score_among, block_refusal}
 use Rattle.notefile.specs.declared.part.Part.{Part}
 use Rattle.notefile.specs.declared.skip.SkipEntry.{SkipEntry}
 use Rattle.notefile.proofs.Decoded.{every-same}

@@ -5,6 +5,10 @@ use mathlib.Core.List.{List}
 use Prim.Native.Nat.{ℕ, suc, ◌+◌, ◌*◌}
 use lib.Dec.{eqb, leb}
 use borrow.Author.Tests.{eqb-true, leb-true}
+use Rattle.std.specs.Prelude.{Result, Ok, Err}
+use Rattle.outcome.specs.Inner.Lower.{lower}
+use Rattle.outcome.specs.Refusals.{number_of}
+use Rattle.outcome.specs.declared.refusal.Refusal.{Refusal}
 use Rattle.arrays.specs.Every.{every}
 use Rattle.arrays.proofs.Every.{first-true, second-true}
 use Rattle.notefile.specs.Lists.{full_blocks, tail_at}
@@ -12,37 +16,31 @@ use Rattle.notefile.specs.Conditions.{skip_right, skips_right, postings_right, b
 use Rattle.notefile.specs.Refusal.{unless}
 use Rattle.notefile.specs.Inner.Order.{first_of, blocks_refusal, list_refusal}
 use Rattle.notefile.specs.Inner.Given.{Parted, Skipped, BlocksIn}
-use Rattle.notefile.specs.Inner.Reads.{TailRead, block_refusal, lower}
+use Rattle.notefile.specs.Inner.Reads.{TailRead, block_refusal}
 use Rattle.notefile.specs.declared.part.Part.{Part}
 use Rattle.skipcheck.specs.Inner.Answers.{tail_or}
-use Rattle.skipcheck.specs.declared.TailPlace.{TailPlace}
-use Rattle.skipcheck.specs.declared.TailPlace.TheVariants.{At, Wrong}
 use Rattle.listcheck.proofs.Judged.{docs-right-unless, docs-wrong-if, one-block-more}
 
 -- what an answer about the tail's place says
-is-wrong : (z : Bool) (p : ℕ) {r : TailPlace} → r ≡ tail_or z p → r ≡ Wrong → z ≡ false
-is-wrong true p e f = cc
-is-wrong false p e f = refl
+is-wrong : (z : Bool) (p : ℕ) {r : Refusal} → Err r ≡ tail_or z p → (z ≡ false) × (number_of r ≡ 5)
+is-wrong true p e = cc
+is-wrong false p e = (refl, cc)
 
-is_right : (z : Bool) (p : ℕ) {q : ℕ} {r : TailPlace} → r ≡ tail_or z p → r ≡ At q → z ≡ true
-is_right true p e f = refl
-is_right false p e f = cc
+is_right : (z : Bool) (p : ℕ) {q : ℕ} → Ok q ≡ tail_or z p → (z ≡ true) × (q ≡ p)
+is_right true p e = (refl, cc)
+is_right false p e = cc
 
-place_is : (z : Bool) (p : ℕ) {q : ℕ} {r : TailPlace} → r ≡ tail_or z p → r ≡ At q → q ≡ p
-place_is true p e f = cc
-place_is false p e f = cc
-
-module _ (file : List ℕ) (x : Part) {place : TailPlace} (ep : place ≡ tail_or (skips_right file x) (tail_at file x)) where
-  pub skips-wrong : place ≡ Wrong → 5 ≡ list_refusal file x
+module _ (file : List ℕ) (x : Part) {place : Result ℕ Refusal} (ep : place ≡ tail_or (skips_right file x) (tail_at file x)) where
+  pub skips-wrong : {r : Refusal} → place ≡ Err r → number_of r ≡ list_refusal file x
   unfolding list_refusal
-  skips-wrong w = rw (is-wrong (skips_right file x) (tail_at file x) ep w)
+  skips-wrong w = let e = is-wrong (skips_right file x) (tail_at file x) (sym w ∙ ep) in rw (e.0, e.1)
 
-  module _ {at : ℕ} (p : place ≡ At at) where
+  module _ {at : ℕ} (p : place ≡ Ok at) where
     skips-right : skips_right file x ≡ true
-    skips-right = is_right (skips_right file x) (tail_at file x) ep p
+    skips-right = (is_right (skips_right file x) (tail_at file x) (sym p ∙ ep)).0
 
     pub tail-is : at ≡ tail_at file x
-    tail-is = place_is (skips_right file x) (tail_at file x) ep p
+    tail-is = (is_right (skips_right file x) (tail_at file x) (sym p ∙ ep)).1
 
     pub skipped : Parted file x → Skipped file x
     unfolding skips_right

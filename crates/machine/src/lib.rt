@@ -3,7 +3,6 @@
 
 ghost use Rattle.std.specs.Prelude.{◌≡◌};
 ghost use Rattle.notefile.specs.Header.{norm_reader};
-ghost use Rattle.machine.specs.declared.Machine.TheVariants as variant;
 ghost use Rattle.machine.specs.Inner.Stands.{tables, StandsIn};
 ghost use Rattle.machine.specs.Inner.Goes.{GoesOn};
 
@@ -12,7 +11,7 @@ use block_wand_single::scan;
 use block_wand_union::walk;
 use intersection_stage::Intersection;
 use plain_scan::Plain;
-use reports::Event;
+use reports::Gone;
 use rule::Rule;
 use single_hunt::Single;
 use slot_rows::place::{Blocks, Places};
@@ -29,14 +28,6 @@ pub enum Machine {
     Plain(Plain),
 }
 
-// Where it came to, how many turns it took, and why it stands still.
-#[derive(Clone, Copy)]
-pub struct Gone {
-    pub machine: Machine,
-    pub taken: usize,
-    pub event: Event,
-}
-
 // What is driven, and by which rule.
 #[derive(Clone, Copy)]
 pub struct Task {
@@ -45,59 +36,8 @@ pub struct Task {
     pub rule: Rule,
 }
 
-// Where a union came to, as a machine.
-fn of_union(gone: block_wand_union::Gone) -> Gone
-    ensures { result ≡ record { machine = variant.Union gone.union; taken = gone.taken; event = gone.event } }
-{
-    let to = gone.union;
-    let event = gone.event;
-    Gone {
-        machine: Machine::Union(to),
-        taken: gone.taken,
-        event,
-    }
-}
-
-// Where a single scan came to, as a machine.
-fn of_single(gone: single_walk::Gone) -> Gone
-    ensures { result ≡ record { machine = variant.Single gone.single; taken = gone.taken; event = gone.event } }
-{
-    let to = gone.single;
-    let event = gone.event;
-    Gone {
-        machine: Machine::Single(to),
-        taken: gone.taken,
-        event,
-    }
-}
-
-// Where an intersection came to, as a machine.
-fn of_intersection(gone: block_wand_intersection::Gone) -> Gone
-    ensures { result ≡ record { machine = variant.Intersection gone.intersection; taken = gone.taken; event = gone.event } }
-{
-    let to = gone.intersection;
-    let event = gone.event;
-    Gone {
-        machine: Machine::Intersection(to),
-        taken: gone.taken,
-        event,
-    }
-}
-
-// Where a plain scan came to, as a machine.
-fn of_plain(gone: plain_scan::Gone) -> Gone
-    ensures { result ≡ record { machine = variant.Plain gone.plain; taken = gone.taken; event = gone.event } }
-{
-    let to = gone.plain;
-    let event = gone.event;
-    Gone {
-        machine: Machine::Plain(to),
-        taken: gone.taken,
-        event,
-    }
-}
-
-// The machine goes on to its next report, to its end, or through the leg's turns.
+// The machine goes on to its next report, to its end, or through the leg's turns. These four runs are all there are, which a match says
+// plainer than a trait would.
 pub fn go_on(
     file: &[u8],
     leg: Leg,
@@ -108,7 +48,7 @@ pub fn go_on(
     places: &mut Places,
     blocks: &mut Blocks,
     floats: &mut Floats,
-) -> Gone
+) -> Gone<Machine>
     requires { let old = tables order.old places.old blocks.old floats.old in
         (leg.similarity.norms ≡ norm_reader file.now) × StandsIn file.now leg.similarity lists.now norms.now old machine }
     ensures { let old = tables order.old places.old blocks.old floats.old in
@@ -118,19 +58,19 @@ pub fn go_on(
     match machine {
         Machine::Union(v) => {
             let g = walk::go(file, leg, v, lists, norms, order, places, blocks, floats);
-            of_union(g)
+            g.map(Machine::Union)
         }
         Machine::Single(v) => {
             let g = scan::go(file, leg, v, lists, norms, places, blocks, floats);
-            of_single(g)
+            g.map(Machine::Single)
         }
         Machine::Intersection(v) => {
             let g = intersection::go(file, leg, v, lists, norms, order, places, blocks, floats);
-            of_intersection(g)
+            g.map(Machine::Intersection)
         }
         Machine::Plain(v) => {
             let g = plain_scan::go(file, leg, v, lists, norms, places, blocks);
-            of_plain(g)
+            g.map(Machine::Plain)
         }
     }
 }

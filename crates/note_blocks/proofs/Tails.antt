@@ -13,29 +13,28 @@ use Rattle.arrays.specs.Every.{every}
 use Rattle.arrays.proofs.Every.{each, all}
 use Rattle.codec.specs.VInts.{vint_place, vint_value, vint_whole}
 use Rattle.codec.specs.Inner.VIntRows.{end_or, VIntsRead}
-use Rattle.codec.specs.declared.vint.VInts.{VInts}
-use Rattle.codec.specs.declared.vint.VInts.TheVariants.{End, Broken}
 use Rattle.notefile.specs.Lists.{full_blocks, tail_size, is_full, tail_at, tail_freqs_at, doc_value, freq_value}
 use Rattle.notefile.specs.Conditions.{postings_right}
 use Rattle.notefile.specs.Inner.Reads.{docs_of, freqs_of, Sized, TailRead}
 use Rattle.notefile.proofs.Pairs.{new-docs, new-freqs, old-docs, old-freqs, two-still}
 use Rattle.notefile.specs.declared.part.Part.{Part}
+use Rattle.std.proofs.Common.{Option, Some, None}
 
 -- what an answer of the VInts says
-broke : (z : Bool) (p : ℕ) {r : VInts} → r ≡ end_or z p → r ≡ Broken → z ≡ false
+broke : (z : Bool) (p : ℕ) {r : Option ℕ} → r ≡ end_or z p → r ≡ None → z ≡ false
 broke true p e f = cc
 broke false p e f = refl
 
-whole : (z : Bool) (p : ℕ) {q : ℕ} {r : VInts} → r ≡ end_or z p → r ≡ End q → z ≡ true
+whole : (z : Bool) (p : ℕ) {q : ℕ} {r : Option ℕ} → r ≡ end_or z p → r ≡ Some q → z ≡ true
 whole true p e f = refl
 whole false p e f = cc
 
-ends : (z : Bool) (p : ℕ) {q : ℕ} {r : VInts} → r ≡ end_or z p → r ≡ End q → q ≡ p
+ends : (z : Bool) (p : ℕ) {q : ℕ} {r : Option ℕ} → r ≡ end_or z p → r ≡ Some q → q ≡ p
 ends true p e f = cc
 ends false p e f = cc
 
 -- all of a row's values, where all are whole
-row : {s : List ℕ} {e p n : ℕ} {vs out : List ℕ} {r : VInts} → VIntsRead s e p n vs r out → every n (vint_whole s e p) ≡ true → (i : ℕ) → i < n → get_or out i 0 ≡ vint_value s e p i
+row : {s : List ℕ} {e p n : ℕ} {vs out : List ℕ} {r : Option ℕ} → VIntsRead s e p n vs r out → every n (vint_whole s e p) ≡ true → (i : ℕ) → i < n → get_or out i 0 ≡ vint_value s e p i
 row {s} {e} {p} {n} R w i h = R.values i h (all (vint_whole s e p) (suc i) (λ k l. each (vint_whole s e p) n k w (omega arith)))
 
 -- the parts of condition 6
@@ -61,7 +60,7 @@ module _ (file : List ℕ) (x : Part) {at : ℕ} (ea : at ≡ tail_at file x) wh
   unfolding postings_right
   past_end l = wrong (rw (lt-leb (tail_at file x) x.end (omega arith))) (λ i h. refl) (λ i h. refl)
 
-  module _ (inside : at ≤ x.end) {before docs : List ℕ} {r : VInts} (R : VIntsRead file x.end at (tail_size x) before r docs) where
+  module _ (inside : at ≤ x.end) {before docs : List ℕ} {r : Option ℕ} (R : VIntsRead file x.end at (tail_size x) before r docs) where
     rest-is : postings_right file x ≡ docs-whole file x && (freqs-whole file x && fills file x)
     unfolding postings_right
     rest-is = rw (le-leb (tail_at file x) x.end (omega arith))
@@ -72,10 +71,10 @@ module _ (file : List ℕ) (x : Part) {at : ℕ} (ea : at ≡ tail_at file x) wh
     docs-here : Kept before docs
     docs-here i h = R.kept i (inl h)
 
-    pub docs-broken : {freqs : List ℕ} → r ≡ Broken → TailRead file x before freqs false docs freqs
+    pub docs-broken : {freqs : List ℕ} → r ≡ None → TailRead file x before freqs false docs freqs
     docs-broken b = wrong (rest-is ∙ ap (λ (z : Bool). z && (freqs-whole file x && fills file x)) (broke (docs-whole file x) _ same-1 b)) docs-here (λ i h. refl)
 
-    module _ {middle : ℕ} (m : r ≡ End middle) {before2 freqs : List ℕ} {r2 : VInts} (R2 : VIntsRead file x.end middle (tail_size x) before2 r2 freqs) where
+    module _ {middle : ℕ} (m : r ≡ Some middle) {before2 freqs : List ℕ} {r2 : Option ℕ} (R2 : VIntsRead file x.end middle (tail_size x) before2 r2 freqs) where
       whole-1 : docs-whole file x ≡ true
       whole-1 = whole (docs-whole file x) _ same-1 m
 
@@ -88,10 +87,10 @@ module _ (file : List ℕ) (x : Part) {at : ℕ} (ea : at ≡ tail_at file x) wh
       same-2 : r2 ≡ end_or (freqs-whole file x) (vint_place file x.end (tail_freqs_at file x) (tail_size x))
       same-2 = rw mid at R2.same
 
-      pub freqs-broken : r2 ≡ Broken → TailRead file x before before2 false docs freqs
+      pub freqs-broken : r2 ≡ None → TailRead file x before before2 false docs freqs
       freqs-broken b = wrong (then_is ∙ ap (λ (z : Bool). z && fills file x) (broke (freqs-whole file x) _ same-2 b)) docs-here (λ i h. R2.kept i (inl h))
 
-      module _ {last : ℕ} (l : r2 ≡ End last) where
+      module _ {last : ℕ} (l : r2 ≡ Some last) where
         whole-2 : freqs-whole file x ≡ true
         whole-2 = whole (freqs-whole file x) _ same-2 l
 
@@ -114,7 +113,7 @@ module _ (file : List ℕ) (x : Part) {at : ℕ} (ea : at ≡ tail_at file x) wh
 
 -- the same of the block whose arrays they are written to, one after the other
 module _ (file : List ℕ) (x : Part) {at : ℕ} (ea : at ≡ tail_at file x) (inside : at ≤ x.end) {block : List (List ℕ)} (Z : Sized block)
-    {docs : List ℕ} {r : VInts} (R : VIntsRead file x.end at (tail_size x) (docs_of block) r docs) where
+    {docs : List ℕ} {r : Option ℕ} (R : VIntsRead file x.end at (tail_size x) (docs_of block) r docs) where
   abbrev one : List (List ℕ)
   one = set block 0 docs
 
@@ -124,10 +123,10 @@ module _ (file : List ℕ) (x : Part) {at : ℕ} (ea : at ≡ tail_at file x) (i
   pub freqs-fit : length (freqs_of one) ≡ 128
   freqs-fit = ap length freqs-same ∙ Z.long-freqs
 
-  pub docs-broken-in : r ≡ Broken → TailRead file x (docs_of block) (freqs_of block) false (docs_of one) (freqs_of one)
+  pub docs-broken-in : r ≡ None → TailRead file x (docs_of block) (freqs_of block) false (docs_of one) (freqs_of one)
   docs-broken-in b = rw (new-docs block Z.two docs, freqs-same) (docs-broken file x ea inside R b)
 
-  module _ {middle : ℕ} (m : r ≡ End middle) {freqs : List ℕ} {r2 : VInts} (R2 : VIntsRead file x.end middle (tail_size x) (freqs_of one) r2 freqs) where
+  module _ {middle : ℕ} (m : r ≡ Some middle) {freqs : List ℕ} {r2 : Option ℕ} (R2 : VIntsRead file x.end middle (tail_size x) (freqs_of one) r2 freqs) where
     abbrev both : List (List ℕ)
     both = set one 1 freqs
 
@@ -140,8 +139,8 @@ module _ (file : List ℕ) (x : Part) {at : ℕ} (ea : at ≡ tail_at file x) (i
     second : VIntsRead file x.end middle (tail_size x) (freqs_of block) r2 freqs
     second = rw freqs-same at R2
 
-    pub freqs-broken-in : r2 ≡ Broken → TailRead file x (docs_of block) (freqs_of block) false (docs_of both) (freqs_of both)
+    pub freqs-broken-in : r2 ≡ None → TailRead file x (docs_of block) (freqs_of block) false (docs_of both) (freqs_of both)
     freqs-broken-in b = rw (docs-are, freqs-are) (freqs-broken file x ea inside R m second b)
 
-    pub filled_in : {last : ℕ} → r2 ≡ End last → TailRead file x (docs_of block) (freqs_of block) (eqb last x.end) (docs_of both) (freqs_of both)
+    pub filled_in : {last : ℕ} → r2 ≡ Some last → TailRead file x (docs_of block) (freqs_of block) (eqb last x.end) (docs_of both) (freqs_of both)
     filled_in l = rw (docs-are, freqs-are) (filled file x ea inside R m second l)

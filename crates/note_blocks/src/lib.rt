@@ -8,7 +8,7 @@ ghost use Rattle.notefile.specs.Inner.Structs.{skip_entry_of};
 ghost use Rattle.notefile.specs.Inner.Given.{PackedIn, Skipped};
 ghost use Rattle.notefile.specs.Inner.Reads.{docs_of, freqs_of, DocsRead, FreqsRead, Sized, TailRead};
 
-use codec::vint::{VInts, read_vints};
+use codec::vint::read_vints;
 use compression::documents::documents;
 use frequencies::frequencies;
 use notefile::block::{Block, DOCS, FREQS};
@@ -33,7 +33,7 @@ pub fn packed_docs(
 {
     unpack(file, at, e.doc_bits, docs);
     // 128 values of at most 24 bits, each with its 1, add up to at most 2^31.
-    let narrow = if e.strict { e.doc_bits <= 24 } else { false };
+    let narrow = e.strict && e.doc_bits <= 24;
     if documents(docs, 128, e.strict, b == 0, previous, limit, narrow) {
         let last = docs[127];
         return last == e.last;
@@ -66,12 +66,10 @@ pub fn read_tail(file: &[u8], x: Part, at: usize, block: &mut Block) -> bool
         return false;
     }
     let n = x.count % 128;
-    let first = read_vints(file, x.end, at, n, &mut block[DOCS]);
-    let VInts::End(middle) = first else {
+    let Some(middle) = read_vints(file, x.end, at, n, &mut block[DOCS]) else {
         return false;
     };
-    let second = read_vints(file, x.end, middle, n, &mut block[FREQS]);
-    let VInts::End(last) = second else {
+    let Some(last) = read_vints(file, x.end, middle, n, &mut block[FREQS]) else {
         return false;
     };
     last == x.end

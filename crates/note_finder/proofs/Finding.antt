@@ -1,16 +1,12 @@
 -- What the finder makes of a run's outcome.
 use mathlib.Core.Path.{ap, refl, subst, sym, ◌∙◌, ◌≡◌}
-use mathlib.Core.Bool.{true≢false}
 use mathlib.Core.List.{List, []}
 use Prim.Native.Nat.{ℕ, suc, zero, ◌<◌, ◌≤◌}
 use native.Mathlib.Omega.{arith}
-use lib.Dec.{eqb}
 use lib.ListN.{length}
 use lib.Ieee.{Float}
-use borrow.Author.Tests.{eq-eqb}
 use Rattle.route.specs.F32.{f32}
 use Rattle.route.specs.Report.{Report}
-use Rattle.route.proofs.Cases.{on_test}
 use Rattle.rule.specs.declared.Rule.TheVariants.{BestK}
 use Rattle.rulecheck.proofs.RightRules.{keeps}
 use Rattle.reports.specs.Rows.{Rows, rows_in, rows_of}
@@ -20,26 +16,19 @@ use Rattle.best_notes.specs.Inner.Kept.{Clear, Gathered}
 use Rattle.decoded.specs.Inner.Bytes.{Bytes}
 use Rattle.request.specs.Request.{refusal_of}
 use Rattle.request.specs.Lists.{SkippingList}
-use Rattle.request.proofs.Requests.{let_through, refusal-below}
-use Rattle.outcome.specs.Outcomes.{count_of, number_of, outcome_for}
+use Rattle.request.proofs.Requests.{let_through}
+use Rattle.outcome.specs.Refusals as refusals
+use Rattle.outcome.specs.Outcomes.{count_of, number_of}
+use Rattle.outcome.specs.declared.refusal.Refusal.{Refusal}
+use Rattle.outcome.specs.declared.refusal.Refusal.TheVariants.{Notes}
 use Rattle.outcome.specs.declared.Outcome.{Outcome}
 use Rattle.outcome.specs.declared.Outcome.TheVariants.{Done, Full, Refused}
-use Rattle.outcome.proofs.ByNumber.{refused-for}
+use Rattle.outcome.proofs.ByNumber.{no-refusal}
 use Rattle.ranking.specs.Answers.{Answered, RunIs, WrittenIn, answer}
 use Rattle.ranking.proofs.Demand.{given-of}
 use Rattle.note_finder.specs.Found.{FindIs, Sought, find_refusal, notes_for, notes_of, run_of}
 use Rattle.note_finder.proofs.Notes.{let-in, run-clear, run-notes}
 use Rattle.note_finder.proofs.Refusals.{enough, run-first, too_few}
-
--- a refusal's outcome does not turn on the count, and its number is not 0
-refused-any : (c m n number : ℕ) → Refused number ≡ outcome_for c m → (Refused number ≡ outcome_for c n) × (c ≡ 0 → ⊥)
-refused-any c m n number e =
-    on_test (eqb c 0) (λ f. let g : Refused number ≡ Done m = e ∙ rw f in let z : ◌≡◌ {A = ℕ} 0 1 = cc in absurd (omega arith))
-    (λ f. on_test (eqb c 12) (λ h. let g : Refused number ≡ Full m = e ∙ rw (f, h) in let z : ◌≡◌ {A = ℕ} 0 1 = cc in absurd (omega arith))
-    (λ h.
-    let g : outcome_for c m ≡ Refused c = rw (f, h) in
-    let k : outcome_for c n ≡ Refused c = rw (f, h) in
-    (e ∙ g ∙ sym k, λ z. absurd (true≢false (sym (eq-eqb c 0 z) ∙ f)))))
 
 module _ (s : Sought) (reports notes : Rows) where
   abbrev n : ℕ
@@ -59,18 +48,18 @@ module _ (s : Sought) (reports notes : Rows) where
   }
 
   -- refused before the run: nothing is written
-  untouched : (r : ℕ) → find_refusal s u ≡ r → (r ≡ 0 → ⊥) → Refused r ≡ outcome_for r 0 → FindIs s reports notes (Refused r) reports notes
-  untouched zero e ne f = absurd (ne refl)
-  untouched (suc r) e ne f =
-      by-refusal (suc r) e [] (λ z. absurd (ne z)) (none_written reports.documents reports.scores)
-      (record { outcome-is = f; written = none_written notes.documents notes.scores })
+  untouched : (r : ℕ) → find_refusal s u ≡ r → (refusal : Refusal) → refusals.number_of refusal ≡ r → FindIs s reports notes (Refused refusal) reports notes
+  untouched zero e refusal f = absurd ((no-refusal refusal).0 f)
+  untouched (suc r) e refusal f =
+      by-refusal (suc r) e [] (λ z. absurd (omega (arith, z))) (none_written reports.documents reports.scores)
+      (record { number_is = f; count-is = refl; written = none_written notes.documents notes.scores })
 
-  pub refused-first : {number : ℕ} → number ≡ refusal_of (run_of s) → (number ≡ 0 → ⊥) → FindIs s reports notes (Refused number) reports notes
-  refused-first {number} e ne =
-      untouched number (sym (run-first s u e ne)) ne (refused-for number ne (omega (arith, e, refusal-below (run_of s))))
+  pub refused-first : (refusal : Refusal) → refusals.number_of refusal ≡ refusal_of (run_of s) → FindIs s reports notes (Refused refusal) reports notes
+  refused-first refusal e =
+      untouched (refusals.number_of refusal) (sym (run-first s u e (no-refusal refusal).0)) refusal refl
 
-  pub refused-14 : {number : ℕ} → number ≡ refusal_of (run_of s) → number ≡ 0 → u < s.k → FindIs s reports notes (Refused 14) reports notes
-  refused-14 e z h = untouched 14 (sym (too_few s u e z h)) (λ (x : 14 ≡ 0). omega (arith, x)) refl
+  pub refused-14 : 0 ≡ refusal_of (run_of s) → u < s.k → FindIs s reports notes (Refused Notes) reports notes
+  refused-14 e h = untouched 14 (sym (too_few s u e refl h)) Notes refl
 
   -- the run was made
   module _ (room : s.k ≤ u) {o : Outcome} {reports' : Rows} (R : RunIs (run_of s) reports o reports') where
@@ -98,19 +87,18 @@ module _ (s : Sought) (reports notes : Rows) where
     by-run A = by-refusal r (enough s u room) R.list R.by-route R.answered.written A
 
     -- of another number than 0 there is no note
-    no_note : (p : Outcome) (c : ℕ) → code ≡ c → (c ≡ 0 → ⊥) → p ≡ outcome_for c 0 → FindIs s reports notes p reports' notes
-    no_note p zero e ne f = absurd (ne refl)
-    no_note p (suc c) e ne f =
+    no_note : (p : Outcome) (c : ℕ) → code ≡ c → (c ≡ 0 → ⊥) → number_of p ≡ c → count_of p ≡ 0 → FindIs s reports notes p reports' notes
+    no_note p zero e ne f k = absurd (ne refl)
+    no_note p (suc c) e ne f k =
         by-run (subst (λ (z : ℕ). Answered (record { code = z; rows = notes_for s z R.list }) notes p notes) (sym e)
-        (record { outcome-is = f; written = none_written notes.documents notes.scores }))
+        (record { number_is = f; count-is = k; written = none_written notes.documents notes.scores }))
 
     pub full : {count : ℕ} → o ≡ Full count → FindIs s reports notes (Full 0) reports' notes
-    full e = no_note (Full 0) 12 (sym number_is ∙ ap number_of e) (λ (x : 12 ≡ 0). omega (arith, x)) refl
+    full e = no_note (Full 0) 12 (sym number_is ∙ ap number_of e) (λ (x : 12 ≡ 0). omega (arith, x)) refl refl
 
-    pub not-run : {number : ℕ} → o ≡ Refused number → FindIs s reports notes (Refused number) reports' notes
-    not-run {number} e =
-        let w = refused-any code (length (answer r n R.list).rows) 0 number (sym e ∙ R.answered.outcome-is) in
-        no_note (Refused number) code refl w.1 w.0
+    pub not-run : {refusal : Refusal} → o ≡ Refused refusal → FindIs s reports notes o reports' notes
+    not-run {refusal} e =
+        no_note o (refusals.number_of refusal) (sym number_is ∙ ap number_of e) (no-refusal refusal).0 (ap number_of e) (ap count_of e)
 
     -- done: the notes are gathered from the rows
     pub done : Bytes s.file → {count m : ℕ} {notes' : Rows} → o ≡ Done count
@@ -122,6 +110,7 @@ module _ (s : Sought) (reports notes : Rows) where
         ap (λ (c : ℕ). best_of f32 s.k (rows_in c reports'.documents reports'.scores)) (sym (ap count_of e)) ∙ run-notes s bytes R (ap number_of e) in
         by-run (subst (λ (c : ℕ). Answered (record { code = c; rows = notes_for s c R.list }) notes (Done m) notes') (sym z)
         (record {
-          outcome-is = ap Done (G.count-is ∙ ap length k);
+          number_is = refl;
+          count-is = G.count-is ∙ ap length k;
           written = subst (λ (l : List (Report Float)). WrittenIn l notes notes') k G.written;
         }))

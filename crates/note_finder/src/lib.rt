@@ -1,7 +1,7 @@
 // The note finder: the k best notes of a query, by falling score, then rising document.
 //
 // It stands on what `ranking` says, and on nothing of how a run goes, as its imports show. Of `ranking` the code takes `run` alone; beside
-// it stands `refusal`, whose contract is the table. Of a run the proofs take `RunIs`, the contract of `run`, and laws that follow from it
+// it stands `check_request`, whose contract is the table. Of a run the proofs take `RunIs`, the contract of `run`, and laws that follow from it
 // (the modules Demand and Counts of `ranking`). The other modules that they name hold the definitions in that contract and laws of those:
 // requests and refusals, rows, outcomes, the plain scan's matches. No crate in which a run is made, between `request` and `ranking`, is in
 // this crate's line of crates.txt.
@@ -15,9 +15,10 @@ ghost use Rattle.note_finder.specs.Found.{FindIs, sought};
 use best_notes::gather;
 use bm25::Scoring;
 use outcome::Outcome;
+use outcome::refusal::Refusal;
 use ranking::skipping::run;
 use reports::rows;
-use request::{Mode, refusal};
+use request::{Mode, check_request};
 use rule::Rule;
 
 // The run and its notes, where k note rows are lent.
@@ -47,7 +48,7 @@ fn best_of_run(
             Outcome::Done(m)
         }
         Outcome::Full(_) => Outcome::Full(0),
-        Outcome::Refused(number) => Outcome::Refused(number),
+        Outcome::Refused(_) => r,
     }
 }
 
@@ -70,11 +71,10 @@ pub fn find(
 {
     if rows(documents, scores) < k as usize {
         let script: [f32; 0] = [];
-        let number = refusal(file, query, mode, scoring, Rule::BestK(start, k), &script);
-        if number != 0 {
-            return Outcome::Refused(number);
-        }
-        return Outcome::Refused(14);
+        return match check_request(file, query, mode, scoring, Rule::BestK(start, k), &script) {
+            Err(refusal) => Outcome::Refused(refusal),
+            Ok(()) => Outcome::Refused(Refusal::Notes),
+        };
     }
     best_of_run(
         file, query, mode, scoring, start, k, reported, values, documents, scores,

@@ -15,7 +15,7 @@ use Rattle.pieces.proofs.Puts.{put-nothing, put_as, put-behind}
 use Rattle.encode.specs.Fields.{Field, field_bytes, entry_fields}
 use Rattle.encode.specs.Inner.FieldsFit.{Fit}
 use Rattle.encode.proofs.FieldBytes.{fields-long}
-use Rattle.note_front.specs.Inner.Front.{entry_bytes, entries_bytes, all_entries, EntriesFit}
+use Rattle.note_front.specs.Inner.Front.{entry_bytes, entries_bytes, EntriesFit}
 
 -- a weight's bits, beside numbers within their limits
 pub bits_in : (w : Float) → T (fits binary32 w) → to_bits binary32 w < 4294967296
@@ -88,6 +88,3 @@ module _ (weights : List Float) (counts postings : List ℕ) where
           (put-behind E.put (omega (arith, entries-long l)) (put_as P (sym (entry-is l))))
           (sym (entries-more l) ∙ ap entries_to (sym (add-one l)));
     }
-
-    pub all-entered : length counts ≤ l → Put before 9 (all_entries weights counts postings) out
-    all-entered h = put_as E.put (ap entries_to (omega (arith, h, E.inside)))

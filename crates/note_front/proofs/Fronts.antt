@@ -16,7 +16,7 @@ use Rattle.encode.specs.Fields.{Field, field_bytes, header_fields}
 use Rattle.encode.specs.Inner.FieldsFit.{Fit}
 use Rattle.encode.proofs.FieldBytes.{fields-long}
 use Rattle.contents.specs.declared.Head.{Head}
-use Rattle.note_front.specs.Inner.Front.{all_entries, EntriesFit, head_bytes, front_bytes, FrontFits}
+use Rattle.note_front.specs.Inner.Front.{all_entries, head_bytes, front_bytes, FrontFits}
 use Rattle.note_front.proofs.Entries.{bits_in, entries-long}
 
 -- an average that the table lets through is no NaN
@@ -66,16 +66,6 @@ module _ (h : Head) (norms : List ℕ) (weights : List Float) (counts postings :
       ),
       omega (arith, F.room),
     )
-
-    pub entries_fit : {mid : List ℕ} → length mid ≡ length out → EntriesFit weights counts postings mid
-    entries_fit e = record {
-      few-lists = F.few-lists;
-      weights-long = F.weights-long;
-      weight-in = F.weight-in;
-      count-in = F.count-in;
-      short = F.short;
-      room = omega (arith, e, F.room);
-    }
 
   -- the three pieces are the front
   pub front-put : {out mid next after : List ℕ} → Put out 0 (field_bytes 9 head_fields) mid

@@ -13,8 +13,7 @@ fn write_entries(weights: &[f32], counts: &[u32], postings: &[usize; 16], out: &
     requires { EntriesFit weights.now counts.now postings.now out.old }
     ensures { Put out.old 9 (all_entries weights.now counts.now postings.now) out.new }
 {
-    let mut l: usize = 0;
-    while l < counts.len() {
+    for l in 0..counts.len() {
         let n = counts[l] as u64;
         write_entry(
             out,
@@ -25,7 +24,6 @@ fn write_entries(weights: &[f32], counts: &[u32], postings: &[usize; 16], out: &
             8 * (n / 128),
             postings[l] as u64,
         );
-        l += 1;
     }
 }
 

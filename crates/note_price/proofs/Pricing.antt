@@ -9,6 +9,8 @@ use native.Mathlib.Omega.{arith}
 use lib.Dec.{eqb}
 use lib.ListN.{length, get_or, set, length-set}
 use lib.Seq.{get_or-set_same, get_or-set_other}
+use Rattle.std.specs.Prelude.{Result}
+use Rattle.outcome.specs.declared.refusal.Refusal.{Refusal}
 use Rattle.contents.specs.Contents.{Contents, lists, weight_of, count_of, list_at, reader_of}
 use Rattle.contents.specs.Refusal.{head_refusal, contents_refusal}
 use Rattle.contents.specs.Inner.HeadOk.{HeadOk}
@@ -21,7 +23,6 @@ use Rattle.contents.proofs.Refused.{refusal_is, lists-none, lists-next}
 use Rattle.house.specs.House.{list_skips, list_postings}
 use Rattle.house.specs.Inner.Listed.{Listed, listed, listed_refusal, postings_in, Fits, Topped, listed_of, blocks_at}
 use Rattle.list_price.specs.Inner.Prices.{Priced}
-use Rattle.list_price.specs.declared.list.ListPrice.{ListPrice}
 use Rattle.fieldnorm.specs.declared.FieldNormReader.{FieldNormReader}
 use Rattle.house.specs.Inner.Whole.{PricedWhole}
 use Rattle.house.proofs.FilePlaces.{list_place, next-list, parts_none, house-long}
@@ -95,24 +96,16 @@ module _ (c : Contents) where
           ];
         }
 
-    pub all-priced : lists c ≤ l → {r : Price} → r.refusal ≡ 0 → r.postings ≡ postings → r.total ≡ total → PricedWhole c r tops
-    all-priced h {r} e ep et =
-        let z : l ≡ lists c = omega (arith, P.within) in
-        record {
-          refusal_is = e ∙ sym (refusal_is c ∙ or-none (none-refused c H) ∙ ap (lists_refusal c) (sym z) ∙ P.clear);
-          postings-are = λ _ k g. ap (λ (x : List ℕ). get_or x k 0) ep ∙ P.postings-are k (omega arith);
-          total-is = λ _. et ∙ P.total-is ∙ ap (list_place c) z ∙ sym (house-long c);
-          tops_are = λ _ k g. P.tops_are k (omega arith);
-        }
-
--- a refusal, whatever else is said beside it
-pub none-priced : (c : Contents) {r : Price} {n : ℕ} → r.refusal ≡ n → n ≡ contents_refusal c → 0 < n → (tops : List ℕ) → PricedWhole c r tops
-none-priced c {r} {n} e f h tops = record {
-  refusal_is = e ∙ f;
-  postings-are = λ z. absurd (omega (arith, z, e));
-  total-is = λ z. absurd (omega (arith, z, e));
-  tops_are = λ z. absurd (omega (arith, z, e));
-}
+    pub all-priced : lists c ≤ l → {r : Price} → r.postings ≡ postings → r.total ≡ total → (contents_refusal c ≡ 0) × PricedWhole c r tops
+    all-priced h {r} ep et =
+        let z : l ≡ lists c = omega (arith, P.within) in (
+          refusal_is c ∙ or-none (none-refused c H) ∙ ap (lists_refusal c) (sym z) ∙ P.clear,
+          record {
+            postings-are = λ k g. ap (λ (x : List ℕ). get_or x k 0) ep ∙ P.postings-are k (omega arith);
+            total-is = et ∙ P.total-is ∙ ap (list_place c) z ∙ sym (house-long c);
+            tops_are = λ k g. P.tops_are k (omega arith);
+          },
+        )
 
 -- a call of `price_list`, and what it leaves, by the contents
 module _ (c : Contents) (l : ℕ) {reader : FieldNormReader} {from start : ℕ} (er : reader ≡ reader_of c (eqb c.kind 0)) (ef : from ≡ list_at c l)
@@ -129,13 +122,12 @@ module _ (c : Contents) (l : ℕ) {reader : FieldNormReader} {from start : ℕ} 
   pub call-room : HeadOk c → l < lists c → start + count_of c l / 128 ≤ 131072
   call-room H h = rw es (blocks-in c H l h)
 
-  pub call-gives : {tops₀ tops : List ℕ} {r : ListPrice} → Priced called c.documents start tops₀ r tops
+  pub call-gives : {tops₀ tops : List ℕ} {r : Result ℕ Refusal} → Priced called c.documents start tops₀ r tops
       → Priced (listed_of c l) c.documents (blocks_at c l) tops₀ r tops
   call-gives {tops₀} {tops} {r} P =
       subst (λ (y : Listed). Priced y c.documents (blocks_at c l) tops₀ r tops) called_is
       (subst (λ (k : ℕ). Priced called c.documents k tops₀ r tops) es P)
 
 -- contents that rows 1 to 4 refuse
-pub head-priced : (c : Contents) {r : Price} {n : ℕ} → r.refusal ≡ n → n ≡ head_refusal c → 0 < n → (tops : List ℕ) → PricedWhole c r tops
-head-priced c {r} {n} e f h tops =
-    none-priced c e (f ∙ sym (refusal_is c ∙ or_some (head_refusal c) (lists_refusal c (lists c)) (omega (arith, f)))) h tops
+pub head-refused : (c : Contents) {n : ℕ} → n ≡ head_refusal c → 0 < n → n ≡ contents_refusal c
+head-refused c {n} f h = f ∙ sym (refusal_is c ∙ or_some (head_refusal c) (lists_refusal c (lists c)) (omega (arith, f)))

@@ -1,22 +1,17 @@
 -- What the writer answers and leaves (02, order 1): "Contents that the reader would refuse get the reader's number .. Bytes past the file's end
 -- stay. Success returns 0 and the length. Errors: 13, the output is too short; it comes last .. a refusal returns count 0 and leaves lent
 -- memory alone".
-use Rattle.std.specs.Prelude.{◌≡◌, List, [], ◌∷◌, ◌++◌, ℕ, zero, suc, leb, length, drop}
+use Rattle.std.specs.Prelude.{◌≡◌, List, [], ◌∷◌, ◌++◌, ℕ, zero, suc, leb, length, drop, Result, Ok, Err}
+use Rattle.outcome.specs.Refusals.{refusal_number}
+use Rattle.outcome.specs.declared.refusal.Refusal.{Refusal}
 use Rattle.notefile.specs.Refusal.{Test, test, first_refusal}
 use Rattle.contents.specs.Contents.{Contents}
 use Rattle.contents.specs.Refusal.{contents_tests}
 use Rattle.house.specs.House.{house_file}
-use Rattle.note_writer.specs.declared.Written.{Written}
-use Rattle.note_writer.specs.declared.Written.TheVariants.{File, Refused}
 
--- an answer's number, and the length beside it
-abbrev pub number_of : Written → ℕ
-number_of (File length) = 0
-number_of (Refused number) = number
-
-abbrev pub length_of : Written → ℕ
-length_of (File length) = length
-length_of (Refused number) = 0
+abbrev pub length_of : Result ℕ Refusal → ℕ
+length_of (Ok length) = length
+length_of (Err refusal) = 0
 
 -- the contents' rows in the table's order, and last whether an output of so many bytes is long enough
 unfoldable pub write_tests : Contents → ℕ → List Test
@@ -26,16 +21,17 @@ unfoldable pub write_refusal : Contents → ℕ → ℕ
 unfolding write_tests
 write_refusal c room = first_refusal (write_tests c room)
 
--- the answer for a refusal, 0 being none, and a file
-abbrev pub answer_for : ℕ → List ℕ → Written
-answer_for zero file = File (length file)
-answer_for (suc n) file = Refused (suc n)
+-- the length for a refusal, 0 being none, and a file; and what the output holds then: the file and behind it what stood there, or all of that
+abbrev pub length_for : ℕ → List ℕ → ℕ
+length_for zero file = length file
+length_for (suc n) file = 0
 
--- what the output holds then: the file and behind it what stood there, or all that stood there
 abbrev pub output_for : ℕ → List ℕ → List ℕ → List ℕ
 output_for zero file out = file ++ drop (length file) out
 output_for (suc n) file out = out
 
-pub record WriteIs (c : Contents) (old : List ℕ) (r : Written) (new : List ℕ) : Type 0 where
-  pub answer-is : r ≡ answer_for (write_refusal c (length old)) (house_file c)
+-- an answer with its number and its length, which no other has
+pub record WriteIs (c : Contents) (old : List ℕ) (r : Result ℕ Refusal) (new : List ℕ) : Type 0 where
+  pub number_is : refusal_number r ≡ write_refusal c (length old)
+  pub length-is : length_of r ≡ length_for (write_refusal c (length old)) (house_file c)
   pub output-is : new ≡ output_for (write_refusal c (length old)) (house_file c) old

@@ -22,8 +22,6 @@ use Rattle.notefile.specs.Inner.Structs.{header_of}
 use Rattle.notefile.specs.declared.header.Header.{Header}
 use Rattle.notefile.proofs.Order.{lists-next}
 use Rattle.notefile.proofs.Accepted.{after1, after2, after3}
-use Rattle.notecheck.specs.Answers.{answer_of}
-use Rattle.notecheck.specs.declared.check.Checked.TheVariants.{Accepted, Refused}
 
 first-stays : (m n : ℕ) → (m ≡ 0 → ⊥) → or_else m n ≡ m
 first-stays zero n h = absurd (h refl)
@@ -102,11 +100,3 @@ module _ (file : List ℕ) where
 
         pub lists : every n (entry_right file) ≡ true → {r : ℕ} → r ≡ lists_refusal file n → r ≡ file_refusal file
         lists e q = q ∙ sym (past3 ∙ ap (λ (z : Bool). unless z 4 (lists_refusal file n)) e)
-
--- the answer
-pub accepted : {n m : ℕ} → n ≡ m → n ≡ 0 → Accepted ≡ answer_of m
-accepted e z = sym (ap answer_of (sym e ∙ z))
-
-pub refused : (n : ℕ) {m : ℕ} → n ≡ m → (n ≡ 0 → ⊥) → Refused n ≡ answer_of m
-refused zero e h = absurd (h refl)
-refused (suc n) e h = ap answer_of e

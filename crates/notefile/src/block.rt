@@ -12,11 +12,11 @@ pub const DOCS: usize = 0;
 
 pub const FREQS: usize = 1;
 
-// An array of 128 has 128 places.
+// An array of 128 has 128 places. The check knows this of an array that is lent alone, and not of one inside another.
 fn places(values: &[u32; 128]) -> usize
     ensures { (result ≡ 128) × (length values.now ≡ 128) }
 {
-    (&values[..]).len()
+    values.len()
 }
 
 // A block has two arrays of 128 places.
@@ -25,5 +25,5 @@ pub fn sized(block: &Block) -> usize
 {
     places(&block[DOCS]);
     places(&block[FREQS]);
-    (&block[..]).len()
+    block.len()
 }

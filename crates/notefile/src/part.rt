@@ -52,11 +52,9 @@ pub fn skips_at(file: &[u8], h: Header, n: usize) -> usize
     if h.kind == 0 {
         at += h.documents as usize;
     }
-    let mut l = 0usize;
-    while l < n {
+    for l in 0..n {
         let x = part_at(file, l, at);
         at = x.end;
-        l += 1;
     }
     at
 }

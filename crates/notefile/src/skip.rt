@@ -6,7 +6,7 @@ ghost use Rattle.notefile.specs.Inner.Structs.{last_before, skip_entry_of};
 ghost use Rattle.notefile.specs.Inner.Given.{Skipped};
 
 use crate::part::Part;
-use codec::bits::{read_u32, wide};
+use codec::bits::read_u32;
 
 // A skip entry: the block's last document, the widths of its documents and frequencies, whether it is strict, and the codes of its bound.
 #[derive(Clone, Copy)]
@@ -33,12 +33,12 @@ pub fn read_skip_entry(file: &[u8], x: Part, b: usize) -> SkipEntry
     ensures { result ≡ skip_entry_of file.now x b }
 {
     let at = skip_entry_at(file, x, b);
-    let byte = wide(file[at + 4]);
+    let byte = u32::from(file[at + 4]);
     SkipEntry {
         last: read_u32(file, at),
         doc_bits: byte % 32,
         strict: byte / 64 % 2 == 1,
-        freq_bits: wide(file[at + 5]),
+        freq_bits: u32::from(file[at + 5]),
         norm_code: file[at + x.skip_entry_len - 2],
         freq_code: file[at + x.skip_entry_len - 1],
     }

@@ -22,9 +22,8 @@ use Rattle.request.specs.Request.{query_right}
 use Rattle.request.specs.Lists.{SkippingList}
 use Rattle.request.specs.declared.Mode.{Mode}
 use Rattle.arguments.specs.Numbers.{mode_at, scoring_at, rule_at}
-use Rattle.outcome.specs.Outcomes.{count_of, number_of, outcome_for}
+use Rattle.outcome.specs.Outcomes.{count_of, number_of}
 use Rattle.outcome.specs.declared.Outcome.{Outcome}
-use Rattle.outcome.proofs.ByNumber.{told}
 use Rattle.ranking.specs.Answers.{WrittenIn, answer}
 use Rattle.ranking.specs.Demand.{Given, Result, result}
 use Rattle.note_finder.specs.Found.{FindIs, Sought, find_refusal, notes_for, notes_of, pool_of, reports_of, sought}
@@ -32,12 +31,6 @@ use Rattle.note_finder.proofs.Refusals.{find-or}
 use Rattle.noterank.specs.Interface.{Call, Found, find_refused, request_of, seeking, sought_of}
 use Rattle.noterank.specs.Inner.Calls.{numbers_refusal}
 use Rattle.noterank.proofs.Numbers.{tests-inside, tests-outside}
-
--- the number and the count of an answer with notes
-noted : (s : Sought) (list : List (Report Float)) (code : ℕ)
-    → (number_of (outcome_for code (length (notes_for s code list))) ≡ code) × (count_of (outcome_for code (length (notes_for s code list))) ≡ length (notes_for s code list))
-noted s list zero = (refl, refl)
-noted s list (suc code) = told (suc code) 0 (λ _ _. refl)
 
 -- there are at most k notes
 few-notes : (s : Sought) (list : List (Report Float)) (code : ℕ) → length (notes_for s code list) ≤ s.k
@@ -47,7 +40,7 @@ few-notes s list (suc code) = omega arith
 pub few-found : (s : Sought) {reports notes reports' notes' : Rows} {o : Outcome} → FindIs s reports notes o reports' notes' → count_of o ≤ s.k
 few-found s {reports} {notes} F =
     let a = reports_of s F.list reports notes in
-    omega (arith, ap count_of F.answered.outcome-is ∙ (noted s F.list a.code).1, few-notes s F.list a.code)
+    omega (arith, F.answered.count-is, few-notes s F.list a.code)
 
 module _ (file query : List ℕ) (mode scoring : ℕ) (start : Float) (k : ℕ) where
   abbrev c : Call
@@ -102,12 +95,9 @@ module _ (file query : List ℕ) (mode scoring : ℕ) (start : Float) (k : ℕ) 
       found-by er z {o} {reports'} {notes'} F en ec =
           let D = subst (λ (t : Sought). FindIs t reports notes o reports' notes') sought-is F in
           let e : find_refused c u ≡ find_refusal (sought_of c) u = call-or u ∙ tests-inside c (unless (leb k u) 14 0) (sym er ∙ z) ∙ sym (find-or (sought_of c) u) in
-          let a = reports_of (sought_of c) D.list reports notes in
-          let t = noted (sought_of c) D.list a.code in
-          let w = D.answered.outcome-is in
           by-refusal (find_refusal (sought_of c) u) e D.list D.by-route D.reported
           (record {
-            number_is = en ∙ ap number_of w ∙ t.0;
-            count-is = ec ∙ ap count_of w ∙ t.1;
+            number_is = en ∙ D.answered.number_is;
+            count-is = ec ∙ D.answered.count-is;
             written = D.answered.written;
           })

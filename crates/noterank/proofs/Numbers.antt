@@ -2,26 +2,22 @@
 use mathlib.Core.Path.{◌≡◌, refl, sym, ap, ◌∙◌, subst}
 use mathlib.Core.Bool.{Bool, true, false, cond, ◌&&◌}
 use mathlib.Core.List.{List, [], ◌∷◌}
-use Prim.Native.Nat.{ℕ, zero, suc, ◌≤◌, ◌<◌}
+use Prim.Native.Nat.{ℕ, zero, suc, ◌<◌}
 use native.Mathlib.Omega.{arith}
 use lib.Dec.{leb}
 use lib.Ieee.{Float}
-use borrow.Author.Tests.{le-leb, lt-leb}
 use Rattle.route.specs.Report.{Report}
 use Rattle.bm25.specs.declared.Scoring.{Scoring}
 use Rattle.rulecheck.specs.Right.{rule_right}
 use Rattle.rule.specs.declared.Rule.{Rule}
 use Rattle.notefile.specs.Header.{list_count}
-use Rattle.notefile.specs.Refusal.{test, unless, first_refusal, file_tests, file_refusal}
+use Rattle.notefile.specs.Refusal.{test, unless, file_tests, file_refusal}
 use Rattle.notefile.specs.Inner.Order.{or_else}
 use Rattle.notefile.proofs.Order.{first-append, file-numbered}
 use Rattle.reports.specs.Rows.{Rows, rows_of}
 use Rattle.reports.proofs.RowLaws.{none_written}
 use Rattle.decoded.specs.Inner.Bytes.{Bytes}
-use Rattle.notecheck.specs.Answers.{answer_of}
-use Rattle.notecheck.specs.declared.check.Checked.{Checked}
-use Rattle.notecheck.specs.declared.check.Checked.TheVariants.{Accepted, Refused}
-use Rattle.request.specs.Request.{Request, asked, query_right, query_tests, refusal_of}
+use Rattle.request.specs.Request.{Request, asked, query_right, refusal_of}
 use Rattle.request.specs.Lists.{plain_list}
 use Rattle.request.specs.declared.Mode.{Mode}
 use Rattle.request.proofs.Requests.{query-or, request-or}
@@ -34,18 +30,6 @@ use Rattle.ranking.proofs.Demand.{demand-3, given-of}
 use Rattle.ranking.proofs.Counts.{run-few, plain-few}
 use Rattle.noterank.specs.Interface.{Call, request_of, call_refusal, ListBy, Ranked}
 use Rattle.noterank.specs.Inner.Calls.{numbers_refusal, OutcomeBy}
-
--- ---- the judge's answer as a number
-
-answer-number : (r : ℕ) {a : Checked} → a ≡ answer_of r → ((a ≡ Accepted → 0 ≡ r) × ((n : ℕ) → a ≡ Refused n → n ≡ r))
-answer-number zero e = ((λ f. refl), (λ n f. let z : ◌≡◌ {A = ℕ} 0 1 = cc in absurd (omega arith)))
-answer-number (suc r) e = ((λ f. let z : ◌≡◌ {A = ℕ} 0 1 = cc in absurd (omega arith)), (λ n f. cc))
-
-pub accepted-number : (file : List ℕ) {a : Checked} → a ≡ answer_of (file_refusal file) → a ≡ Accepted → 0 ≡ file_refusal file
-accepted-number file e f = (answer-number (file_refusal file) e).0 f
-
-pub refused-number : (file : List ℕ) {a : Checked} {n : ℕ} → a ≡ answer_of (file_refusal file) → a ≡ Refused n → n ≡ file_refusal file
-refused-number file {a} {n} e f = (answer-number (file_refusal file) e).1 n f
 
 -- ---- the run of a walk
 
@@ -62,30 +46,6 @@ module _ (q : Request) (old new : Rows) (r : Outcome) where
   pub few-by : Bytes q.file → (walk : ℕ) → OutcomeBy walk q old r new → count_of r < 4294967296
   few-by bytes zero R = omega (arith, run-few q bytes R)
   few-by bytes (suc n) P = omega (arith, plain-few q bytes P)
-
--- ---- numbers outside their range
-
-pub or_is : (first later : ℕ) → ((first ≡ 0 → ⊥) → first ≡ or_else first later) × (first ≡ 0 → later ≡ or_else first later)
-or_is zero later = ((λ h. absurd (h refl)), (λ _. refl))
-or_is (suc first) later = ((λ _. refl), (λ e. absurd (omega (arith, e))))
-
-pub first-fails : (a b m n : ℕ) → m < a → (leb a m && leb b n) ≡ false
-first-fails a b m n h = rw (lt-leb a m h)
-
-pub second-fails : (a b m n : ℕ) → a ≤ m → n < b → (leb a m && leb b n) ≡ false
-second-fails a b m n g h = rw (le-leb a m g, lt-leb b n h)
-
-module _ (file query : List ℕ) (walk mode scoring rule : ℕ) where
-  pub all-numbers : walk ≤ 1 → mode ≤ 2 → scoring ≤ 1 → rule ≤ 1 → 0 ≡ numbers_refusal file query walk mode scoring rule
-  all-numbers a b c d = sym (rw (le-leb walk 1 a, le-leb mode 2 b, le-leb scoring 1 c, le-leb rule 1 d))
-
-  pub rule-outside : walk ≤ 1 → mode ≤ 2 → (leb scoring 1 && leb rule 1) ≡ false → {m : Mode} → m ≡ mode_at mode → {n r : ℕ} → n ≡ first_refusal (query_tests file query m) → r ≡ or_else n 11
-      → r ≡ numbers_refusal file query walk mode scoring rule
-  rule-outside a b c {m} e en er =
-      er ∙ ap (λ (z : ℕ). or_else z 11) (en ∙ ap (λ (z : Mode). first_refusal (query_tests file query z)) e) ∙ sym (rw (le-leb walk 1 a, le-leb mode 2 b, c))
-
-  pub walk-outside : (leb walk 1 && leb mode 2) ≡ false → {n r : ℕ} → n ≡ file_refusal file → r ≡ or_else n 10 → r ≡ numbers_refusal file query walk mode scoring rule
-  walk-outside c en er = er ∙ ap (λ (z : ℕ). or_else z 10) en ∙ sym (rw c)
 
 -- ---- the table's order over a call
 

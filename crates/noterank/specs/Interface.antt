@@ -8,7 +8,7 @@ use Rattle.notefile.specs.Refusal.{Test, test, first_refusal, file_tests}
 use Rattle.reports.specs.Rows.{Rows, rows_of}
 use Rattle.contents.specs.Contents.{Contents}
 use Rattle.house.specs.House.{house_file}
-use Rattle.note_writer.specs.Writes.{write_refusal, answer_for, length_of, output_for}
+use Rattle.note_writer.specs.Writes.{write_refusal, length_for, output_for}
 use Rattle.request.specs.Request.{Request, asked, query_right}
 use Rattle.request.specs.Lists.{plain_list, SkippingList}
 use Rattle.arguments.specs.Numbers.{mode_at, scoring_at, rule_at}
@@ -91,5 +91,5 @@ pub record Found (c : Call) (reports notes reports' : Rows) (x : Result) : Type 
 -- what `noterank_write` gives: a number, the length beside it, and what the output holds
 pub record WroteFile (c : Contents) (old : List ℕ) (number size : ℕ) (new : List ℕ) : Type 0 where
   pub number_is : number ≡ write_refusal c (length old)
-  pub size_is : size ≡ length_of (answer_for (write_refusal c (length old)) (house_file c))
+  pub size_is : size ≡ length_for (write_refusal c (length old)) (house_file c)
   pub output-is : new ≡ output_for (write_refusal c (length old)) (house_file c) old

@@ -3,7 +3,7 @@
 
 ghost use Rattle.std.specs.Prelude.{◌≡◌};
 ghost use Rattle.notefile.specs.Refusal.{file_refusal};
-ghost use Rattle.notefile.specs.Inner.Order.{or_else};
+ghost use Rattle.outcome.specs.Refusals.{refusal_number};
 ghost use Rattle.reports.specs.Rows.{rows};
 ghost use Rattle.request.specs.Request.{asked};
 ghost use Rattle.ranking.specs.Demand.{result as returned};
@@ -15,49 +15,42 @@ use arguments::{mode_at, rule_at, scoring_at, short};
 use bm25::Scoring;
 use contents::Head;
 use note_finder::find;
-use note_writer::{length_of, number_of as written_number, write};
-use notecheck::check::{Checked, check};
-use outcome::{Outcome, count_of, number_of};
+use note_writer::write;
+use notecheck::check::check;
+use outcome::Outcome;
+use outcome::refusal::{Refusal, refusal_number};
 use ranking::plain::plain;
 use ranking::skipping::run;
-use request::{Mode, query_refusal};
+use request::{Mode, check_query};
 use rule::Rule;
 
 // 0 for an accepted file, or the number of its refusal.
 pub fn noterank_check(file: &[u8]) -> u32
     ensures { result ≡ file_refusal file.now }
 {
-    match check(file) {
-        Checked::Accepted => 0,
-        Checked::Refused(n) => n,
-    }
+    refusal_number(check(file))
 }
 
-// The first of two refusals, 0 being none.
-fn or_else(first: u32, later: u32) -> u32
-    ensures { result ≡ or_else first later }
+// Whether a walk, a mode, a scoring and a rule are among their numbers. What comes before one that is not, in the table's order, refuses first.
+fn check_numbers(
+    file: &[u8],
+    query: &[u32],
+    walk: u32,
+    mode: u32,
+    scoring: u32,
+    rule: u32,
+) -> Result<(), Refusal>
+    ensures { refusal_number result ≡ numbers_refusal file.now query.now walk mode scoring rule }
 {
-    if first != 0 {
-        return first;
+    if walk > 1 || mode > 2 {
+        check(file)?;
+        return Err(Refusal::Query);
     }
-    later
-}
-
-// The refusal of a walk, a mode, a scoring or a rule outside its numbers, in the table's order, or 0.
-fn numbers_refusal(file: &[u8], query: &[u32], walk: u32, mode: u32, scoring: u32, rule: u32) -> u32
-    ensures { result ≡ numbers_refusal file.now query.now walk mode scoring rule }
-{
-    if walk <= 1 {
-        if mode <= 2 {
-            if scoring <= 1 {
-                if rule <= 1 {
-                    return 0;
-                }
-            }
-            return or_else(query_refusal(file, query, mode_at(mode)), 11);
-        }
+    if scoring > 1 || rule > 1 {
+        check_query(file, query, mode_at(mode))?;
+        return Err(Refusal::Rule);
     }
-    or_else(noterank_check(file), 10)
+    Ok(())
 }
 
 // A run by its walk.
@@ -112,10 +105,9 @@ pub fn noterank_run(
         })
         old (returned result count.new new) }
 {
-    let number = numbers_refusal(file, query, walk, mode, scoring, rule);
-    if number != 0 {
+    if let Err(refusal) = check_numbers(file, query, walk, mode, scoring, rule) {
         *count = 0;
-        return number;
+        return refusal.number();
     }
     let outcome = by_walk(
         file,
@@ -128,8 +120,8 @@ pub fn noterank_run(
         documents,
         scores,
     );
-    *count = short(count_of(outcome));
-    number_of(outcome)
+    *count = short(outcome.count());
+    outcome.number()
 }
 
 // The note file of contents; the header says what each argument is.
@@ -155,9 +147,16 @@ pub fn noterank_write(
         code,
         average,
     };
-    let answer = write(h, norms, weights, counts, docs, freqs, out);
-    *length = short(length_of(answer));
-    written_number(answer)
+    match write(h, norms, weights, counts, docs, freqs, out) {
+        Ok(size) => {
+            *length = short(size);
+            0
+        }
+        Err(refusal) => {
+            *length = 0;
+            refusal.number()
+        }
+    }
 }
 
 // The k best notes of a query; the header says what each argument is.
@@ -179,10 +178,9 @@ pub fn noterank_find(
         Found (seeking file.now query.now mode scoring start k) reports (rows documents.old scores.old)
         reports' (returned result count.new (rows documents.new scores.new)) }
 {
-    let number = numbers_refusal(file, query, 0, mode, scoring, 1);
     *count = 0;
-    if number != 0 {
-        return number;
+    if let Err(refusal) = check_numbers(file, query, 0, mode, scoring, 1) {
+        return refusal.number();
     }
     let outcome = find(
         file,
@@ -196,6 +194,6 @@ pub fn noterank_find(
         documents,
         scores,
     );
-    *count = short(count_of(outcome));
-    number_of(outcome)
+    *count = short(outcome.count());
+    outcome.number()
 }

@@ -4,6 +4,7 @@ use mathlib.Core.Path.{ap, refl, sym, subst, ◌∙◌, ◌≡◌}
 use Prim.Native.Nat.{suc, ℕ, ◌+◌, ◌-◌, ◌<◌, ◌≤◌}
 use native.Mathlib.Omega.{arith}
 use lib.Dec.{eqb}
+use Rattle.std.specs.Prelude.{Some, None}
 use lib.ListN.{drop, length, length-drop, take}
 use lib.Ieee.{Float}
 use borrow.Author.Tests.{eqb-false, eqb-true}
@@ -11,9 +12,9 @@ use Rattle.arrays.specs.Every.{All}
 use Rattle.route.specs.F32.{f32}
 use Rattle.route.specs.Postings.{TERMINATED}
 use Rattle.route.proofs.Cases.{on_test}
-use Rattle.ordering.specs.Inner.Pivots.{Found, before_pivot, count_on, highest, pivot_at, pivot_of, place_of_highest, place_to_seek}
+use Rattle.ordering.specs.Inner.Pivots.{Found, before_pivot, count_on, highest, pivot_at, pivot_of, place_of_highest, place_to_seek, pivot}
 use Rattle.term_scorer.specs.declared.TermScorer.{TermScorer}
-use Rattle.ordering.specs.declared.Pivot.TheVariants.{At, Nowhere}
+use Rattle.ordering.specs.declared.Pivot.{Pivot}
 use Rattle.ordering.proofs.Places.{drop-take}
 
 count-le : (d : ℕ) (xs : List TermScorer) → count_on d xs ≤ length xs
@@ -24,17 +25,18 @@ count-on : (d : ℕ) (xs : List TermScorer) → All (λ s. s.doc ≡ d) (take (c
 count-on d [] = tt
 count-on d (x ∷ xs) = let ih = count-on d xs in on_test (eqb x.doc d) (λ t. rw t (eqb-true x.doc d t, ih)) (λ t. rw t tt)
 
-found_at : (l : List TermScorer) (b₀ b k d : ℕ) (m : List TermScorer) → drop b₀ l ≡ m → At b k d ≡ pivot_at b₀ m → Found l b k d
+found_at : (l : List TermScorer) (b₀ b k d : ℕ) (m : List TermScorer) → drop b₀ l ≡ m → Some (pivot b k d) ≡ pivot_at b₀ m → Found l b k d
 found_at l b₀ b k d [] e q = let z : ◌≡◌ {A = ℕ} 0 1 = cc in absurd (omega arith)
 found_at l b₀ b k d (s ∷ ss) e q =
     let c = count_on s.doc ss in
     on_test (eqb s.doc TERMINATED)
-    (λ t. let n : At b k d ≡ Nowhere = rw t at q in let z : ◌≡◌ {A = ℕ} 0 1 = cc in absurd (omega arith))
+    (λ t. let n : Some (pivot b k d) ≡ None = rw t at q in let z : ◌≡◌ {A = ℕ} 0 1 = cc in absurd (omega arith))
     (λ t.
-    let n : At b k d ≡ At b₀ (b₀ + 1 + c) s.doc = rw t at q in
-    let nb : b ≡ b₀ = cc in
-    let nk : k ≡ b₀ + 1 + c = cc in
-    let nd : d ≡ s.doc = cc in
+    let n : Some (pivot b k d) ≡ Some (pivot b₀ (b₀ + 1 + c) s.doc) = rw t at q in
+    let same : pivot b k d ≡ pivot b₀ (b₀ + 1 + c) s.doc = cc in
+    let nb : b ≡ b₀ = ap (λ (p : Pivot). p.before_pivot_len) same in
+    let nk : k ≡ b₀ + 1 + c = ap (λ (p : Pivot). p.pivot_len) same in
+    let nd : d ≡ s.doc = ap (λ (p : Pivot). p.pivot_doc) same in
     let kb : k - b₀ ≡ suc c = omega arith in
     let le = count-le s.doc ss in
     let len : length l - b₀ ≡ suc (length ss) = sym (length-drop b₀ l) ∙ ap length e in
@@ -46,7 +48,7 @@ found_at l b₀ b k d (s ∷ ss) e q =
       live = λ z. eqb-false s.doc TERMINATED t (sym nd ∙ z);
     })
 
-pub pivot-found : (t : Float) (l : List TermScorer) {b k d : ℕ} → At b k d ≡ pivot_of t l → Found l b k d
+pub pivot-found : (t : Float) (l : List TermScorer) {b k d : ℕ} → Some (pivot b k d) ≡ pivot_of t l → Found l b k d
 unfolding pivot_of
 pivot-found t l {b} {k} {d} e =
     let b₀ = before_pivot t f32.nil l in

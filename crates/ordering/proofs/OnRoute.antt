@@ -20,7 +20,8 @@ use Rattle.ordering.specs.Inner.Scorers.{by_doc, least_doc_of, moved, no_scorer,
 use Rattle.ordering.specs.Inner.Pivots.{before_pivot, count_on, highest, pivot_at, pivot_of, place_to_seek}
 use Rattle.term_scorer.specs.declared.TermScorer.{TermScorer}
 use Rattle.ordering.specs.declared.Pivot as code
-use Rattle.ordering.specs.declared.Pivot.TheVariants.{At, Nowhere}
+use Rattle.std.specs.Prelude.{Some, None}
+use Rattle.std.specs.Prelude as prelude
 use Rattle.ordering.proofs.Places.{all-at, all_drop, drop-take, from_place-split, join, map-append}
 use Rattle.ordering.proofs.Carried as carried
 
@@ -42,9 +43,14 @@ module _ (f : TermScorer → Scorer Float) where
   around l i = record { left = map f (take i l); one = f (get_or l i no_scorer); right = map f (drop (suc i) l) }
 
   -- the route's answer at the places that a pivot names
-  abbrev pub pivot_in : List TermScorer → code.Pivot → Option (Pivot Float)
-  pivot_in l Nowhere = none
-  pivot_in l (At b k d) = some (record { pre = map f (take b l); piv = map f (drop b (take k l)); post = map f (drop k l); doc = d })
+  abbrev pub pivot_in : List TermScorer → prelude.Option code.Pivot → Option (Pivot Float)
+  pivot_in l None = none
+  pivot_in l (Some c) = some (record {
+    pre = map f (take c.before_pivot_len l);
+    piv = map f (drop c.before_pivot_len (take c.pivot_len l));
+    post = map f (drop c.pivot_len l);
+    doc = c.pivot_doc;
+  })
 
   -- ---- orders
 

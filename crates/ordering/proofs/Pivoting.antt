@@ -12,9 +12,9 @@ use borrow.Author.Tests.{eq-eqb, ne_eqb}
 use Rattle.route.specs.F32.{f32}
 use Rattle.route.specs.Postings.{TERMINATED}
 use Rattle.ordering.specs.Inner.Scorers.{no_scorer}
-use Rattle.ordering.specs.Inner.Pivots.{before_pivot, count_on, pivot_at, pivot_of}
+use Rattle.ordering.specs.Inner.Pivots.{before_pivot, count_on, pivot, pivot_at, pivot_of}
 use Rattle.term_scorer.specs.declared.TermScorer.{TermScorer}
-use Rattle.ordering.specs.declared.Pivot.TheVariants.{At, Nowhere}
+use Rattle.std.specs.Prelude.{Some, None}
 use Rattle.ordering.proofs.Places.{drop-take-cons, drop-take-nil}
 
 module _ (t : Float) (l : List TermScorer) (n : ℕ) where
@@ -81,16 +81,16 @@ module _ (t : Float) (l : List TermScorer) (n b : ℕ) (e : b ≡ before_pivot t
   unfolding pivot_of
   there = ap (λ (k : ℕ). pivot_at k (drop k (take n l))) e
 
-  pub none-exceeds : n ≤ b → Nowhere ≡ pivot_of t (take n l)
+  pub none-exceeds : n ≤ b → None ≡ pivot_of t (take n l)
   none-exceeds h = sym (ap (pivot_at b) (drop-take-nil l n b h)) ∙ there
 
   module _ (h : b < n) (long : n ≤ length l) where
     here : pivot_at b (get_or l b no_scorer ∷ drop (suc b) (take n l)) ≡ pivot_of t (take n l)
     here = sym (ap (pivot_at b) (drop-take-cons l n b no_scorer h long)) ∙ there
 
-    pub finished : (get_or l b no_scorer).doc ≡ TERMINATED → Nowhere ≡ pivot_of t (take n l)
+    pub finished : (get_or l b no_scorer).doc ≡ TERMINATED → None ≡ pivot_of t (take n l)
     finished q = let z = eq-eqb (get_or l b no_scorer).doc TERMINATED q in (rw z) ∙ here
 
     pub found : {k : ℕ} → ((get_or l b no_scorer).doc ≡ TERMINATED → ⊥) → k ≡ b + 1 + count_on (get_or l b no_scorer).doc (drop (b + 1) (take n l))
-        → At b k (get_or l b no_scorer).doc ≡ pivot_of t (take n l)
+        → Some (pivot b k (get_or l b no_scorer).doc) ≡ pivot_of t (take n l)
     found ne q = let z = ne_eqb (get_or l b no_scorer).doc TERMINATED ne in (rw (z, q, add-one)) ∙ here

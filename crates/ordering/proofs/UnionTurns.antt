@@ -14,10 +14,10 @@ use Rattle.route.specs.F32.{f32}
 use Rattle.route.specs.Scorer.{Scorer, advance, block_max_score, score_here, seek_block}
 use Rattle.route.specs.Route.{Load, Turn, loads_back, loads_of, quiet}
 use Rattle.route.specs.Union.{Around, UnionPlace, advance_all_scorers_on_pivot, after_align, after_pivot, align_scorers, aligned, block_max_was_too_low, called, go_on, missed, missed_on, on_pivot, over, scored, too_low_loads, union_turn}
-use Rattle.ordering.specs.Inner.Pivots.{pivot_of, Found}
+use Rattle.ordering.specs.Inner.Pivots.{pivot, pivot_of, Found}
 use Rattle.ordering.specs.Inner.Scorers.{Moving}
 use Rattle.term_scorer.specs.declared.TermScorer.{TermScorer}
-use Rattle.ordering.specs.declared.Pivot.TheVariants.{At, Nowhere}
+use Rattle.std.specs.Prelude.{Some, None}
 use Rattle.ordering.proofs.Places.{drop-take, join, map-append, map-drop, map-take}
 use Rattle.ordering.proofs.OnRoute.{Fair, pivot-on-route, pivot_in}
 use Rattle.ordering.proofs.Found.{pivot-found}
@@ -57,7 +57,7 @@ module _ (B : ℕ) (t : Float) (l : List TermScorer) (before len p : ℕ) (first
       ∙ ap (λ z. turned pre-now piv-now z (map f (drop len l))) (whole g l) ∙ ap (turned pre-now piv-now (map g (take len l))) post
 
   -- from the pivot that `find_pivot_doc` found
-  found_turn : {f g : TermScorer → Scorer Float} → All (Fair f) l → At before len p ≡ pivot_of t l
+  found_turn : {f g : TermScorer → Scorer Float} → All (Fair f) l → Some (pivot before len p) ≡ pivot_of t l
       → Moving (seek_block B p) f l len g l
       → union_turn B f32 t (go_on (map f l)) ≡ turned (map g (take before l)) (map g (drop before (take len l))) (map g (take len l)) (map g (drop len l))
   found_turn {f} fair e S =
@@ -129,11 +129,11 @@ module _ (B : ℕ) (t : Float) (p : ℕ) (ls : List Load) (h : TermScorer → Sc
 
 module _ (B : ℕ) (t : Float) (l : List TermScorer) (f : TermScorer → Scorer Float) (fair : All (Fair f) l) where
   -- no pivot ends the loop
-  pub nowhere-turn : Nowhere ≡ pivot_of t l → union_turn B f32 t (go_on (map f l)) ≡ quiet (record { stage = over; scorers = map f l }) []
+  pub nowhere-turn : None ≡ pivot_of t l → union_turn B f32 t (go_on (map f l)) ≡ quiet (record { stage = over; scorers = map f l }) []
   nowhere-turn e = ap (λ o. after_pivot B f32 t o (map f l)) (pivot-on-route f t l fair ∙ ap (pivot_in f l) (sym e))
 
   -- at a pivot, with the first len on their blocks for it
-  module _ (before len p : ℕ) (found : At before len p ≡ pivot_of t l) (g : TermScorer → Scorer Float) (sought : Moving (seek_block B p) f l len g l) where
+  module _ (before len p : ℕ) (found : Some (pivot before len p) ≡ pivot_of t l) (g : TermScorer → Scorer Float) (sought : Moving (seek_block B p) f l len g l) where
     abbrev block_max_sum : Float
     block_max_sum = sum f32 (map (block_max_score B f32) (map g (take len l)))
 

@@ -1,16 +1,20 @@
-// What a run returns.
+// What a run returns, and what refuses it.
 #![tactic(auto)]
+
+pub mod refusal;
 
 ghost use Rattle.std.specs.Prelude.{◌≡◌};
 ghost use Rattle.outcome.specs.Outcomes.{count_of, number_of};
 ghost use Rattle.outcome.specs.Inner.Finished.{finished};
 
-// The list is whole, with its length; or a report was due and the rows were full, with their number; or the table's number from 1 to 11.
+use crate::refusal::Refusal;
+
+// The list is whole, with its length; or a report was due and the rows were full, with their number; or the run was refused.
 #[derive(Clone, Copy)]
 pub enum Outcome {
     Done(usize),
     Full(usize),
-    Refused(u32),
+    Refused(Refusal),
 }
 
 // The outcome of a run that was let through.
@@ -23,24 +27,25 @@ pub fn finish(full: bool, count: usize) -> Outcome
     Outcome::Done(count)
 }
 
-// The table's number of an outcome.
-pub fn number_of(outcome: Outcome) -> u32
-    ensures { result ≡ number_of outcome }
-{
-    match outcome {
-        Outcome::Done(_) => 0,
-        Outcome::Full(_) => 12,
-        Outcome::Refused(number) => number,
+impl Outcome {
+    // The table's number.
+    pub fn number(self) -> u32
+        ensures { result ≡ number_of self }
+    {
+        match self {
+            Outcome::Done(_) => 0,
+            Outcome::Full(_) => 12,
+            Outcome::Refused(refusal) => refusal.number(),
+        }
     }
-}
 
-// How many rows it has.
-pub fn count_of(outcome: Outcome) -> usize
-    ensures { result ≡ count_of outcome }
-{
-    match outcome {
-        Outcome::Done(rows) => rows,
-        Outcome::Full(rows) => rows,
-        Outcome::Refused(_) => 0,
+    // How many rows it has.
+    pub fn count(self) -> usize
+        ensures { result ≡ count_of self }
+    {
+        match self {
+            Outcome::Done(rows) | Outcome::Full(rows) => rows,
+            Outcome::Refused(_) => 0,
+        }
     }
 }

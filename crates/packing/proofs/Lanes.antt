@@ -15,7 +15,7 @@ use Rattle.packing.specs.Packing.{stacked, lane_number, packed_byte, packed_bloc
 use Rattle.packing.specs.Inner.Fitting.{Fitting}
 use Rattle.pieces.proofs.Writes.{none, also}
 use Rattle.pieces.proofs.Puts.{put-bytes}
-use Rattle.packing.proofs.Packs.{stacked-lt, byte_of, below}
+use Rattle.packing.proofs.Packs.{stacked-lt, byte_of}
 
 -- values above bit e + 8 are no part of the byte there
 pub stacked-low : (w : ℕ) (f : ℕ → ℕ) (k r e : ℕ) → e + 8 ≤ k * w → stacked w (k + r) f / 2 ^ e % 256 ≡ stacked w k f / 2 ^ e % 256
@@ -169,13 +169,6 @@ module _ {vs : List ℕ} {w : ℕ} {before : List ℕ} {at : ℕ} {out : List �
         where
           up : (i : ℕ) → (i + 4) / 4 ≡ suc (i / 4)
           up i = omega arith
-
-      -- a word that is full lies inside the block
-      pub word_in : 32 ≤ shift + w → word < w
-      word_in l = go (i / 4 * w) (below (i / 4) 32 w (omega arith)) R.bits l
-        where
-          go : (b : ℕ) → b + w ≤ 32 * w → 32 * word + shift ≡ b → 32 ≤ shift + w → word < w
-          go b r e l = omega arith
 
       module _ {x y z u : ℕ} (ex : x ≡ get_or vs i 0) (ey : y ≡ get_or vs (i + 1) 0) (ez : z ≡ get_or vs (i + 2) 0) (eu : u ≡ get_or vs (i + 3) 0)
         where

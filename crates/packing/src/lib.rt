@@ -9,13 +9,6 @@ ghost use Rattle.packing.specs.Inner.Fitting.{Fitting};
 
 use pieces::write_low;
 
-// A value as a wider number.
-fn wide(x: u32) -> u64
-    ensures { result ≡ x }
-{
-    x as u64
-}
-
 // The packed block of 128 values, a row of four lanes at a time: `word` words of each lane are written, and `shift` bits of it are kept.
 pub fn pack(values: &[u32; 128], width: u32, out: &mut [u8], at: usize)
     requires { Fitting values.now width × (at + 16 * width ≤ length out.old) }
@@ -27,12 +20,12 @@ pub fn pack(values: &[u32; 128], width: u32, out: &mut [u8], at: usize)
     let mut d: u64 = 0;
     let mut word: usize = 0;
     let mut shift: u32 = 0;
-    let mut i: usize = 0;
-    while i < 128 {
-        a += wide(values[i]) << shift;
-        b += wide(values[i + 1]) << shift;
-        c += wide(values[i + 2]) << shift;
-        d += wide(values[i + 3]) << shift;
+    for row in 0..32 {
+        let i = 4 * row;
+        a += u64::from(values[i]) << shift;
+        b += u64::from(values[i + 1]) << shift;
+        c += u64::from(values[i + 2]) << shift;
+        d += u64::from(values[i + 3]) << shift;
         shift += width;
         if 32 <= shift {
             let p = at + 16 * word;
@@ -47,15 +40,7 @@ pub fn pack(values: &[u32; 128], width: u32, out: &mut [u8], at: usize)
             shift -= 32;
             word += 1;
         }
-        i += 4;
     }
-}
-
-// A value, and that it has 32 bits.
-fn told(x: u32) -> u32
-    ensures { (result ≡ x) × (result < 4294967296) }
-{
-    x
 }
 
 // The least width that holds 128 values: that of all their bits together.
@@ -64,10 +49,8 @@ pub fn num_bits(values: &[u32; 128]) -> u32
     ensures { result ≡ least_width values.now }
 {
     let mut all: u32 = 0;
-    let mut i: usize = 0;
-    while i < 128 {
-        all = all | told(values[i]);
-        i += 1;
+    for value in values {
+        all |= *value;
     }
     32 - u32::leading_zeros(all)
 }

@@ -16,12 +16,12 @@ use Rattle.bm25.specs.declared.Scoring.{Scoring}
 use Rattle.term_scorer.specs.declared.TermScorer.{TermScorer}
 use Rattle.notefile.specs.Header.{documents}
 use Rattle.decoded.specs.Lists.{queried}
-use Rattle.slot_rows.proofs.Rows.{cur-inside, doc-in-array}
+use Rattle.slot_rows.proofs.Rows.{doc-in-array}
 use Rattle.term_scorer.specs.Inner.Slots.{Held, list_at, lists_from}
 use Rattle.query.specs.Inner.Openings.{Tables, QueryOpened}
 use Rattle.query.proofs.Opening as opening
 use Rattle.scan_heads.specs.Inner.Found.{found_of, hit_in}
-use Rattle.scan_heads.specs.Inner.Heads.{HeadsOf, PlaceRead}
+use Rattle.scan_heads.specs.Inner.Heads.{HeadsOf}
 use Rattle.plain_scan.specs.Inner.Heads.{RestsFrom, Standing}
 use Rattle.plain_scan.specs.Inner.Turns.{hits_of, needs_all, PlainStands}
 use Rattle.plain_scan.specs.declared.Plain.{Plain}
@@ -30,9 +30,6 @@ use Rattle.plain_scan.proofs.Sums.{hit-is}
 
 module _ (scoring : Scoring) (file : List ℕ) (lists : List (List ℕ)) where
   module _ (norms : List (List Float)) (h : Held) (p : Plain) (S : PlainStands scoring file lists norms h p) where
-    pub places-read : PlaceRead h.places p.len
-    places-read q l = let A = (S.each q l).slot in cur-inside file (get_or lists q []) (get_or h.places q []) A.list A.place
-
     -- the heads that are read name where the scorers stand
     pub with-heads : {heads : List ℕ} → HeadsOf h.places h.blocks p.len heads → Standing scoring file lists p.len p.doc h heads
     with-heads {heads} E = record {

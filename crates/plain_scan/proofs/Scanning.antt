@@ -28,7 +28,7 @@ use Rattle.scan_heads.specs.declared.Found.{Found}
 use Rattle.scan_heads.proofs.Heading.{least_above, least-cap, least-low}
 use Rattle.plain_scan.specs.Inner.Heads.{Standing, Taken}
 use Rattle.plain_scan.specs.Inner.Turns.{due_for, gone_to, hits_of, scan_turn, GoneOn, PlainStands}
-use Rattle.plain_scan.specs.declared.Gone.{Gone}
+use Rattle.reports.specs.declared.Gone.{Gone}
 use Rattle.plain_scan.specs.declared.Plain.{Plain}
 use Rattle.plain_scan.proofs.Slots.{absent, ok, raised}
 use Rattle.plain_scan.proofs.Beginning.{at_rest}
@@ -156,7 +156,7 @@ module _ (scoring : Scoring) (file : List ℕ) (lists : List (List ℕ)) (n : �
 pub gone-on : (scoring : Scoring) (file : List ℕ) (lists : List (List ℕ)) (norms : List (List Float)) {h : Held} (p : Plain) → PlainStands scoring file lists norms h p
     → {t : Float} {turns d taken : ℕ} {h' : Held} {heads' : List ℕ} {event : Event} → Standing scoring file lists p.len d h' heads' → d ≤ TERMINATED
     → Went (scan_turn (hits_of scoring file lists p.len p.all)) (leb TERMINATED) t p.doc turns taken d event
-    → {r : Gone} → r ≡ gone_to p.len p.all d taken event → GoneOn scoring file lists norms t turns p h' r
+    → {r : Gone Plain} → r ≡ gone_to p.len p.all d taken event → GoneOn scoring file lists norms t turns p h' r
 gone-on scoring file lists norms p P {t} {turns} {h' = h'} S c w e =
     subst (GoneOn scoring file lists norms t turns p h') (sym e)
     (record { stands = record { few = P.few; cap = c; weighed = P.weighed; each = at_rest scoring file lists S }; len_is = refl; all-is = refl; went = w })

@@ -1,6 +1,6 @@
 -- The slots asked one after another for a document: its scores so far, scorers behind it, and scorers that are still to be asked.
 use mathlib.Core.Path.{◌≡◌, refl, sym, ap, ◌∙◌, subst}
-use mathlib.Core.List.{List, [], ◌∷◌, ◌++◌, append_assoc, append-nil}
+use mathlib.Core.List.{List, [], ◌∷◌, ◌++◌, append_assoc}
 use mathlib.Core.Logic.{inl, inr}
 use mathlib.Core.Option.{Option, some}
 use Prim.Native.Nat.{ℕ, suc, ◌+◌, ◌-◌, ◌≤◌, ◌<◌}
@@ -17,7 +17,7 @@ use Rattle.bm25.specs.declared.Scoring.{Scoring}
 use Rattle.term_scorer.specs.Inner.Slots.{Held, Sixteen, MovedSlot, list_at, cursor_at, lists_from}
 use Rattle.scan_heads.specs.Inner.Found.{found_of, with_score}
 use Rattle.scan_heads.specs.declared.Found.{Found}
-use Rattle.plain_scan.specs.Inner.Heads.{StandsFrom, Standing, Taken}
+use Rattle.plain_scan.specs.Inner.Heads.{StandsFrom, Standing}
 use Rattle.plain_scan.proofs.Sums.{found-snoc}
 use Rattle.plain_scan.proofs.Slots.{raised, absent, has, goes_on, unmoved}
 
@@ -110,13 +110,3 @@ module _ (scoring : Scoring) (file : List ℕ) (lists : List (List ℕ)) (n d : 
           ∙ ap (λ (o : Option Float). T.values ++ (opt_list o ++ present_from (q + 1))) (ap some ev ∙ sym (has scoring file lists this e t))
           ∙ ap (λ (zs : List Float). T.values ++ zs) (sym (next-list q more)) ∙ T.whole;
     }
-
-  -- every slot has been asked
-  pub taking-ends : {found : Found} {h : Held} {heads : List ℕ} {q : ℕ} → Taking found h heads q → n ≤ q → Taken scoring file lists n d found h heads
-  taking-ends {q = q} T g =
-      let w = T.within in
-      let e : n - q ≡ 0 = omega arith in
-      record {
-        found-is = T.found-is ∙ ap found_of (sym (append-nil T.values) ∙ ap (λ (k : ℕ). T.values ++ present d (lists_from scoring file lists q k)) (sym e) ∙ T.whole);
-        standing = record { long = T.long; each = λ p l. T.behind p (omega (arith, l)) };
-      }

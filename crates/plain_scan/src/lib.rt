@@ -8,7 +8,7 @@ ghost use Rattle.plain_scan.specs.Inner.Heads.{AllWeighed, Standing, Taken};
 ghost use Rattle.plain_scan.specs.Inner.Turns.{gone_to, GoneOn, PlainStands};
 
 use notefile::block::TERMINATED;
-use reports::Event;
+use reports::{Event, Gone};
 use scan_heads::{Found, heads_of, least};
 use slot_rows::place::{Blocks, Places};
 use slot_scores::score;
@@ -21,14 +21,6 @@ pub struct Plain {
     pub len: usize,
     pub all: bool,
     pub doc: u32,
-}
-
-// Where it came to, how many turns it took, each of one document, and why it stands still.
-#[derive(Clone, Copy)]
-pub struct Gone {
-    pub plain: Plain,
-    pub taken: usize,
-    pub event: Event,
 }
 
 // What the lists have of document doc, in slot order. Each scorer that stands on it goes on.
@@ -54,28 +46,21 @@ fn take_document(
         matched: 0,
         total: 0.0,
     };
-    let mut q = 0usize;
-    while q < n {
-        let at = q;
-        q += 1;
-        if heads[at] == doc {
-            let value = score(file, similarity, lists, norms, at, doc, places, blocks);
+    for q in 0..n {
+        if heads[q] == doc {
+            let value = score(file, similarity, lists, norms, q, doc, places, blocks);
             found = found.with(value);
-            heads[at] = slot::advance(file, lists, at, places, blocks);
+            heads[q] = slot::advance(file, lists, q, places, blocks);
         }
     }
     found
 }
 
-// The scan as it stands still.
-fn stand(len: usize, all: bool, doc: u32, taken: usize, event: Event) -> Gone
+// The scan as it stands still, for the four exits of `go`.
+fn stand(len: usize, all: bool, doc: u32, taken: usize, event: Event) -> Gone<Plain>
     ensures { result ≡ gone_to len all doc taken event }
 {
-    Gone {
-        plain: Plain { len, all, doc },
-        taken,
-        event,
-    }
+    Gone::new(Plain { len, all, doc }, taken, event)
 }
 
 // Documents upward to the next that is due, to the lists' end, or through so many turns.
@@ -88,7 +73,7 @@ pub fn go(
     norms: &[[f32; 256]; 16],
     places: &mut Places,
     blocks: &mut Blocks,
-) -> Gone
+) -> Gone<Plain>
     requires { let slots = held places.old blocks.old in
         (leg.similarity.norms ≡ norm_reader file.now)
         × PlainStands leg.similarity.scoring file.now lists.now norms.now slots plain }

@@ -33,10 +33,8 @@ fn max_score(scores: &[f32; 128], n: usize) -> f32
         return 0.0;
     }
     let mut most = scores[0];
-    let mut i = 1usize;
-    while i < n {
+    for i in 1..n {
         most = floats::larger(most, scores[i]);
-        i += 1;
     }
     most
 }
@@ -106,10 +104,7 @@ fn full_ahead(blocks: usize, b: usize) -> usize
     requires { b ≤ blocks }
     ensures { result ≡ min (blocks - b) 7 }
 {
-    if blocks - b < 7 {
-        return blocks - b;
-    }
-    7
+    (blocks - b).min(7)
 }
 
 // The bounds of the seven blocks from block b on, as far as they are full, into a row from place `at` on: one struct serves them all.
@@ -122,16 +117,14 @@ pub fn bounds_ahead(
     at: usize,
     bounds: &mut [f32; 128],
 )
-    requires { ListIn file.now x × WeightIn x w × (b ≤ full_blocks x) × (at ≤ 121) × (length bounds.old ≡ 128) }
+    requires { ListIn file.now x × WeightIn x w × (b ≤ full_blocks x) × (at ≤ 121) }
     ensures { BoundsAhead (list_of scoring file.now x) b at bounds.old bounds.new }
 {
     let n = full_ahead(x.count / 128, b);
-    let mut k = 0usize;
-    while k < n {
+    for k in 0..n {
         let e = read_skip_entry(file, x, b + k);
         let code = e.norm_code as usize;
         let bound = bm25::bound_at(scoring, w.weight, w.cache[code], e.freq_code);
         bounds[at + k] = bound;
-        k += 1;
     }
 }

@@ -5,27 +5,16 @@ use mathlib.Core.List.{List}
 use mathlib.Core.Logic.{◌⊎◌, inl, inr}
 use Prim.Native.Nat.{ℕ, zero, suc, ◌+◌, ◌-◌, ◌≤◌, ◌<◌}
 use native.Mathlib.Nat.{add-zero, le_of_lt}
+use native.Mathlib.Numerals.{add-one}
 use native.Mathlib.Omega.{arith}
 use lib.Dec.{ltb, leb}
 use lib.ListN.{get_or}
 use borrow.Author.Tests.{lt-ltb, le-ltb, ltb-true, le-leb, lt-leb}
 use Rattle.arrays.specs.Every.{every}
 use Rattle.arrays.proofs.Every.{stays, lowered, fails, each, all, and-true, first-true, same_test}
-use Rattle.arrays.proofs.Filling.{Filling}
 use Rattle.arrays.proofs.Order.{climbs}
 use Rattle.compression.specs.Documents.{above_last, rises, rising_below}
 use Rattle.frequencies.specs.Frequencies.{freq_right, freqs_right}
-use Rattle.encode.specs.Inner.Fronted.{Fronted}
-
--- one document tested: the flag falls where the next one is not above it
-pub risen : (docs : List ℕ) (at i : ℕ) {right next : Bool}
-    → let P : ℕ → Bool = λ i. ltb (get_or docs (at + i) 0) (get_or docs (at + i + 1) 0) in
-    right ≡ every i P
-    → ((get_or docs (at + i + 1) 0 ≤ get_or docs (at + i) 0) × (next ≡ false))
-    ⊎ ((get_or docs (at + i) 0 < get_or docs (at + i + 1) 0) × (next ≡ right))
-    → next ≡ every (i + 1) P
-risen docs at i e (inl (t, f)) = lowered _ i (le-ltb (get_or docs (at + i) 0) (get_or docs (at + i + 1) 0) t) f
-risen docs at i e (inr (t, f)) = stays _ i e (lt-ltb (get_or docs (at + i) 0) (get_or docs (at + i + 1) 0) t) f
 
 -- one frequency tested, from below and from above
 module _ (f : ℕ → ℕ) (i : ℕ) where
@@ -50,18 +39,6 @@ module _ (f : ℕ → ℕ) (i : ℕ) where
   counted e a (inl (t, g)) = lowered _ i (many t) g
   counted e (inl (s, h)) (inr (t, g)) = lowered _ i (none s) (g ∙ h)
   counted e (inr (s, h)) (inr (t, g)) = stays _ i e (right-one s t) (g ∙ h)
-
--- a loop that copies n of 128 numbers
-pub record Copying (f : ℕ → ℕ) (n : ℕ) (before out : List ℕ) (i : ℕ) : Type 0 where
-  pub within : i ≤ n
-  pub place : Filling 0 128 f before i out
-
-pub copied : {f : ℕ → ℕ} {n : ℕ} {before out : List ℕ} {i : ℕ} → Copying f n before out i → n ≤ i → Fronted f n before out
-copied C h = record {
-  long = C.place.long;
-  values = λ k l. C.place.done k (omega arith);
-  kept = λ k l. C.place.rest k (omega (arith, C.within));
-}
 
 -- the tests of n documents, in the order of the code
 module _ (docs : List ℕ) (at n : ℕ) (first : Bool) (previous limit : ℕ) where
@@ -101,14 +78,14 @@ module _ (docs : List ℕ) (at n : ℕ) (first : Bool) (previous limit : ℕ) wh
 
     module _ (front : first ≡ false → previous < get_or docs at 0) (back : get_or docs (at + n - 1) 0 < limit) where
       abbrev pairs : Bool
-      pairs = every (n - 1) (λ i. ltb (get_or docs (at + i) 0) (get_or docs (at + i + 1) 0))
+      pairs = every (n - 1) (λ i. ltb (doc i) (doc (i + 1)))
 
-      next : (i : ℕ) → get_or docs (at + i + 1) 0 ≡ doc (suc i)
-      next i = ap (λ (k : ℕ). get_or docs k 0) (omega arith)
+      next : (i : ℕ) → doc (i + 1) ≡ doc (suc i)
+      next i = ap doc (add-one i)
 
       module _ (e : pairs ≡ true) where
         goes-up : (i : ℕ) → i < n - 1 → doc i < doc (suc i)
-        goes-up i h = subst (λ (x : ℕ). doc i < x) (next i) (ltb-true (doc i) (get_or docs (at + i + 1) 0) (each _ (n - 1) i e h))
+        goes-up i h = subst (λ (x : ℕ). doc i < x) (next i) (ltb-true (doc i) (doc (i + 1)) (each _ (n - 1) i e h))
 
         above : (i : ℕ) → i < n → rises doc first previous i ≡ true
         above zero h = go first refl

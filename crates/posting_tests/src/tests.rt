@@ -1,25 +1,10 @@
 // Rows 7 and 8 of the table, tried on a block's postings where they stand in their buffers.
-ghost use Rattle.std.specs.Prelude.{◌≡◌, true, ◌+◌, ◌-◌, ◌≤◌, ltb, length, get_or};
-ghost use Rattle.arrays.specs.Every.{every};
+ghost use Rattle.std.specs.Prelude.{◌≡◌, ◌+◌, ◌≤◌, length, get_or};
 ghost use Rattle.compression.specs.Documents.{rising_below};
 ghost use Rattle.frequencies.specs.Frequencies.{freqs_right};
 ghost use Rattle.encode.specs.Inner.Fronted.{Fronted};
 
-// Whether each of n documents is above the one before it.
-fn rising(docs: &[u32], at: usize, n: usize) -> bool
-    requires { at + n ≤ length docs.now }
-    ensures { result ≡ every (n - 1) (λ i. ltb (get_or docs.now (at + i) 0) (get_or docs.now (at + i + 1) 0)) }
-{
-    let mut right = true;
-    let mut i: usize = 0;
-    while i + 1 < n {
-        if docs[at + i + 1] <= docs[at + i] {
-            right = false;
-        }
-        i += 1;
-    }
-    right
-}
+use compression::documents::rising;
 
 // Whether row 7 lets n documents from a place on through, with the document before them. The last of rising documents is the highest.
 pub fn docs_right(docs: &[u32], at: usize, n: usize, first: bool, previous: u32, limit: u32) -> bool
@@ -37,7 +22,7 @@ pub fn docs_right(docs: &[u32], at: usize, n: usize, first: bool, previous: u32,
     if limit <= docs[at + n - 1] {
         return false;
     }
-    rising(docs, at, n)
+    rising(&docs[at..at + n])
 }
 
 // Whether row 8 lets n frequencies from a place on through.
@@ -46,8 +31,7 @@ pub fn freqs_right(freqs: &[u32], at: usize, n: usize) -> bool
     ensures { result ≡ freqs_right (λ i. get_or freqs.now (at + i) 0) n }
 {
     let mut right = true;
-    let mut i: usize = 0;
-    while i < n {
+    for i in 0..n {
         let f = freqs[at + i];
         if f == 0 {
             right = false;
@@ -55,7 +39,6 @@ pub fn freqs_right(freqs: &[u32], at: usize, n: usize) -> bool
         if f > 2013265944 {
             right = false;
         }
-        i += 1;
     }
     right
 }
@@ -64,7 +47,7 @@ pub fn freqs_right(freqs: &[u32], at: usize, n: usize) -> bool
 pub fn places(values: &[u32; 128]) -> usize
     ensures { length values.now ≡ 128 }
 {
-    (&values[..]).len()
+    values.len()
 }
 
 // n numbers from a place on.
@@ -72,9 +55,5 @@ pub fn copy(from: &[u32], at: usize, n: usize, out: &mut [u32; 128])
     requires { (n ≤ 128) × (at + n ≤ length from.now) × (length out.old ≡ 128) }
     ensures { Fronted (λ i. get_or from.now (at + i) 0) n out.old out.new }
 {
-    let mut i: usize = 0;
-    while i < n {
-        out[i] = from[at + i];
-        i += 1;
-    }
+    out[..n].copy_from_slice(&from[at..at + n]);
 }

@@ -19,8 +19,8 @@ fn top_score(scores: &[f32; 128]) -> f32
     let mut f = scores[5];
     let mut g = scores[6];
     let mut h = scores[7];
-    let mut i: usize = 8;
-    while i < 128 {
+    for row in 1..16 {
+        let i = 8 * row;
         a = larger(a, scores[i]);
         b = larger(b, scores[i + 1]);
         c = larger(c, scores[i + 2]);
@@ -29,7 +29,6 @@ fn top_score(scores: &[f32; 128]) -> f32
         f = larger(f, scores[i + 5]);
         g = larger(g, scores[i + 6]);
         h = larger(h, scores[i + 7]);
-        i += 8;
     }
     let low = larger(larger(a, b), larger(c, d));
     let high = larger(larger(e, f), larger(g, h));
@@ -42,12 +41,10 @@ pub fn top_of(scores: &[f32; 128]) -> usize
     ensures { (result ≡ highest (λ i. get_or scores.now i nan) 128) × (result < 128) }
 {
     let top = top_score(scores);
-    let mut i: usize = 0;
-    while i < 127 {
+    for i in 0..127 {
         if scores[i] == top {
             return i;
         }
-        i += 1;
     }
-    i
+    127
 }

@@ -3,7 +3,6 @@ ghost use Rattle.std.specs.Prelude.{◌≡◌, ◌++◌, ◌≤◌, length, drop
 ghost use Rattle.print.specs.Printed.{printed};
 
 use bm25::Scoring;
-use outcome::{count_of, number_of};
 use print_text::lists::lists_of;
 use print_text::run::put_ranking;
 use request::Mode;
@@ -32,7 +31,5 @@ pub fn render(file: &[u8], out: &mut [u8; ROOM]) -> usize
         &mut documents,
         &mut scores,
     );
-    let number = number_of(outcome);
-    let count = count_of(outcome);
-    put_ranking(number, count, &documents, &scores, out)
+    put_ranking(outcome.number(), outcome.count(), &documents, &scores, out)
 }

@@ -1,6 +1,6 @@
--- Texts put one behind another are their sum; bytes copied one by one are the text.
-use Rattle.std.proofs.Common.{◌≡◌, ℕ, ◌+◌, ◌<◌, ◌≤◌, List, [], ◌++◌, length, get_or, take, drop, set, sym, refl, ap, ◌∙◌, subst, append_assoc, add-one, arith, length-append, length-take-le, take_all, drop-drop, take_at}
-use lib.Seq.{drop-append-add, paste, paste-zero, paste-suc, length-paste}
+-- Texts put one behind another are their sum.
+use Rattle.std.proofs.Common.{◌≡◌, ℕ, ◌+◌, ◌≤◌, List, [], ◌++◌, length, take, drop, sym, refl, ap, ◌∙◌, subst, append_assoc, arith, length-append, length-take-le, drop-drop, take_at}
+use lib.Seq.{drop-append-add, paste-zero}
 use Rattle.print_text.specs.Inner.Putting.{Put}
 
 module _ {a : List ℕ} {most at : ℕ} {old : List ℕ} {end : ℕ} {new : List ℕ} (P : Put a most at old end new) where
@@ -45,34 +45,3 @@ module _ {a : List ℕ} {most at : ℕ} {old : List ℕ} {end : ℕ} {new : List
 -- no text
 pub put-none : (at : ℕ) (old : List ℕ) → at ≤ length old → Put [] 0 at old at old
 put-none at old h = record { end_is = omega arith; short = omega arith; inside = h; long = refl; new_is = paste-zero old at [] }
-
--- ---- the loop that copies
-
-pub record Copying (bytes : List ℕ) (at : ℕ) (old : List ℕ) (i : ℕ) (out : List ℕ) : Type 0 where
-  pub upto : i ≤ length bytes
-  pub room : at + length bytes ≤ length old
-  pub long : length out ≡ length old
-  pub out-is : out ≡ paste old at bytes i
-
-module _ (bytes : List ℕ) (at : ℕ) (old : List ℕ) where
-  pub copy-begins : at + length bytes ≤ length old → Copying bytes at old 0 old
-  copy-begins h = record { upto = omega arith; room = h; long = refl; out-is = paste-zero old at bytes }
-
-  pub copy-goes-on : (i : ℕ) (out : List ℕ) → i < length bytes → Copying bytes at old i out → Copying bytes at old (i + 1) (set out (at + i) (get_or bytes i 0))
-  copy-goes-on i out h C =
-      let r = C.room in
-      let e : set out (at + i) (get_or bytes i 0) ≡ paste old at bytes (i + 1) =
-      ap (λ (x : List ℕ). set x (at + i) (get_or bytes i 0)) C.out-is ∙ paste-suc old at bytes i 0 (omega arith) h ∙ ap (paste old at bytes) (sym (add-one i)) in
-      record { upto = omega arith; room = r; long = ap length e ∙ length-paste old at bytes (i + 1) (omega arith) (omega arith); out-is = e }
-
-  pub copy-ends : (i : ℕ) (out : List ℕ) → length bytes ≤ i → Copying bytes at old i out → Put bytes (length bytes) at old (at + i) out
-  copy-ends i out h C =
-      let u = C.upto in
-      let k : i ≡ length bytes = omega arith in
-      record {
-        end_is = ap (λ (n : ℕ). at + n) k;
-        short = omega arith;
-        inside = let r = C.room in omega arith;
-        long = C.long;
-        new_is = C.out-is ∙ ap (paste old at bytes) k ∙ ap (λ (x : List ℕ). (take at old ++ x) ++ drop (at + length bytes) old) (take_all (length bytes) bytes (omega arith));
-      }

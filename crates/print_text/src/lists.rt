@@ -12,6 +12,5 @@ pub fn lists_of(file: &[u8]) -> usize
     if file.len() < 9 {
         return 0;
     }
-    let h = read_header(file);
-    if h.lists < 16 { h.lists } else { 16 }
+    read_header(file).lists.min(16)
 }

@@ -40,10 +40,8 @@ pub fn put_rows(documents: &[u32], scores: &[f32], count: usize, out: &mut [u8],
     ensures { Put (lines (rows_in count documents.now scores.now)) (42 * count) at out.old result out.new }
 {
     let mut end = at;
-    let mut i = 0usize;
-    while i < count {
+    for i in 0..count {
         end = put_row(documents[i], scores[i], out, end);
-        i += 1;
     }
     end
 }

@@ -70,12 +70,10 @@ pub fn open_lists(
         slot: 0,
     };
     let mut scorers = [none; 16];
-    let mut q = 0usize;
-    while q < query.len() {
-        let l = query[q] as usize;
+    for (q, number) in query.iter().enumerate() {
+        let l = *number as usize;
         let scorer = open_list(file, h, scoring, l, q, lists, norms, places, blocks);
         scorers[q] = scorer;
-        q += 1;
     }
     scorers
 }

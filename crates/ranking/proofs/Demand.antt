@@ -5,8 +5,8 @@ use mathlib.Core.List.{List, [], ◌∷◌}
 use mathlib.Core.Logic.{◌↔◌}
 use Prim.Native.Nat.{ℕ, zero, suc, ◌<◌}
 use native.Mathlib.Omega.{arith}
-use lib.Dec.{T, leb}
-use lib.ListN.{length, get_or, take}
+use lib.Dec.{T}
+use lib.ListN.{length, get_or}
 use lib.Ieee.{Float, lt}
 use Rattle.floats.specs.Threshold.{threshold_ok}
 use Rattle.arrays.specs.Every.{All}
@@ -17,7 +17,6 @@ use Rattle.route.specs.Rule as rules
 use Rattle.route.specs.Rule.{limited}
 use Rattle.route.specs.Plain.{plain}
 use Rattle.route.specs.Inner.Rules.{RuleOk}
-use Rattle.route.proofs.Cases.{by-test}
 use Rattle.bm25.specs.declared.Scoring.{Scoring}
 use Rattle.bm25.specs.declared.Scoring.TheVariants.{Stepped}
 use Rattle.rule.specs.Rules.{rule_of, start_of}
@@ -34,30 +33,14 @@ use Rattle.request.specs.Request.{Request, asked, mode_of, refusal_of}
 use Rattle.request.specs.Lists.{plain_list, SkippingList}
 use Rattle.request.specs.declared.Mode.{Mode}
 use Rattle.request.proofs.Requests.{let_through}
-use Rattle.outcome.specs.Outcomes.{number_of, count_of, outcome_for}
 use Rattle.outcome.specs.declared.Outcome.{Outcome}
-use Rattle.outcome.proofs.ByNumber.{told}
 use Rattle.ranking.specs.Answers.{answer, answer_of, Answered, RunIs, PlainIs}
 use Rattle.ranking.specs.Demand.{Result, result_of, Given, list_of, OneRule, start_at, from, Demand3}
 
 -- ---- an outcome's number, count and rows
 
--- the outcome for a number and a count has them, where there is a count with 0 and 12 alone
-abbrev Told : ℕ → ℕ → Type 0
-Told number count = (number_of (outcome_for number count) ≡ number) × (count_of (outcome_for number count) ≡ count)
-
-answer-told : (r n : ℕ) (list : List (Report Float)) → Told (answer r n list).code (length (answer r n list).rows)
-answer-told zero n list =
-    by-test (λ (a : rules.Outcome Float). Told a.code (length a.rows)) (leb (length list) n) (record { code = 0; rows = list }) (record { code = 12; rows = take n list })
-    (λ _. (refl, refl)) (λ _. (refl, refl))
-answer-told (suc r) n list = told (suc r) 0 (λ _ _. refl)
-
 pub given-of : (r n : ℕ) (list : List (Report Float)) {old new : Rows} {o : Outcome} → Answered (answer r n list) old o new → Given (answer r n list) old (result_of o new)
-given-of r n list A = record {
-  number_is = ap number_of A.outcome-is ∙ (answer-told r n list).0;
-  count-is = ap count_of A.outcome-is ∙ (answer-told r n list).1;
-  written = A.written;
-}
+given-of r n list A = record { number_is = A.number_is; count-is = A.count-is; written = A.written }
 
 -- the rows below the count are the reports written
 pub rows_are : (a : rules.Outcome Float) (old : Rows) (x : Result) → Given a old x → list_of x ≡ a.rows

@@ -1,6 +1,6 @@
 -- A run that has returned is what 01's table says.
 use mathlib.Core.Path.{◌≡◌, refl, sym, ap, ◌∙◌, subst}
-use mathlib.Core.Bool.{Bool, cond}
+use mathlib.Core.Bool.{Bool}
 use mathlib.Core.List.{List, []}
 use Prim.Native.Nat.{ℕ}
 use lib.Ieee.{Float}
@@ -32,10 +32,10 @@ use Rattle.beginning.specs.declared.Settings.{Settings}
 use Rattle.beginning.specs.declared.Way.{Way}
 use Rattle.beginning.specs.declared.Way.TheVariants.{Plain, Skipping}
 use Rattle.beginning.proofs.Queries.{all-ok}
-use Rattle.outcome.specs.Outcomes.{outcome_for}
+use Rattle.outcome.specs.Outcomes.{number_of, count_of}
 use Rattle.outcome.specs.Inner.Finished.{finished}
 use Rattle.outcome.specs.declared.Outcome.{Outcome}
-use Rattle.outcome.proofs.ByNumber.{finished-for}
+use Rattle.outcome.proofs.ByNumber.{number-finished, count-finished}
 use Rattle.ranking.specs.Answers.{Answered}
 use Rattle.ranking.specs.Inner.Runs.{Listed}
 
@@ -60,7 +60,8 @@ driven-listed way q t {p} {full = full} {count} {old} {new} lists R {r} e =
       answered = subst (λ (a : rules.Outcome Float). Answered a old r new)
           (ran-limited (machine_from p) q.rule q.script old.documents old.scores (machine-stays p) R z.0 (lists z.0 z.1))
           (record {
-            outcome-is = e ∙ finished-for full count ∙ ap (outcome_for (cond full 12 0)) R.count-is;
+            number_is = ap number_of e ∙ number-finished full count;
+            count-is = ap count_of e ∙ count-finished full count ∙ R.count-is;
             written = R.written;
           });
     }

@@ -6,7 +6,7 @@ use Rattle.route.specs.Rule.{limited}
 use Rattle.reports.specs.Rows.{Rows, rows_of, Written}
 use Rattle.request.specs.Request.{Request, refusal_of}
 use Rattle.request.specs.Lists.{plain_list, SkippingList}
-use Rattle.outcome.specs.Outcomes.{outcome_for}
+use Rattle.outcome.specs.Outcomes.{number_of, count_of}
 use Rattle.outcome.specs.declared.Outcome.{Outcome}
 
 -- refused with a number from 1 to 11 there is no row; else the run's list, as far as n rows go
@@ -18,9 +18,10 @@ answer (suc r) n list = record { code = suc r; rows = [] }
 abbrev pub WrittenIn : List (Report Float) → Rows → Rows → Type 0
 WrittenIn reports old new = Written reports old.documents old.scores new.documents new.scores
 
--- a run has an answer, as its outcome and in its rows
+-- a run has an answer, as its outcome's number and count, which no other outcome has, and in its rows
 pub record Answered (a : rules.Outcome Float) (old : Rows) (r : Outcome) (new : Rows) : Type 0 where
-  pub outcome-is : r ≡ outcome_for a.code (length a.rows)
+  pub number_is : number_of r ≡ a.code
+  pub count-is : count_of r ≡ length a.rows
   pub written : WrittenIn a.rows old new
 
 module _ (q : Request) where

@@ -7,10 +7,10 @@ use crate::answer;
 use beginning::{Settings, Way};
 use bm25::Scoring;
 use outcome::Outcome;
-use request::{Mode, refusal};
+use request::{Mode, check_request};
 use rule::Rule;
 
-// A plain run over any file, query and rule.
+// A plain run over any file, query and rule. It promises another list than `run`, so the two are no one function over the way.
 pub fn plain(
     file: &[u8],
     query: &[u32],
@@ -24,9 +24,8 @@ pub fn plain(
     ensures { let q = asked file.now query.now mode scoring rule script.now in
         PlainIs q (rows documents.old scores.old) result (rows documents.new scores.new) }
 {
-    let number = refusal(file, query, mode, scoring, rule, script);
-    if number != 0 {
-        return Outcome::Refused(number);
+    if let Err(refusal) = check_request(file, query, mode, scoring, rule, script) {
+        return Outcome::Refused(refusal);
     }
     let settings = Settings {
         mode,

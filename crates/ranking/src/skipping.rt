@@ -8,7 +8,7 @@ use crate::answer;
 use beginning::{Settings, Way};
 use bm25::Scoring;
 use outcome::Outcome;
-use request::{Mode, refusal};
+use request::{Mode, check_request};
 use rule::Rule;
 
 // A skipping run over any file, query and rule.
@@ -25,9 +25,8 @@ pub fn run(
     ensures { let q = asked file.now query.now mode scoring rule script.now in
         RunIs q (rows documents.old scores.old) result (rows documents.new scores.new) }
 {
-    let number = refusal(file, query, mode, scoring, rule, script);
-    if number != 0 {
-        return Outcome::Refused(number);
+    if let Err(refusal) = check_request(file, query, mode, scoring, rule, script) {
+        return Outcome::Refused(refusal);
     }
     let settings = Settings {
         mode,

@@ -16,14 +16,48 @@ pub enum Event {
     Paused,
 }
 
+// What one turn of a run of state S leaves: the state that it came to, and the document and the score of the report that is due, if one is.
+#[derive(Clone, Copy)]
+pub struct Step<S> {
+    pub to: S,
+    pub due: Option<(u32, f32)>,
+}
+
+// Where a run of state S came to, how many turns it took, and why it stands still.
+#[derive(Clone, Copy)]
+pub struct Gone<S> {
+    pub to: S,
+    pub taken: usize,
+    pub event: Event,
+}
+
+impl<S> Gone<S> {
+    pub fn new(to: S, taken: usize, event: Event) -> Self
+        ensures { result ≡ record { to = to; taken = taken; event = event } }
+    {
+        Gone { to, taken, event }
+    }
+
+    // The same of the state that `f` makes of this one.
+    pub fn map<T, F: FnOnce(S) -> T>(self, f: F) -> Gone<T>
+        requires { F.pre f self.to }
+        ensures to { F.post f self.to result.to }
+        ensures taken { result.taken ≡ self.taken }
+        ensures event { result.event ≡ self.event }
+    {
+        Gone {
+            to: f(self.to),
+            taken: self.taken,
+            event: self.event,
+        }
+    }
+}
+
 // How many rows there are: as many as the shorter buffer has.
 pub fn rows(documents: &[u32], scores: &[f32]) -> usize
     ensures { result ≡ rows_of documents.now scores.now }
 {
-    if documents.len() < scores.len() {
-        return documents.len();
-    }
-    scores.len()
+    documents.len().min(scores.len())
 }
 
 // The next row is written, and the rule is told the score.
@@ -37,7 +71,7 @@ pub fn report(
     documents: &mut [u32],
     scores: &mut [f32],
 ) -> Threshold
-    requires { Keeps rule × (length best.old ≡ 64) × (t.reports < length documents.old) × (t.reports < length scores.old) }
+    requires { Keeps rule × (t.reports < length documents.old) × (t.reports < length scores.old) }
     ensures { Reported rule script.now doc score t best.old documents.old scores.old
         result best.new documents.new scores.new }
 {

@@ -18,9 +18,9 @@ use Rattle.notefile.specs.Inner.Order.{or_else}
 use Rattle.notefile.specs.Inner.Structs.{header_of}
 use Rattle.notefile.specs.declared.header.Header.{Header}
 use Rattle.notefile.proofs.Order.{Numbered, numbered-append, first-append, first_below, file-numbered}
-use Rattle.notecheck.specs.Answers.{answer_of}
-use Rattle.notecheck.specs.declared.check.Checked.{Checked}
-use Rattle.notecheck.specs.declared.check.Checked.TheVariants.{Accepted, Refused}
+use Rattle.outcome.specs.Refusals.{number_of}
+use Rattle.outcome.specs.declared.refusal.Refusal.{Refusal}
+use Rattle.outcome.proofs.ByNumber.{no-refusal}
 use Rattle.request.specs.Request.{Request, mode_of, numbers_right, count_right, query_right, query_tests, request_tests, refusal_of}
 use Rattle.request.specs.declared.Mode.{Mode}
 use Rattle.request.specs.declared.Mode.TheVariants.{Union, Intersection, Single}
@@ -59,6 +59,10 @@ count-takes Single n e = eqb-true n 1 e
 
 -- ---- the table's order
 
+first-stays : (r n : ℕ) → (r ≡ 0 → ⊥) → r ≡ or_else r n
+first-stays zero n h = absurd (h refl)
+first-stays (suc r) n h = refl
+
 or-none : (r n : ℕ) → or_else r n ≡ 0 → (r ≡ 0) × (n ≡ 0)
 or-none zero n e = (refl, e)
 or-none (suc r) n e = absurd (omega (arith, e))
@@ -81,14 +85,9 @@ module _ (file query : List ℕ) (mode : Mode) where
   unfolding query_tests file_refusal
   query-or = first-append 9 (file_tests file) (test 10 (query_right (list_count file) mode query) ∷ []) (file-numbered file)
 
-  -- ---- the judge's answer
-
-  pub file-refused : {a : Checked} {n : ℕ} → a ≡ answer_of (file_refusal file) → a ≡ Refused n → n ≡ first_refusal (query_tests file query mode)
-  file-refused {a} {n} e f = number_is (file_refusal file) n (sym e ∙ f) _ ∙ sym query-or
-    where
-      number_is : (r n : ℕ) → answer_of r ≡ Refused n → (m : ℕ) → n ≡ or_else r m
-      number_is zero n e m = let z : ◌≡◌ {A = ℕ} 0 1 = cc in absurd (omega arith)
-      number_is (suc r) n e m = cc
+  -- a file's refusal comes first
+  pub file-refused : (r : Refusal) → number_of r ≡ file_refusal file → number_of r ≡ first_refusal (query_tests file query mode)
+  file-refused r e = first-stays (number_of r) _ (no-refusal r).0 ∙ ap (λ (n : ℕ). or_else n (unless (query_right (list_count file) mode query) 10 0)) e ∙ sym query-or
 
   module _ (accepted : file_refusal file ≡ 0) where
     pub query-refused : query_right (list_count file) mode query ≡ false → 10 ≡ first_refusal (query_tests file query mode)
@@ -96,13 +95,6 @@ module _ (file query : List ℕ) (mode : Mode) where
 
     pub query-let : query_right (list_count file) mode query ≡ true → 0 ≡ first_refusal (query_tests file query mode)
     query-let e = sym (query-or ∙ rw (accepted, e))
-
-pub file-accepted : (file : List ℕ) {a : Checked} → a ≡ answer_of (file_refusal file) → a ≡ Accepted → file_refusal file ≡ 0
-file-accepted file e f = accepted-is (file_refusal file) (sym e ∙ f)
-  where
-    accepted-is : (r : ℕ) → answer_of r ≡ Accepted → r ≡ 0
-    accepted-is zero e = refl
-    accepted-is (suc r) e = let z : ◌≡◌ {A = ℕ} 0 1 = cc in absurd (omega arith)
 
 -- the header has the number of lists
 pub lists-are : (file : List ℕ) {h : Header} → h ≡ header_of file → h.lists ≡ list_count file
@@ -149,11 +141,7 @@ module _ (q : Request) where
 
   -- the first refusal met
   pub first-refused : {n : ℕ} → n ≡ first_refusal (query_tests q.file q.query q.mode) → (n ≡ 0 → ⊥) → n ≡ refusal_of q
-  first-refused e ne = e ∙ sym (request-or ∙ stays (first_refusal (query_tests q.file q.query q.mode)) _ (λ z. ne (e ∙ z)))
-    where
-      stays : (r n : ℕ) → (r ≡ 0 → ⊥) → or_else r n ≡ r
-      stays zero n h = absurd (h refl)
-      stays (suc r) n h = refl
+  first-refused {n} e ne = first-stays n _ ne ∙ ap (λ (r : ℕ). or_else r (unless (rule_right q.rule q.scoring q.script) 11 0)) e ∙ sym request-or
 
   module _ {n : ℕ} (e : n ≡ first_refusal (query_tests q.file q.query q.mode)) (z : n ≡ 0) where
     rule-decides : refusal_of q ≡ unless (rule_right q.rule q.scoring q.script) 11 0

@@ -3,11 +3,13 @@
 
 ghost use Rattle.std.specs.Prelude.{◌≡◌};
 ghost use Rattle.notefile.specs.Refusal.{first_refusal};
+ghost use Rattle.outcome.specs.Refusals.{refusal_number};
 ghost use Rattle.request.specs.Request.{asked, numbers_right, count_right, query_right, query_tests, refusal_of};
 
 use bm25::Scoring;
-use notecheck::check::{Checked, check};
+use notecheck::check::check;
 use notefile::header::read_header;
+use outcome::refusal::Refusal;
 use rule::Rule;
 use rulecheck::rule_right;
 
@@ -23,12 +25,10 @@ pub enum Mode {
 fn numbers_right(lists: usize, query: &[u32]) -> bool
     ensures { result ≡ numbers_right lists query.now }
 {
-    let mut i = 0usize;
-    while i < query.len() {
+    for i in 0..query.len() {
         if lists <= query[i] as usize {
             return false;
         }
-        i += 1;
     }
     true
 }
@@ -59,39 +59,34 @@ fn query_right(lists: usize, mode: Mode, query: &[u32]) -> bool
     false
 }
 
-// The number of the first of rows 1 to 10 that refuses, or 0.
-pub fn query_refusal(file: &[u8], query: &[u32], mode: Mode) -> u32
-    ensures { result ≡ first_refusal (query_tests file.now query.now mode) }
+// Whether rows 1 to 10 let a file and a query through; the first that does not refuses them.
+pub fn check_query(file: &[u8], query: &[u32], mode: Mode) -> Result<(), Refusal>
+    ensures { refusal_number result ≡ first_refusal (query_tests file.now query.now mode) }
 {
-    match check(file) {
-        Checked::Refused(n) => n,
-        Checked::Accepted => {
-            let h = read_header(file);
-            if query_right(h.lists, mode, query) {
-                return 0;
-            }
-            10
-        }
+    check(file)?;
+    let h = read_header(file);
+    if query_right(h.lists, mode, query) {
+        Ok(())
+    } else {
+        Err(Refusal::Query)
     }
 }
 
-// The number of the first of rows 1 to 11 that refuses, or 0.
-pub fn refusal(
+// Whether rows 1 to 11 let a request through; the first that does not refuses it.
+pub fn check_request(
     file: &[u8],
     query: &[u32],
     mode: Mode,
     scoring: Scoring,
     rule: Rule,
     script: &[f32],
-) -> u32
-    ensures { result ≡ refusal_of (asked file.now query.now mode scoring rule script.now) }
+) -> Result<(), Refusal>
+    ensures { refusal_number result ≡ refusal_of (asked file.now query.now mode scoring rule script.now) }
 {
-    let number = query_refusal(file, query, mode);
-    if number != 0 {
-        return number;
-    }
+    check_query(file, query, mode)?;
     if rule_right(rule, scoring, script) {
-        return 0;
+        Ok(())
+    } else {
+        Err(Refusal::Rule)
     }
-    11
 }

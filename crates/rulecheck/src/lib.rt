@@ -29,8 +29,7 @@ fn script_right(scoring: Scoring, start: f32, script: &[f32]) -> bool
     ensures { result ≡ script_right scoring start script.now }
 {
     let mut last = start;
-    let mut i = 0usize;
-    while i < script.len() {
+    for i in 0..script.len() {
         let x = script[i];
         if threshold_right(scoring, x) {
             if x < last {
@@ -40,7 +39,6 @@ fn script_right(scoring: Scoring, start: f32, script: &[f32]) -> bool
             return false;
         }
         last = x;
-        i += 1;
     }
     true
 }

@@ -16,13 +16,12 @@ pub fn rows_agree(
     data: &[u8],
     at: usize,
     count: usize,
-    documents: &[u32; 256],
-    scores: &[f32; 256],
+    documents: &[u32; ROWS],
+    scores: &[f32; ROWS],
 ) -> bool
     requires { at < 4294967296 }
 {
-    let mut i = 0usize;
-    while i < ROWS {
+    for i in 0..ROWS {
         let mut document = DOCUMENT;
         let mut score = SCORE;
         if i < count {
@@ -35,7 +34,6 @@ pub fn rows_agree(
         if scores[i] != score {
             return false;
         }
-        i += 1;
     }
     true
 }

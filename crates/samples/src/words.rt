@@ -53,41 +53,24 @@ pub fn threshold(kind: u32, bits: u32) -> f32 {
     1.0 / 0.0
 }
 
-// A short row of numbers.
-pub fn read_few(data: &[u8], at: usize) -> [u32; 32]
-    requires { at < 4294967296 }
+// A row of numbers.
+pub fn read_numbers<const N: usize>(data: &[u8], at: usize) -> [u32; N]
+    requires { (at < 4294967296) × (N < 4294967296) }
 {
-    let mut out = [0u32; 32];
-    let mut i = 0usize;
-    while i < FEW {
+    let mut out = [0u32; N];
+    for i in 0..N {
         out[i] = word(data, at + 4 * i);
-        i += 1;
-    }
-    out
-}
-
-// A long row of numbers.
-pub fn read_many(data: &[u8], at: usize) -> [u32; 512]
-    requires { at < 4294967296 }
-{
-    let mut out = [0u32; 512];
-    let mut i = 0usize;
-    while i < MANY {
-        out[i] = word(data, at + 4 * i);
-        i += 1;
     }
     out
 }
 
 // A short row of thresholds, each its kind and its bits.
-pub fn read_thresholds(data: &[u8], at: usize) -> [f32; 32]
+pub fn read_thresholds(data: &[u8], at: usize) -> [f32; FEW]
     requires { at < 4294967296 }
 {
-    let mut out = [0.0f32; 32];
-    let mut i = 0usize;
-    while i < FEW {
+    let mut out = [0.0f32; FEW];
+    for i in 0..FEW {
         out[i] = threshold(word(data, at + 8 * i), word(data, at + 8 * i + 4));
-        i += 1;
     }
     out
 }

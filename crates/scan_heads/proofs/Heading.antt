@@ -1,8 +1,8 @@
 -- The documents on which scorers stand: filled in one by one, and the least of them.
-use mathlib.Core.Path.{◌≡◌, sym, ap, ◌∙◌}
+use mathlib.Core.Path.{◌≡◌, ap, ◌∙◌}
 use mathlib.Core.List.{List, []}
 use mathlib.Core.Logic.{inl, inr}
-use Prim.Native.Nat.{ℕ, zero, suc, ◌+◌, ◌≤◌, ◌<◌}
+use Prim.Native.Nat.{ℕ, zero, suc, min, ◌+◌, ◌≤◌, ◌<◌}
 use native.Mathlib.Numerals.{add-one}
 use native.Mathlib.Omega.{arith}
 use lib.ListN.{get_or, set, length-set}
@@ -28,12 +28,9 @@ one-more-head places blocks heads n h H {doc} is = record {
   behind = record { blank = λ q g k. get_or-set_other heads n q _ 2147483647 (λ e. omega (arith, e, g)) ∙ H.behind.blank q (omega arith) k };
 }
 
--- one document more, below the least so far or not
-pub least-lower : (heads : List ℕ) (q : ℕ) {d : ℕ} → d ≡ least_in heads q → get_or heads q 0 < d → get_or heads q 0 ≡ least_in heads (q + 1)
-least-lower heads q e h = let m : get_or heads q 0 ≡ least_in heads (suc q) = omega arith in m ∙ sym (ap (least_in heads) (add-one q))
-
-pub least_stays : (heads : List ℕ) (q : ℕ) {d : ℕ} → d ≡ least_in heads q → d ≤ get_or heads q 0 → d ≡ least_in heads (q + 1)
-least_stays heads q {d} e h = let m : d ≡ least_in heads (suc q) = omega arith in m ∙ sym (ap (least_in heads) (add-one q))
+-- one document more
+pub least-next : (heads : List ℕ) (q : ℕ) → least_in heads (q + 1) ≡ min (least_in heads q) (get_or heads q 0)
+least-next heads q = ap (least_in heads) (add-one q)
 
 -- ---- what the least is
 

@@ -39,14 +39,8 @@ impl Found {
     pub fn due(self, all: bool, n: usize, threshold: f32) -> bool
         ensures { result ≡ due_in all n self threshold }
     {
-        if self.matched == 0 {
+        if self.matched == 0 || (all && self.matched != n) {
             return false;
-        }
-        if all {
-            if self.matched != n {
-                return false;
-            }
-            return self.total > threshold;
         }
         self.total > threshold
     }
@@ -58,10 +52,8 @@ pub fn heads_of(n: usize, places: &Places, blocks: &Blocks) -> [u32; 16]
     ensures { HeadsOf places.now blocks.now n result }
 {
     let mut heads = [TERMINATED; 16];
-    let mut q = 0usize;
-    while q < n {
+    for q in 0..n {
         heads[q] = slot::doc(q, places, blocks);
-        q += 1;
     }
     heads
 }
@@ -72,13 +64,8 @@ pub fn least(heads: &[u32; 16], n: usize) -> u32
     ensures { result ≡ least_in heads.now n }
 {
     let mut doc = TERMINATED;
-    let mut q = 0usize;
-    while q < n {
-        let head = heads[q];
-        q += 1;
-        if head < doc {
-            doc = head;
-        }
+    for q in 0..n {
+        doc = doc.min(heads[q]);
     }
     doc
 }

@@ -57,10 +57,7 @@ module _ {file : List ℕ} {similarity : Similarity} {lists : List (List ℕ)} {
       abbrev To : Scoring → Cursor
       To s = seek_in (list_at s file lists q) 128 x.doc (cursor_at h.places q)
 
-      -- what `slot::doc` asks there, and what it reads
-      pub cur-then : get_or (get_or h'.places q []) 6 0 < 128
-      cur-then = cur-inside file (get_or lists q []) (get_or h'.places q []) R.kept.slot.list M.moved.place
-
+      -- what `slot::doc` reads there
       pub read-then : {r : ℕ} → r ≡ get_or (docs_of (get_or h'.blocks q [])) (get_or (get_or h'.places q []) 6 0) 0 → MovedSlot file lists q To h h' r
       read-then e =
           subst (MovedSlot file lists q To h h')

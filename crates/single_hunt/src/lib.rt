@@ -3,7 +3,7 @@
 
 ghost use Rattle.std.specs.Prelude.{◌≡◌, ◌≤◌, ◌<◌};
 ghost use Rattle.term_scorer.specs.Inner.Slots.{held, StandingIn};
-ghost use Rattle.single_hunt.specs.Inner.Places.{Skips};
+ghost use Rattle.single_hunt.specs.Inner.Places.{is_done, on_walk, Skips};
 ghost use Rattle.single_hunt.specs.Inner.Stands.{Ready, Stands, Entered, Hunted};
 ghost use Rattle.single_hunt.specs.declared.Phase.TheVariants.{Hunt};
 
@@ -21,6 +21,22 @@ pub enum Phase {
     Walk,
     Called,
     Over,
+}
+
+impl Phase {
+    // Whether a block is walked.
+    pub fn walks(self) -> bool
+        ensures { result ≡ on_walk self }
+    {
+        matches!(self, Phase::Walk | Phase::Called)
+    }
+
+    // Whether the scan has returned.
+    pub fn is_over(self) -> bool
+        ensures { result ≡ is_done self }
+    {
+        matches!(self, Phase::Over)
+    }
 }
 
 // Where a scan stands: the slot of its scorer, its `doc`, and what comes next.
@@ -50,7 +66,7 @@ fn enter(
 {
     let q = single.slot;
     let here = slot::doc(q, places, blocks);
-    slot::seek(file, lists, q, here, single.doc, places, blocks);
+    let _ = slot::seek(file, lists, q, here, single.doc, places, blocks);
     let doc = slot::doc(q, places, blocks);
     if doc == TERMINATED {
         return Single {

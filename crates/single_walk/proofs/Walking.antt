@@ -222,7 +222,7 @@ module _ {file : List ℕ} {similarity : Similarity} {lists : List (List ℕ)} {
               passes : (ord : ℕ) → Goes ord (place_of x places) (i - cur) (place_of r places')
               passes ord = subst (Goes ord (place_of x places) (i - cur)) (sym there) (reached ord)
 
-              pub walk-on : Steps file similarity lists norms t turns x (held places blocks) (record { single = r; taken = i - cur; event = Paused }) (held places' blocks) floats
+              pub walk-on : Steps file similarity lists norms t turns x (held places blocks) (record { to = r; taken = i - cur; event = Paused }) (held places' blocks) floats
               walk-on = record {
                 slot_is = P.moved.slot_is;
                 stands = stands-in r P.moved.slot_is (ready_moved T.stands.ready P.moved)
@@ -274,7 +274,7 @@ module _ {file : List ℕ} {similarity : Similarity} {lists : List (List ℕ)} {
                   (subst (Told ord (doc l ok c.blk within c.loaded n size i)) (value-at i in-n) w))
 
               pub walk-due : Steps file similarity lists norms t turns x (held places blocks)
-                  (record { single = record { slot = q; doc = d; phase = Called }; taken = i - cur + 1; event = Report d (get_or values i nan) }) put floats
+                  (record { to = record { slot = q; doc = d; phase = Called }; taken = i - cur + 1; event = Report d (get_or values i nan) }) put floats
               walk-due = record {
                 slot_is = refl;
                 stands = record {

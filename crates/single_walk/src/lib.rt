@@ -7,29 +7,19 @@ ghost use Rattle.single_hunt.specs.Inner.Places.{start_of, ToPlace};
 ghost use Rattle.single_walk.specs.Inner.Walks.{FirstAbove, Walkable, Walks};
 
 use notefile::block::{DOCS, TERMINATED};
-use reports::Event;
+use reports::{Event, Gone};
 use single_hunt::{Phase, Single, skip};
 use slot_rows::place::{BLOCK, Blocks, COUNT, CUR, Places};
-
-// Where a scan came to, by how many turns, and why it stands still.
-#[derive(Clone, Copy)]
-pub struct Gone {
-    pub single: Single,
-    pub taken: usize,
-    pub event: Event,
-}
 
 // The first place whose score is above the threshold, or n where there is none.
 fn first_above(values: &[f32; 128], from: usize, n: usize, threshold: f32) -> usize
     requires { (from ≤ n) × (n ≤ 128) }
     ensures { FirstAbove values.now from n threshold result }
 {
-    let mut i = from;
-    while i < n {
+    for i in from..n {
         if values[i] > threshold {
             return i;
         }
-        i += 1;
     }
     n
 }
@@ -39,11 +29,7 @@ fn block_len(count: usize, block: usize) -> usize
     requires { block * 128 ≤ count }
     ensures { result ≡ min (count - block * 128) 128 }
 {
-    let left = count - block * 128;
-    if left < 128 {
-        return left;
-    }
-    128
+    (count - block * 128).min(128)
 }
 
 // How far the turns lead from a place: a turn for each posting, and no further than n.
@@ -51,10 +37,7 @@ fn reach(cur: usize, n: usize, turns: usize) -> usize
     requires { cur ≤ n }
     ensures { result ≡ min n (cur + turns) }
 {
-    if turns < n - cur {
-        return cur + turns;
-    }
-    n
+    cur + turns.min(n - cur)
 }
 
 // The first posting that is asked: behind a report the next one.
@@ -64,9 +47,7 @@ fn first_asked(phase: Phase, cur: usize) -> usize
 {
     match phase {
         Phase::Called => cur + 1,
-        Phase::Hunt => cur,
-        Phase::Walk => cur,
-        Phase::Over => cur,
+        Phase::Hunt | Phase::Walk | Phase::Over => cur,
     }
 }
 
@@ -74,10 +55,7 @@ fn first_asked(phase: Phase, cur: usize) -> usize
 fn last_place(n: usize) -> usize
     ensures { result ≡ min n 127 }
 {
-    if n < 127 {
-        return n;
-    }
-    127
+    n.min(127)
 }
 
 // To place i of a block of n postings, or out of it behind the last.
@@ -115,7 +93,7 @@ pub fn walk(
     places: &mut Places,
     blocks: &Blocks,
     values: &[f32; 128],
-) -> Gone
+) -> Gone<Single>
     requires { Walkable file.now lists.now single places.old blocks.now values.now × (0 < turns) }
     ensures { Walks file.now lists.now single places.old blocks.now values.now threshold turns result places.new }
 {
@@ -129,14 +107,9 @@ pub fn walk(
     let taken = place - cur;
     if place == end {
         let single = to_place(file, lists, q, place, n, places, blocks);
-        return Gone {
-            single,
-            taken,
-            event: Event::Paused,
-        };
+        return Gone::new(single, taken, Event::Paused);
     }
     places[q][CUR] = place;
-    let reported = taken + 1;
     let doc = blocks[q][DOCS][place];
     let score = values[place];
     let single = Single {
@@ -144,9 +117,5 @@ pub fn walk(
         doc,
         phase: Phase::Called,
     };
-    Gone {
-        single,
-        taken: reported,
-        event: Event::Report(doc, score),
-    }
+    Gone::new(single, taken + 1, Event::Report(doc, score))
 }

@@ -91,11 +91,8 @@ impl SkipReader {
             × (b < 4294967296) }
         ensures { result ≡ reader_at file.now x b }
     {
-        let before = 128 * b;
-        if before <= x.count {
-            return read_block_info(file, x, b, byte_offset, previous, x.count - before);
-        }
-        read_block_info(file, x, b, byte_offset, previous, 0)
+        let left = x.count.saturating_sub(128 * b);
+        read_block_info(file, x, b, byte_offset, previous, left)
     }
 
     // On to the next block. A full one takes 16 bytes for each bit of width; a tail ends the postings.
@@ -121,13 +118,15 @@ impl SkipReader {
         }
     }
 
-    // From a block that ends before the target on to the first that does not, and no further than the tail.
+    // From a block that ends before the target on to the first that does not, and no further than the tail. The reader counts its blocks
+    // itself, so the loop has no index of its own.
     pub fn seek(self, file: &[u8], x: Part, target: u32) -> SkipReader
         requires { ListIn file.now x × Stands file.now x self × (self.block < 4294967296)
             × (self.last_doc_in_block < target) }
         ensures { Sought file.now x target self.block result }
     {
         let blocks = x.count / 128;
+        // The reader carries the block that is counted; a `for` beside it would count the blocks twice.
         let mut reader = self;
         while reader.block < blocks {
             reader = reader.advance(file, x);

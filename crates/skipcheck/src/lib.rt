@@ -10,13 +10,7 @@ ghost use Rattle.skipcheck.specs.Inner.Answers.{tail_or};
 use codec::bits::wide;
 use notefile::part::Part;
 use notefile::skip::skip_entry_at;
-
-// Where a list's tail starts, or that its skip entries are wrong.
-#[derive(Clone, Copy)]
-pub enum TailPlace {
-    At(usize),
-    Wrong,
-}
+use outcome::refusal::Refusal;
 
 // Whether row 5 lets a width byte and a frequency width through.
 fn widths_right(byte: u32, freq_bits: u32) -> bool
@@ -32,25 +26,23 @@ fn widths_right(byte: u32, freq_bits: u32) -> bool
 }
 
 // Where the tail starts, if row 5 lets the list's skip entries through. The blocks before it may not lie in the file.
-pub fn tail_place(file: &[u8], x: Part) -> TailPlace
+pub fn tail_place(file: &[u8], x: Part) -> Result<usize, Refusal>
     requires { Parted file.now x }
     ensures { result ≡ tail_or (skips_right file.now x) (tail_at file.now x) }
 {
     let blocks = x.count / 128;
     if x.skips + x.skip_entry_len * blocks != x.postings {
-        return TailPlace::Wrong;
+        return Err(Refusal::Skips);
     }
     let mut at = x.postings;
-    let mut b: usize = 0;
-    while b < blocks {
+    for b in 0..blocks {
         let e = skip_entry_at(file, x, b);
         let byte = wide(file[e + 4]);
         let freq_bits = wide(file[e + 5]);
         if !widths_right(byte, freq_bits) {
-            return TailPlace::Wrong;
+            return Err(Refusal::Skips);
         }
         at += 16 * ((byte % 32 + freq_bits) as usize);
-        b += 1;
     }
-    TailPlace::At(at)
+    Ok(at)
 }

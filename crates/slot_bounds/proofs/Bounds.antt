@@ -1,6 +1,7 @@
 -- Block bounds by slot: those that are known, those that stand ready, and what is left where one is found.
+use Rattle.std.specs.Prelude.{Option, Some, None}
 use mathlib.Core.Path.{◌≡◌, refl, sym, ap, ◌∙◌, subst}
-use mathlib.Core.Bool.{Bool, true, false, cond, false≢true, ◌||◌}
+use mathlib.Core.Bool.{Bool, true, false, cond, ◌||◌}
 use mathlib.Core.List.{List, []}
 use mathlib.Core.Logic.{inl, inr}
 use Prim.Native.Nat.{ℕ, ◌+◌, ◌-◌, ◌*◌, ◌≤◌, ◌<◌}
@@ -27,10 +28,7 @@ use Rattle.slot_rows.specs.Inner.Rows.{cursor_in, part_in, postings_in, PlaceIn}
 use Rattle.slot_rows.proofs.Rows.{ahead_in, bound-in, cursor-is}
 use Rattle.term_scorer.specs.Inner.Slots.{cursor_at, held, Held, list_at, part_at, SameRows, Sixteen}
 use Rattle.term_scorer.specs.Inner.Weights.{BoundKept, FloatRow, FloatRows, KeptBounds, KeptSlot, ReadyUpTo}
-use Rattle.slot_bounds.specs.Inner.Bounds.{block_max_at, BoundFound, Bounded, Readied, SameCells}
-use Rattle.slot_bounds.specs.declared.BlockMax.{BlockMax}
-use Rattle.slot_bounds.specs.declared.BlockMax.TheVariants.{Known, Unknown}
-use Rattle.slot_bounds.specs.declared.Bound.{Bound}
+use Rattle.slot_bounds.specs.Inner.Bounds.{block_max_at, Bounded, Readied, SameCells}
 
 -- ---- what is kept of a scorer where another's bound was found
 
@@ -153,59 +151,45 @@ module _ (scoring : Scoring) (file : List ℕ) (lists : List (List ℕ)) (q : �
   }
 
   -- the same, by what the slot keeps
-  pub bound-cached : BoundKept scoring file lists places bounds q → {bound : Float} {r : BlockMax} → r ≡ block_max_at places bounds q → r ≡ Known bound
+  pub bound-cached : BoundKept scoring file lists places bounds q → {bound : Float} {r : Option Float} → r ≡ block_max_at places bounds q → r ≡ Some bound
       → Bounded scoring file lists q places bounds places bounds bound
   bound-cached K {bound} c e =
-      by-test (λ (z : BlockMax). z ≡ Known bound → Bounded scoring file lists q places bounds places bounds bound) (eqb (get_or row 7 0) 1) (Known (get_or bounds q nan)) Unknown
-      (λ k f. subst (Bounded scoring file lists q places bounds places bounds) (known_in f) (bound-known (eqb-true (get_or row 7 0) 1 k) K))
-      (λ _ f. absurd (false≢true (ap is_known f))) (sym c ∙ e)
-    where
-      is_known : BlockMax → Bool
-      is_known Unknown = false
-      is_known (Known x) = true
-
-      value_of : BlockMax → Float
-      value_of Unknown = nan
-      value_of (Known x) = x
-
-      known_in : {x y : Float} → Known x ≡ Known y → x ≡ y
-      known_in f = ap value_of f
+      by-test (λ (z : Option Float). z ≡ Some bound → Bounded scoring file lists q places bounds places bounds bound) (eqb (get_or row 7 0) 1) (Some (get_or bounds q nan)) None
+      (λ k f. let same : get_or bounds q nan ≡ bound = cc in subst (Bounded scoring file lists q places bounds places bounds) same (bound-known (eqb-true (get_or row 7 0) 1 k) K))
+      (λ _ f. cc) (sym c ∙ e)
 
   -- a tail's
   module _ (hq : q < 16) (lb : FloatRow bounds) (K : BoundKept scoring file lists places bounds q) (tail : full_blocks (part_at lists q) ≤ (cursor_at places q).blk)
-      {r : Bound} (F : BoundFound scoring file (part_at lists q) row r) where
-    found : (k : ℕ) (places' : List (List ℕ)) → places' ≡ set places q (set (set row 9 (get_or row 9 0)) 7 k) → k ≡ cond r.lasts 1 (get_or row 7 0)
-        → Bounded scoring file lists q places bounds places' (set bounds q r.score) r.score
+      {r : Float} (F : r ≡ block_max 128 f32 (list_at scoring file lists q) (cursor_at places q)) where
+    found : (k : ℕ) (places' : List (List ℕ)) → places' ≡ set places q (set (set row 9 (get_or row 9 0)) 7 k) → k ≡ cond (cursor_at places q).loaded 1 (get_or row 7 0)
+        → Bounded scoring file lists q places bounds places' (set bounds q r) r
     found k places' e f = record {
       flag = k;
       end = get_or row 9 0;
-      bound-is = F.score-is;
+      bound-is = F;
       places-are = e;
-      bound-there = get_or-set_same bounds q r.score nan (omega arith);
-      ready = set-ready bounds q hq r.score l (get_or row 9 0) K.ready;
-      others = λ p h n. set-others bounds q hq r.score p n;
-      long = length-set bounds q r.score;
-      flag_is = f ∙ sym (rw (le-ltb (cursor_at places q).blk (full_blocks (part_at lists q)) tail, ← F.lasts-is));
+      bound-there = get_or-set_same bounds q r nan (omega arith);
+      ready = set-ready bounds q hq r l (get_or row 9 0) K.ready;
+      others = λ p h n. set-others bounds q hq r p n;
+      long = length-set bounds q r;
+      flag_is = f ∙ sym (rw (le-ltb (cursor_at places q).blk (full_blocks (part_at lists q)) tail));
     }
 
     -- which is loaded
-    pub bound-lasting : r.lasts ≡ true → Bounded scoring file lists q places bounds (set places q (set row 7 1)) (set bounds q r.score) r.score
+    pub bound-lasting : (cursor_at places q).loaded ≡ true → Bounded scoring file lists q places bounds (set places q (set row 7 1)) (set bounds q r) r
     bound-lasting e = found 1 _ (ap (λ (z : List ℕ). set places q (set z 7 1)) (sym (set-get_or row 9 0))) (sym (ap (λ (b : Bool). cond b 1 (get_or row 7 0)) e))
 
     -- which is not
-    pub bound-passing : r.lasts ≡ false → Bounded scoring file lists q places bounds places (set bounds q r.score) r.score
+    pub bound-passing : (cursor_at places q).loaded ≡ false → Bounded scoring file lists q places bounds places (set bounds q r) r
     bound-passing e = found (get_or row 7 0) _ (told-places (get_or row 7 0) refl) (sym (ap (λ (b : Bool). cond b 1 (get_or row 7 0)) e))
 
 -- a bound of the place that a row stands for is the row's
 pub tail-found : (scoring : Scoring) (file list row : List ℕ) {y : Part} → y ≡ part_in list → {p : SegmentPostings} → p ≡ postings_in file y row
-    → {score : Float} → score ≡ block_max 128 f32 (list_of scoring file y) (cursor_of p) → BoundFound scoring file (part_in list) row (record { score = score; lasts = p.block_loaded })
+    → {score : Float} → score ≡ block_max 128 f32 (list_of scoring file y) (cursor_of p) → score ≡ block_max 128 f32 (list_of scoring file (part_in list)) (cursor_in row)
 unfolding cursor_in postings_in
-tail-found scoring file list row part-is {p} place_is score-is = record {
-  score-is =
-      let q = subst (λ (z : Part). p ≡ postings_in file z row) part-is place_is in
-      score-is ∙ ap (λ (z : Part). block_max 128 f32 (list_of scoring file z) (cursor_of p)) part-is ∙ ap (block_max 128 f32 (list_of scoring file (part_in list))) (ap cursor_of q ∙ cursor-is file (part_in list) row);
-  lasts-is = ap (λ (z : SegmentPostings). z.block_loaded) place_is;
-}
+tail-found scoring file list row part-is {p} place_is score-is =
+    let q = subst (λ (z : Part). p ≡ postings_in file z row) part-is place_is in
+    score-is ∙ ap (λ (z : Part). block_max 128 f32 (list_of scoring file z) (cursor_of p)) part-is ∙ ap (block_max 128 f32 (list_of scoring file (part_in list))) (ap cursor_of q ∙ cursor-is file (part_in list) row)
 
 -- ---- a bound that was found, seen from all slots
 

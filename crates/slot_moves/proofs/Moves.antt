@@ -1,4 +1,5 @@
 -- The moves of a row: within its block no struct is made, else the place that it stands for moves.
+use Rattle.std.specs.Prelude.{Result, is_ok}
 use mathlib.Core.Path.{◌≡◌, refl, sym, ap, ◌∙◌, subst}
 use mathlib.Core.Bool.{Bool, true}
 use mathlib.Core.List.{List}
@@ -11,8 +12,7 @@ use lib.Ieee.{Float}
 use borrow.Author.Tests.{eq-eqb, lt-ltb, le-ltb}
 use Rattle.arrays.proofs.Order.{lt-or-ge}
 use Rattle.block_search.specs.Search.{answer_if, count_below, holds_at, search_answer}
-use Rattle.block_search.specs.Inner.Answers.{index_of, is_hit}
-use Rattle.block_search.specs.declared.Answer.{Answer}
+use Rattle.block_search.specs.Inner.Answers.{index_of}
 use Rattle.block_search.proofs.Answers.{answer_back, index_is}
 use Rattle.route.specs.Postings.{Postings, last_doc, start}
 use Rattle.route.specs.Cursor.{Cursor, advance_in, seek_block_in, seek_in}
@@ -21,7 +21,7 @@ use Rattle.bm25.specs.declared.Scoring.TheVariants.{Unstepped}
 use Rattle.notefile.specs.Inner.Reads.{docs_of}
 use Rattle.notefile.specs.declared.part.Part.{Part}
 use Rattle.decoded.specs.Lists.{list_of}
-use Rattle.skip_reader.specs.Inner.Decoded.{doc_in, doc-is, Decoded, ListIn}
+use Rattle.skip_reader.specs.Inner.Decoded.{doc_in, Decoded, ListIn}
 use Rattle.postings.specs.Seek.{seek_answer}
 use Rattle.postings.specs.Inner.Places.{cursor_of, live_answer, Behind, Placed, Moved}
 use Rattle.postings.specs.declared.cursor.SegmentPostings.{SegmentPostings}
@@ -43,7 +43,7 @@ module _ (file list row : List ℕ) (L : ListIn file (part_in list)) {block : Li
         (sought-here L (postings_in file (part_in list) row) P.placed t (omega (arith, h, doc-is, doc-in-array file list row L P))) doc-is
 
     -- the answer is that of a look at the document
-    pub told_here : t ≤ doc → {r : Answer} → r ≡ seek_answer t doc (get_or row 6 0) → SoughtRow file (part_in list) t (λ s. seek_in (list_of s file (part_in list)) 128 t (cursor_in row)) row row block r
+    pub told_here : t ≤ doc → {r : Result ℕ ℕ} → r ≡ seek_answer t doc (get_or row 6 0) → SoughtRow file (part_in list) t (λ s. seek_in (list_of s file (part_in list)) 128 t (cursor_in row)) row row block r
     told_here h e = sought-row file (part_in list) t (seeks-here h) e
 
     -- in its block, another posting follows
@@ -66,7 +66,7 @@ module _ (file list row : List ℕ) (L : ListIn file (part_in list)) {block : Li
           moves-in file list row (λ l c. seek_in l 128 t c) P next
           (sought-next L (postings_in file (part_in list) row) P.placed t (omega (arith, h, doc-is, doc-in-array file list row L P)) next-is next-inside k) refl
 
-      pub told-next : t ≤ get_or (docs_of block) next 0 → {r : Answer} → r ≡ seek_answer t (get_or (docs_of block) next 0) next
+      pub told-next : t ≤ get_or (docs_of block) next 0 → {r : Result ℕ ℕ} → r ≡ seek_answer t (get_or (docs_of block) next 0) next
           → SoughtRow file (part_in list) t (λ s. seek_in (list_of s file (part_in list)) 128 t (cursor_in row)) row (set row 6 next) block r
       told-next k {r} q = sought-row file (part_in list) t (seeks-next k) (subst (λ (z : ℕ). r ≡ seek_answer t (get_or (docs_of block) next 0) z) (sym (cur-set file list row (λ l c. c) P next)) q)
 
@@ -85,7 +85,7 @@ module _ (file list row : List ℕ) (L : ListIn file (part_in list)) {block : Li
 
   -- by a search in the block that may hold the target, which is loaded
   module _ (t : ℕ) (h : Behind (postings_in file (part_in list) row) block t) (k : t ≤ 2147483647) {row₂ : List ℕ} {block₂ : List (List ℕ)} (R : Reached file (part_in list) t row row₂ block₂)
-      {found : Answer} (e : found ≡ search_answer (docs_of block₂) t) {cur : ℕ} (c : cur ≡ index_of found) {hit : Bool} (q : hit ≡ is_hit found) where
+      {found : Result ℕ ℕ} (e : found ≡ search_answer (docs_of block₂) t) {cur : ℕ} (c : cur ≡ index_of found) {hit : Bool} (q : hit ≡ is_ok found) where
     abbrev x : Part
     x = part_in list
 

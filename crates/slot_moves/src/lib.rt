@@ -12,7 +12,7 @@ ghost use Rattle.postings.specs.Inner.Places.{Behind, live_answer};
 ghost use Rattle.slot_rows.specs.Inner.Rows.{cursor_in, first_of, part_in, postings_in, PartRow, PlaceIn, Standing, Unkept};
 ghost use Rattle.slot_rows.specs.Inner.Rows.{MovedRow, Reached, ShallowRow, SoughtRow};
 
-use block_search::{Answer, index_of, is_hit, search_block};
+use block_search::{index_of, search_block};
 use notefile::block::{Block, DOCS};
 use notefile::part::Part;
 use postings::answer::{answer_at, answer_by};
@@ -85,7 +85,7 @@ fn seek_on(
     reach(file, list, target, place, block);
     let found = search_block(&block[DOCS], target);
     place[CUR] = index_of(found);
-    is_hit(found)
+    found.is_ok()
 }
 
 // On to the first posting from the target on: where the scorer stands, the next one, or in the first block that ends at the target
@@ -97,7 +97,7 @@ pub fn seek(
     target: u32,
     place: &mut Place,
     block: &mut Block,
-) -> Answer
+) -> Result<usize, usize>
     requires { let x = part_in list.now in
         PartRow list.now × ListIn file.now x × PlaceIn file.now x place.old block.old
         × (doc ≡ doc_in file.now x (cursor_in place.old).at) × (target ≤ 2147483647) }

@@ -4,7 +4,6 @@ ghost use Rattle.route.specs.F32.{f32};
 ghost use Rattle.arrays.specs.Every.{All};
 ghost use Rattle.ordering.specs.Inner.Pivots.{before_pivot, count_on, pivot_of, place_to_seek};
 ghost use Rattle.ordering.specs.Inner.Scorers.{least_doc_of};
-ghost use Rattle.term_scorer.specs.Inner.Slots.{Sixteen};
 ghost use Rattle.term_scorer.specs.Inner.Weights.{TopRead};
 ghost use Rattle.ordering.specs.Inner.Rows.{Readable};
 ghost use Rattle.slot_pivot.specs.Inner.Terms.{term_in};
@@ -16,20 +15,18 @@ use term_scorer::{score, slot};
 
 // How many scorers stand before the one with which the list bounds exceed the threshold: all, if they never do.
 fn before_pivot(order: &[usize; 16], n: usize, lists: &[[usize; 8]; 16], threshold: f32) -> usize
-    requires { (n ≤ 16) × Sixteen order.now × All (TopRead lists.now) (take n order.now) }
+    requires { (n ≤ 16) × All (TopRead lists.now) (take n order.now) }
     ensures { (places : List (List ℕ)) (blocks : List (List (List ℕ)))
         → result ≡ before_pivot threshold f32.nil (take n (map (term_in lists.now places blocks) order.now)) }
 {
     let mut max_score = 0.0f32;
-    let mut i = 0usize;
-    while i < n {
-        max_score = max_score + score::max_score(lists, order[i]);
+    for i in 0..n {
+        max_score += score::max_score(lists, order[i]);
         if max_score > threshold {
             return i;
         }
-        i += 1;
     }
-    i
+    n
 }
 
 // The first place from `from` on whose scorer does not stand on doc.
@@ -41,21 +38,19 @@ fn end_of_pivot(
     places: &Places,
     blocks: &Blocks,
 ) -> usize
-    requires { (from ≤ n) × (n ≤ 16) × Sixteen order.now × All (Readable places.now) (take n order.now) }
+    requires { (from ≤ n) × (n ≤ 16) × All (Readable places.now) (take n order.now) }
     ensures { (lists : List (List ℕ))
         → result ≡ from + count_on doc (drop from (take n (map (term_in lists places.now blocks.now) order.now))) }
 {
-    let mut i = from;
-    while i < n {
+    for i in from..n {
         if slot::doc(order[i], places, blocks) != doc {
             return i;
         }
-        i += 1;
     }
-    i
+    n
 }
 
-// The lowest document that can exceed the threshold, by the list bounds of the scorers up to it.
+// The lowest document that can exceed the threshold, by the list bounds of the scorers up to it; none, if no document can.
 pub fn find_pivot_doc(
     order: &[usize; 16],
     n: usize,
@@ -63,38 +58,36 @@ pub fn find_pivot_doc(
     threshold: f32,
     places: &Places,
     blocks: &Blocks,
-) -> Pivot
-    requires { (n ≤ 16) × Sixteen order.now × All (TopRead lists.now) (take n order.now)
+) -> Option<Pivot>
+    requires { (n ≤ 16) × All (TopRead lists.now) (take n order.now)
         × All (Readable places.now) (take n order.now) }
     ensures { result ≡ pivot_of threshold (take n (map (term_in lists.now places.now blocks.now) order.now)) }
 {
     let before_pivot_len = before_pivot(order, n, lists, threshold);
     if n <= before_pivot_len {
-        return Pivot::Nowhere;
+        return None;
     }
     let pivot_doc = slot::doc(order[before_pivot_len], places, blocks);
     if pivot_doc == TERMINATED {
-        return Pivot::Nowhere;
+        return None;
     }
     let pivot_len = end_of_pivot(order, n, before_pivot_len + 1, pivot_doc, places, blocks);
-    Pivot::At {
+    Some(Pivot {
         before_pivot_len,
         pivot_len,
         pivot_doc,
-    }
+    })
 }
 
 // The place of the highest list bound among the first len scorers, the last among equals.
 pub fn scorer_to_seek(order: &[usize; 16], len: usize, lists: &[[usize; 8]; 16]) -> usize
-    requires { (0 < len) × (len ≤ 16) × Sixteen order.now × All (TopRead lists.now) (take len order.now) }
+    requires { (0 < len) × (len ≤ 16) × All (TopRead lists.now) (take len order.now) }
     ensures { (places : List (List ℕ)) (blocks : List (List (List ℕ)))
         → result ≡ place_to_seek (take len (map (term_in lists.now places blocks) order.now)) }
 {
     let mut at = len - 1;
     let mut highest = score::max_score(lists, order[at]);
-    let mut i = at;
-    while 0 < i {
-        i -= 1;
+    for i in (0..len - 1).rev() {
         let max_score = score::max_score(lists, order[i]);
         if max_score > highest {
             highest = max_score;
@@ -113,18 +106,14 @@ pub fn least_doc(
     places: &Places,
     blocks: &Blocks,
 ) -> u32
-    requires { (len ≤ n) × (n ≤ 16) × Sixteen order.now × All (Readable places.now) (take n order.now) }
+    requires { (len ≤ n) × (n ≤ 16) × All (Readable places.now) (take n order.now) }
     ensures { (lists : List (List ℕ))
         → result ≡ least_doc_of from (drop len (take n (map (term_in lists places.now blocks.now) order.now))) }
 {
     let mut least = from;
-    let mut i = len;
-    while i < n {
+    for i in len..n {
         let doc = slot::doc(order[i], places, blocks);
-        i += 1;
-        if doc <= least {
-            least = doc;
-        }
+        least = least.min(doc);
     }
     least
 }

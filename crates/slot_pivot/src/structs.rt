@@ -2,7 +2,6 @@
 ghost use Rattle.std.specs.Prelude.{map, ◌≡◌, ◌≤◌, take};
 ghost use Rattle.arrays.specs.Every.{All};
 ghost use Rattle.ordering.specs.Inner.Scorers.{slot_of};
-ghost use Rattle.term_scorer.specs.Inner.Slots.{Sixteen};
 ghost use Rattle.term_scorer.specs.Inner.Weights.{TopRead};
 ghost use Rattle.ordering.specs.Inner.Rows.{Ordered, Readable};
 ghost use Rattle.slot_pivot.specs.Inner.Terms.{term_in};
@@ -19,7 +18,7 @@ pub fn in_order(
     places: &Places,
     blocks: &Blocks,
 ) -> Scorers
-    requires { (n ≤ 16) × Sixteen order.now × All (TopRead lists.now) (take n order.now)
+    requires { (n ≤ 16) × All (TopRead lists.now) (take n order.now)
         × All (Readable places.now) (take n order.now) }
     ensures { let scorers = map (term_in lists.now places.now blocks.now) (take n order.now) in
         (result.len ≡ n) × (take n result.scorers ≡ scorers) }
@@ -29,8 +28,7 @@ pub fn in_order(
         max_score: 0.0,
         slot: 0,
     }; 16];
-    let mut i = 0usize;
-    while i < n {
+    for i in 0..n {
         let q = order[i];
         let doc = slot::doc(q, places, blocks);
         out[i] = TermScorer {
@@ -38,7 +36,6 @@ pub fn in_order(
             max_score: score::max_score(lists, q),
             slot: q,
         };
-        i += 1;
     }
     Scorers {
         scorers: out,
@@ -48,16 +45,11 @@ pub fn in_order(
 
 // The scorers' slots, in their order.
 pub fn keep_order(scorers: Scorers, order: &mut [usize; 16])
-    requires { (scorers.len ≤ 16) × Sixteen order.old }
+    requires { scorers.len ≤ 16 }
     ensures { let slots = map slot_of (take scorers.len scorers.scorers) in
         Ordered scorers.len order.old scorers.len slots order.new }
 {
-    let len = scorers.len;
-    let array = scorers.scorers;
-    let mut i = 0usize;
-    while i < len {
-        let scorer = array[i];
-        order[i] = scorer.slot;
-        i += 1;
+    for i in 0..scorers.len {
+        order[i] = scorers.scorers[i].slot;
     }
 }

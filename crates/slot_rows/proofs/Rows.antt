@@ -1,4 +1,5 @@
 -- A row and the place made of it are one, so that a move of the place is a move of the row.
+use Rattle.std.specs.Prelude.{Result}
 use mathlib.Core.Path.{◌≡◌, refl, sym, ap, ◌∙◌, subst}
 use mathlib.Core.Bool.{Bool, true, false}
 use mathlib.Core.List.{List}
@@ -7,7 +8,6 @@ use native.Mathlib.Omega.{arith}
 use lib.Dec.{eqb}
 use lib.ListN.{get_or, set}
 use lib.Ieee.{Float}
-use Rattle.block_search.specs.declared.Answer.{Answer}
 use Rattle.route.specs.Postings.{Postings}
 use Rattle.route.specs.Cursor.{Cursor}
 use Rattle.bm25.specs.declared.Scoring.{Scoring}
@@ -40,9 +40,6 @@ module _ (file : List ℕ) (x : Part) where
   cursor-is row = refl
 
   module _ (row : List ℕ) (S : Standing file x row) where
-    pub previous-small : get_or row 2 0 < 4294967296
-    previous-small = omega (arith, S.narrow.previous, ap (λ (z : List ℕ). get_or z 2 0) S.row_is)
-
     pub last-small : get_or row 3 0 < 4294967296
     last-small = omega (arith, S.narrow.last, ap (λ (z : List ℕ). get_or z 3 0) S.row_is)
 
@@ -253,12 +250,9 @@ module _ (file : List ℕ) (x : Part) where
   settled M = record { place = M.place; cursor-is = λ _. refl; doc-is = refl; bound-is = M.bound-is; scores-is = M.scores-is; ahead-is = M.ahead-is }
 
   -- a seek by its move and the answer of the document there
-  pub sought-row : (t : ℕ) {to : Scoring → Cursor} {row row' : List ℕ} {block : List (List ℕ)} {doc : ℕ} {r : Answer} → MovedRow file x to row row' block doc
+  pub sought-row : (t : ℕ) {to : Scoring → Cursor} {row row' : List ℕ} {block : List (List ℕ)} {doc : ℕ} {r : Result ℕ ℕ} → MovedRow file x to row row' block doc
       → r ≡ seek_answer t doc (get_or row' 6 0) → SoughtRow file x t to row row' block r
   sought-row t {to} {row} {row'} {block} M e = record {
     moved = subst (MovedRow file x to row row' block) M.doc-is M;
     answer-is = e ∙ ap (λ (d : ℕ). seek_answer t d (get_or row' 6 0)) M.doc-is;
   }
-
-  pub told-by : (t : ℕ) {to : Scoring → Cursor} {row row' : List ℕ} {block : List (List ℕ)} {r r' : Answer} → SoughtRow file x t to row row' block r → r' ≡ r → SoughtRow file x t to row row' block r'
-  told-by t S e = record { moved = S.moved; answer-is = e ∙ S.answer-is }

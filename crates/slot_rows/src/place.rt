@@ -102,16 +102,12 @@ pub fn keep(p: SegmentPostings, place: &mut Place)
 {
     let reader = p.skip_reader;
     let ahead = place[AHEAD];
-    let mut loaded = 0usize;
-    if p.block_loaded {
-        loaded = 1;
-    }
     *place = [
         reader.block,
         reader.byte_offset,
         reader.last_doc_in_previous_block as usize,
         reader.last_doc_in_block as usize,
-        loaded,
+        usize::from(p.block_loaded),
         p.decoded,
         p.cur,
         UNKNOWN,

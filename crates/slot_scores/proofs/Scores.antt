@@ -1,5 +1,5 @@
 -- Scores by slot are the route's.
-use mathlib.Core.Path.{◌≡◌, refl, sym, ap, ◌∙◌, subst}
+use mathlib.Core.Path.{◌≡◌, sym, ap, ◌∙◌, subst}
 use mathlib.Core.Bool.{Bool, false}
 use mathlib.Core.List.{List, []}
 use mathlib.Core.Logic.{inl, inr}
@@ -37,8 +37,7 @@ use Rattle.skip_reader.proofs.Blocks.{decoded-narrow}
 use Rattle.posting_bounds.proofs.BlockBounds.{score-at, score-is}
 use Rattle.slot_rows.specs.Inner.Rows.{cursor_in, part_in, postings_in, PlaceIn}
 use Rattle.term_scorer.specs.Inner.Slots.{list_at, part_at, cursor_at, Sixteen}
-use Rattle.term_scorer.specs.Inner.Weights.{BlockScores, FloatRow, FloatRows, ScoresKept}
-use Rattle.term_scorer.proofs.Floats.{rows-set}
+use Rattle.term_scorer.specs.Inner.Weights.{BlockScores, FloatRows, ScoresKept}
 use Rattle.slot_scores.specs.Inner.Made.{narrow_in, ScoresMade}
 
 -- whether a block is narrow, by its skip entry
@@ -132,15 +131,3 @@ module _ (scoring : Scoring) (file : List ℕ) (lists : List (List ℕ)) (q : �
     scores = S k;
     rows = F;
   }
-
-  -- that are made now
-  pub scores-new : q < 16 → {scores : List Float} → BlockScores (list_at scoring file lists q) (cursor_at places q).dec scores × FloatRow scores
-      → ScoresMade scoring file lists q places floats (set places q (set (get_or places q []) 8 1)) (set floats (2 + q) scores)
-  scores-new h {scores} (S, l) =
-      let e = get_or-set_same floats (2 + q) scores [] (omega (arith, h, F.eighteen)) in
-      record {
-        places-are = refl;
-        floats-are = ap (set floats (2 + q)) (sym e);
-        scores = rw e S;
-        rows = rows-set (2 + q) scores F (omega (arith, h)) l;
-      }

@@ -1,11 +1,11 @@
 -- A move of one slot's rows, seen from all slots.
+use Rattle.std.specs.Prelude.{Result}
 use mathlib.Core.Path.{◌≡◌, refl, sym, ap, ◌∙◌, subst}
 use mathlib.Core.List.{List, []}
 use Prim.Native.Nat.{ℕ, ◌≤◌, ◌<◌}
 use native.Mathlib.Omega.{arith}
 use lib.ListN.{get_or, set}
 use lib.Seq.{get_or-set_same, set-get_or}
-use Rattle.block_search.specs.declared.Answer.{Answer}
 use Rattle.route.specs.Cursor.{Cursor, fresh, seek_block_in}
 use Rattle.bm25.specs.declared.Scoring.{Scoring}
 use Rattle.notefile.specs.declared.part.Part.{Part}
@@ -41,7 +41,7 @@ module _ (file : List ℕ) (lists : List (List ℕ)) (q : ℕ) (h : q < 16) wher
   }
 
   -- a seek
-  pub sought-slot : (t : ℕ) (to : Scoring → Cursor) {places : List (List ℕ)} {blocks : List (List (List ℕ))} → Sixteen places × Sixteen blocks → {p : List ℕ} {b : List (List ℕ)} {r : Answer}
+  pub sought-slot : (t : ℕ) (to : Scoring → Cursor) {places : List (List ℕ)} {blocks : List (List (List ℕ))} → Sixteen places × Sixteen blocks → {p : List ℕ} {b : List (List ℕ)} {r : Result ℕ ℕ}
       → SoughtRow file (part_at lists q) t to (get_or places q []) p b r
       → SoughtSlot file lists q t to (held places blocks) (held (set places q p) (set blocks q b)) r
   sought-slot t to {places} {blocks} (lp, lb) {p} {b} S = record {

@@ -10,7 +10,6 @@ ghost use Rattle.slot_rows.specs.Inner.Rows.{first_of};
 ghost use Rattle.term_scorer.specs.Inner.Slots.{cursor_at, held, last_at, list_at, part_at};
 ghost use Rattle.term_scorer.specs.Inner.Slots.{MovedSlot, Opened, Shallowed, SlotIn, SoughtSlot, StandingIn, Sixteen};
 
-use block_search::Answer;
 use notefile::block::DOCS;
 use notefile::part::Part;
 use slot_rows::place::{BLOCK, Blocks, COUNT, CUR, LAST, Places, keep_part};
@@ -99,7 +98,7 @@ pub fn seek(
     target: u32,
     places: &mut Places,
     blocks: &mut Blocks,
-) -> Answer
+) -> Result<usize, usize>
     requires { let slots = held places.old blocks.old in
         (q < 16) × SlotIn file.now lists.now slots q
         × (doc ≡ doc_in file.now (part_at lists.now q) (cursor_at places.old q).at) × (target ≤ 2147483647) }

@@ -10,6 +10,7 @@ use Rattle.arrays.specs.Every.{All}
 use Rattle.route.specs.Cursor.{Cursor}
 use Rattle.route.proofs.Lists.{all-imp}
 use Rattle.bm25.specs.declared.Scoring.{Scoring}
+use Rattle.std.specs.Prelude.{Option}
 use Rattle.ordering.specs.declared.Pivot.{Pivot}
 use Rattle.ordering.specs.Inner.Pivots.{pivot_of}
 use Rattle.ordering.specs.Inner.Scorers.{Apart, by_doc, slot_of}
@@ -91,7 +92,7 @@ module _ (file : List ℕ) (lists : List (List ℕ)) where
 
   -- so the pivot is theirs
   pub pivot-read : (t : Float) (s : Scoring) (h : Held) (n : ℕ) (order : List ℕ) → All (Stand file lists h) (here s h (take n order)) → All (TopKept s file lists) (take n order)
-      → {p : Pivot} → p ≡ pivot_of t (take n (map (term_in lists h.places h.blocks) order)) → p ≡ pivot_of t (here s h (take n order))
+      → {p : Option Pivot} → p ≡ pivot_of t (take n (map (term_in lists h.places h.blocks) order)) → p ≡ pivot_of t (here s h (take n order))
   pivot-read t s h n order a b e = e ∙ ap (pivot_of t) (scorers-read s h n order a b)
 
   -- the scorers of slots are those of their own slots, with their own list bounds

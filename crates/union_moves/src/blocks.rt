@@ -1,7 +1,7 @@
 // The blocks that may hold the pivot, and the sum of their bounds.
 ghost use Rattle.std.specs.Prelude.{◌≡◌, ℕ, ◌≤◌, take};
 ghost use Rattle.notefile.specs.Header.{norm_reader};
-ghost use Rattle.term_scorer.specs.Inner.Slots.{held, Sixteen};
+ghost use Rattle.term_scorer.specs.Inner.Slots.{held};
 ghost use Rattle.union_moves.specs.Inner.Seats.{Seated, terms, terms_of};
 ghost use Rattle.union_moves.specs.Inner.Moves.{BlocksSought};
 
@@ -25,7 +25,7 @@ pub fn seek_blocks(
 ) -> f32
     requires { let T = terms similarity.scoring norms.now floats.old in
         let first = terms_of file.now lists.now similarity.scoring places.old (take pivot_len order.now) in
-        (pivot_len ≤ 16) × (similarity.norms ≡ norm_reader file.now) × Sixteen order.now
+        (pivot_len ≤ 16) × (similarity.norms ≡ norm_reader file.now)
         × Seated file.now lists.now T (held places.old blocks.now) first }
     ensures { let T = terms similarity.scoring norms.now floats.old in
         let old = held places.old blocks.now in
@@ -36,22 +36,19 @@ pub fn seek_blocks(
         → BlocksSought file.now lists.now T old pivot_doc pivot_len new floats.new result l) }
 {
     let mut sum = 0.0f32;
-    let mut i = 0usize;
-    while i < pivot_len {
+    for i in 0..pivot_len {
         let q = order[i];
         slot::shallow_seek(file, lists, q, pivot_doc, places);
-        sum = sum
-            + block_max(
-                file,
-                similarity,
-                lists,
-                norms,
-                q,
-                places,
-                blocks,
-                &mut floats[BOUNDS],
-            );
-        i += 1;
+        sum += block_max(
+            file,
+            similarity,
+            lists,
+            norms,
+            q,
+            places,
+            blocks,
+            &mut floats[BOUNDS],
+        );
     }
     sum
 }

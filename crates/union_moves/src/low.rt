@@ -2,7 +2,7 @@
 ghost use Rattle.std.specs.Prelude.{◌≡◌, ◌≤◌, ◌<◌, take};
 ghost use Rattle.arrays.specs.Every.{All};
 ghost use Rattle.route.specs.Union.{behind};
-ghost use Rattle.term_scorer.specs.Inner.Slots.{held, Sixteen};
+ghost use Rattle.term_scorer.specs.Inner.Slots.{held};
 ghost use Rattle.term_scorer.specs.Inner.Weights.{TopRead};
 ghost use Rattle.union_moves.specs.Inner.Seats.{Lined};
 ghost use Rattle.union_moves.specs.Inner.Moves.{least_last_of, LastRead, TooLow};
@@ -16,17 +16,12 @@ use term_scorer::slot;
 
 // The least last document of the first scorers' present blocks.
 fn least_last_doc(order: &[usize; 16], pivot_len: usize, places: &Places) -> u32
-    requires { (pivot_len ≤ 16) × Sixteen order.now × All (LastRead places.now) (take pivot_len order.now) }
+    requires { (pivot_len ≤ 16) × All (LastRead places.now) (take pivot_len order.now) }
     ensures { result ≡ least_last_of places.now 2147483647 (take pivot_len order.now) }
 {
     let mut least = TERMINATED;
-    let mut i = 0usize;
-    while i < pivot_len {
-        let last = slot::last_doc_in_block(order[i], places);
-        i += 1;
-        if last <= least {
-            least = last;
-        }
+    for i in 0..pivot_len {
+        least = least.min(slot::last_doc_in_block(order[i], places));
     }
     least
 }
@@ -54,7 +49,7 @@ pub fn block_max_was_too_low_advance_one_scorer(
     blocks: &mut Blocks,
 )
     requires { let slots = held places.old blocks.old in
-        (0 < pivot_len) × (pivot_len ≤ n) × (n ≤ 16) × Sixteen order.old
+        (0 < pivot_len) × (pivot_len ≤ n) × (n ≤ 16)
         × Lined file.now lists.now slots (take n order.old) × All (TopRead lists.now) (take n order.old) }
     ensures { let old = held places.old blocks.old in
         let new = held places.new blocks.new in
@@ -72,7 +67,7 @@ pub fn block_max_was_too_low_advance_one_scorer(
     let at = scorer_to_seek(order, pivot_len, lists);
     let q = order[at];
     let doc = slot::doc(q, places, blocks);
-    slot::seek(file, lists, q, doc, target, places, blocks);
+    let _ = slot::seek(file, lists, q, doc, target, places, blocks);
     let scorers = in_order(order, n, lists, places, blocks);
     let moved = restored(scorers, at);
     keep_order(moved, order);

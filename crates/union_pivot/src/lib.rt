@@ -7,24 +7,23 @@ ghost use Rattle.route.specs.Score.{sum};
 ghost use Rattle.route.specs.F32.{f32};
 ghost use Rattle.route.specs.Scorer.{score_here};
 ghost use Rattle.notefile.specs.Header.{norm_reader};
-ghost use Rattle.term_scorer.specs.Inner.Slots.{held, Sixteen};
+ghost use Rattle.term_scorer.specs.Inner.Slots.{held};
 ghost use Rattle.term_scorer.specs.Inner.Weights.{FloatRows};
 ghost use Rattle.union_moves.specs.Inner.Seats.{Inside, Lined, OnDocument, Unmoved, slot_scorer, terms};
 ghost use Rattle.union_pivot.specs.Inner.Advances.{AdvancedAll};
 
+use ordering::Pivot;
 use slot_order::restore::{sort_by_doc, sweep};
 use slot_rows::place::{Blocks, Places};
 use slot_scores::kept_score;
 use term_scorer::score::Leg;
 use term_scorer::{Floats, slot};
 
-// Where a pivot is among len scorers: those up to before_pivot_len stand before it, those up to pivot_len on it.
+// So many scorers, and the pivot among them.
 #[derive(Clone, Copy)]
 pub struct Span {
     pub len: usize,
-    pub before_pivot_len: usize,
-    pub pivot_len: usize,
-    pub pivot_doc: u32,
+    pub pivot: Pivot,
 }
 
 // The first scorers' scores on the document that they stand on, added in the order that the scorers have now. The scorers stay.
@@ -41,24 +40,22 @@ pub fn score_on_pivot(
 ) -> f32
     requires { let T = terms leg.similarity.scoring norms.now floats.old in
         let slots = held places.old blocks.now in
-        (span.pivot_len ≤ 16) × (leg.similarity.norms ≡ norm_reader file.now) × Sixteen order.now
-        × FloatRows floats.old × All (OnDocument file.now lists.now T slots) (take span.pivot_len order.now) }
+        (span.pivot.pivot_len ≤ 16) × (leg.similarity.norms ≡ norm_reader file.now)
+        × FloatRows floats.old × All (OnDocument file.now lists.now T slots) (take span.pivot.pivot_len order.now) }
     ensures { let old = held places.old blocks.now in
         let new = held places.new blocks.now in
-        let slots = take span.pivot_len order.now in
+        let slots = take span.pivot.pivot_len order.now in
         let first = map (slot_scorer file.now lists.now leg.similarity.scoring places.old) slots in
         (result ≡ sum f32 (map score_here first))
         × Unmoved file.now lists.now leg.similarity.scoring norms.now floats.old old floats.new new }
 {
     let similarity = leg.similarity;
-    let pivot_len = span.pivot_len;
+    let pivot_len = span.pivot.pivot_len;
     let mut sum = 0.0f32;
-    let mut i = 0usize;
-    while i < pivot_len {
+    for i in 0..pivot_len {
         let q = order[i];
         let score = kept_score(file, similarity, lists, norms, q, places, blocks, floats);
-        sum = sum + score;
-        i += 1;
+        sum += score;
     }
     sum
 }
@@ -74,16 +71,14 @@ pub fn advance_all_scorers_on_pivot(
     blocks: &mut Blocks,
 ) -> usize
     requires { let slots = held places.old blocks.old in
-        (pivot_len ≤ n) × (n ≤ 16) × Sixteen order.old × Lined file.now lists.now slots (take n order.old)
+        (pivot_len ≤ n) × (n ≤ 16) × Lined file.now lists.now slots (take n order.old)
         × All (Inside lists.now slots) (take pivot_len order.old) }
     ensures { let old = held places.old blocks.old in
         let new = held places.new blocks.new in
         AdvancedAll file.now lists.now old order.old n pivot_len new order.new result }
 {
-    let mut i = 0usize;
-    while i < pivot_len {
+    for i in 0..pivot_len {
         slot::step(file, lists, order[i], places, blocks);
-        i += 1;
     }
     let len = sweep(order, n, places, blocks);
     sort_by_doc(order, len, places, blocks);

@@ -1,6 +1,6 @@
 -- At a pivot: scorers that all came to it can be scored and go on, and what the step leaves is the route's.
 use mathlib.Core.Bool.{Bool, false, true}
-use mathlib.Core.List.{List, map, [], ◌++◌}
+use mathlib.Core.List.{List, map, ◌++◌}
 use mathlib.Core.Option.{some}
 use mathlib.Core.Path.{ap, refl, subst, sym, ◌∙◌, ◌≡◌}
 use Prim.Native.Nat.{ℕ, ◌-◌, ◌<◌, ◌≤◌}
@@ -37,12 +37,14 @@ use Rattle.term_scorer.specs.Inner.Slots.{cursor_at, Held, list_at, part_at, Six
 use Rattle.union_moves.specs.Inner.Seats.{Inside, OnDocument, Seat, Seated, Stand, Terms, Unmoved, scorer_at, slot_scorer, term_at, terms, terms_of}
 use Rattle.union_moves.specs.Inner.Moves.{AlignedBy, Aligns, OnPivot, PastPivot}
 use Rattle.union_pivot.specs.Inner.Advances.{AdvancedAll}
+use Rattle.std.specs.Prelude.{Some}
 use Rattle.union_turn.specs.Inner.Turns.{AtPivot, Does, Hit, Pivoted, quiet_step, place_in, stage_of}
 use Rattle.union_turn.specs.declared.Stage.{Stage}
 use Rattle.union_turn.specs.declared.Stage.TheVariants.{Called, Looking}
 use Rattle.union_moves.specs.declared.align.Alignment.{Alignment}
 use Rattle.union_pivot.specs.declared.Span.{Span}
-use Rattle.union_turn.specs.declared.Step.{Step}
+use Rattle.reports.specs.declared.Step.{Step}
+use Rattle.union_turn.specs.declared.Union.{Union}
 use Rattle.union_moves.proofs.Seats.{same-doc, seat-stand, seats-stand, still-seated}
 use Rattle.union_moves.proofs.Slots.{all-unmap, map-map}
 use Rattle.union_pivot.proofs.Unmoved.{scorers-unmoved, seated-unmoved, terms-unmoved}
@@ -85,13 +87,13 @@ module _ {file : List ℕ} {lists : List (List ℕ)} {T : Terms} {h : Held} {at 
   l = terms_of file lists T.scoring h.places (take n order)
 
   abbrev before : ℕ
-  before = at.before_pivot_len
+  before = at.pivot.before_pivot_len
 
   abbrev len : ℕ
-  len = at.pivot_len
+  len = at.pivot.pivot_len
 
   abbrev p : ℕ
-  p = at.pivot_doc
+  p = at.pivot.pivot_doc
 
   abbrev f : TermScorer → Scorer Float
   f = scorer_at file lists T.scoring h.places
@@ -170,7 +172,7 @@ module _ {file : List ℕ} {lists : List (List ℕ)} {T : Terms} {h : Held} {at 
         (take len l') (all_take (Seat file lists T h') len l' (O.carried.seats T A.seated.seats)) on-it))
 
     -- what a hit leaves, at threshold t
-    pub on-hit : {t : Float} {h'' : Held} {order'' : List ℕ} {floats'' : List (List Float)} {r : Step} → Hit file lists T t h' order' n len p h'' order'' floats'' r
+    pub on-hit : {t : Float} {h'' : Held} {order'' : List ℕ} {floats'' : List (List Float)} {r : Step Union} → Hit file lists T t h' order' n len p h'' order'' floats'' r
         → Pivoted file lists T t h order n at h'' order'' floats'' r
     on-hit {t} {h''} {order''} {r = r} D =
         let k = first in
@@ -229,7 +231,7 @@ module _ (file : List ℕ) (lists : List (List ℕ)) (T : Terms) (t : Float) (h 
 
   -- a report is due
   pub hit-due : f32.above score t ≡ true → n ≤ 16 → Sixteen order
-      → Hit file lists T t h order n len p h₁ order floats₁ (record { union = record { len = n; stage = Called len }; due = true; doc = p; score = score })
+      → Hit file lists T t h order n len p h₁ order floats₁ (record { to = record { len = n; stage = Called len }; due = Some (p, score) })
   hit-due q small long = record {
     left = seated₁;
     does = λ ls.

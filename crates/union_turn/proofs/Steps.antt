@@ -19,7 +19,7 @@ use Rattle.route.proofs.Union.Safe.{safe-shallow}
 use Rattle.bm25.specs.declared.Scoring.{Scoring}
 use Rattle.ordering.specs.Inner.Pivots.{pivot_of, Found}
 use Rattle.term_scorer.specs.declared.TermScorer.{TermScorer}
-use Rattle.ordering.specs.declared.Pivot.TheVariants.{Nowhere}
+use Rattle.std.specs.Prelude.{None}
 use Rattle.ordering.proofs.Places.{all_drop, all_take, map-drop, map-take}
 use Rattle.ordering.proofs.Found.{pivot-found}
 use Rattle.ordering.proofs.OnRoute.{Fair}
@@ -33,7 +33,8 @@ use Rattle.union_pivot.specs.Inner.Advances.{AdvancedAll}
 use Rattle.union_turn.specs.Inner.Turns.{AtPivot, Does, Pivoted, ToPivot, Turned, quiet_step, place_in}
 use Rattle.union_turn.specs.declared.Stage.TheVariants.{Called, Looking, Over}
 use Rattle.union_pivot.specs.declared.Span.{Span}
-use Rattle.union_turn.specs.declared.Step.{Step}
+use Rattle.reports.specs.declared.Step.{Step}
+use Rattle.union_turn.specs.declared.Union.{Union}
 use Rattle.union_moves.proofs.Seats.{fair, first-apart, seats-stand, still-seated}
 use Rattle.union_moves.proofs.Slots.{all-unmap, lined, same-terms, slots-of, tops-kept}
 use Rattle.union_turn.proofs.OnPivots.{found-low, inside_on}
@@ -56,13 +57,13 @@ module _ {file : List ℕ} {lists : List (List ℕ)} {T : Terms} {t : Float} {h 
   l = terms_of file lists T.scoring h.places (take n order)
 
   abbrev before : ℕ
-  before = at.before_pivot_len
+  before = at.pivot.before_pivot_len
 
   abbrev len : ℕ
-  len = at.pivot_len
+  len = at.pivot.pivot_len
 
   abbrev p : ℕ
-  p = at.pivot_doc
+  p = at.pivot.pivot_doc
 
   abbrev f : TermScorer → Scorer Float
   f = scorer_at file lists T.scoring h.places
@@ -126,7 +127,7 @@ module _ {file : List ℕ} {lists : List (List ℕ)} {T : Terms} {t : Float} {h 
     sum-above q = rw B.sum_is at q
 
     -- the block bounds are high enough
-    pub high : f32.above upper t ≡ true → {h'' : Held} {order'' : List ℕ} {floats'' : List (List Float)} {r : Step} → Pivoted file lists T' t h' order n at h'' order'' floats'' r
+    pub high : f32.above upper t ≡ true → {h'' : Held} {order'' : List ℕ} {floats'' : List (List Float)} {r : Step Union} → Pivoted file lists T' t h' order n at h'' order'' floats'' r
         → Turned file lists T t Looking h order n h'' order'' floats'' r
     high q {h''} {order''} {r = r} P = record {
       does = subst (λ (u : Turn (UnionPlace Float) Float). Does file lists T.scoring u h'' order'' r)
@@ -159,7 +160,7 @@ module _ {file : List ℕ} {lists : List (List ℕ)} {T : Terms} (t : Float) {h 
   abbrev all : List TermScorer
   all = terms_of file lists T.scoring h.places (take n order)
 
-  pub nowhere : Nowhere ≡ pivot_of t all → Turned file lists T t Looking h order n h order T.floats (quiet_step n Over)
+  pub nowhere : None ≡ pivot_of t all → Turned file lists T t Looking h order n h order T.floats (quiet_step n Over)
   nowhere e =
       let q = nowhere-turn 128 t all at-route (fair-here S) e in
       record { does = record { next-is = ap (λ u. u.next) q; due-is = ap (λ u. u.due) q }; left = S; few = omega arith; long = long }

@@ -4,13 +4,13 @@
 ghost use Rattle.std.specs.Prelude.{◌≡◌, ◌≤◌, take};
 ghost use Rattle.arrays.specs.Every.{All};
 ghost use Rattle.notefile.specs.Header.{norm_reader};
-ghost use Rattle.term_scorer.specs.Inner.Slots.{held, Sixteen};
+ghost use Rattle.term_scorer.specs.Inner.Slots.{held};
 ghost use Rattle.union_moves.specs.Inner.Seats.{OnDocument, Seated, terms, terms_of};
 ghost use Rattle.union_turn.specs.Inner.Turns.{AtPivot, Hit, Pivoted, ToPivot, Turned, quiet_step};
 ghost use Rattle.union_turn.specs.Inner.Runs.{Stands};
 ghost use Rattle.union_turn.specs.declared.Stage.TheVariants.{Looking};
 
-use ordering::Pivot;
+use reports::Step;
 use slot_pivot::pivot::find_pivot_doc;
 use slot_rows::place::{Blocks, Places};
 use term_scorer::Floats;
@@ -35,24 +35,13 @@ pub struct Union {
     pub stage: Stage,
 }
 
-// The scorers left and the stage that follows, and whether document doc is due with its score.
-#[derive(Clone, Copy)]
-pub struct Step {
-    pub union: Union,
-    pub due: bool,
-    pub doc: u32,
-    pub score: f32,
-}
-
 // No document is due.
-fn quiet(len: usize, stage: Stage) -> Step
+fn quiet(len: usize, stage: Stage) -> Step<Union>
     ensures { result ≡ quiet_step len stage }
 {
     Step {
-        union: Union { len, stage },
-        due: false,
-        doc: 0,
-        score: 0.0,
+        to: Union { len, stage },
+        due: None,
     }
 }
 
@@ -67,29 +56,27 @@ fn hit(
     places: &mut Places,
     blocks: &mut Blocks,
     floats: &mut Floats,
-) -> Step
+) -> Step<Union>
     requires { let T = terms leg.similarity.scoring norms.now floats.old in
         let slots = held places.old blocks.old in
         let l = terms_of file.now lists.now leg.similarity.scoring places.old (take span.len order.old) in
-        (span.pivot_len ≤ span.len) × (span.len ≤ 16) × (leg.similarity.norms ≡ norm_reader file.now) × Sixteen order.old
+        (span.pivot.pivot_len ≤ span.len) × (span.len ≤ 16) × (leg.similarity.norms ≡ norm_reader file.now)
         × Seated file.now lists.now T slots l
-        × All (OnDocument file.now lists.now T slots) (take span.pivot_len order.old) }
+        × All (OnDocument file.now lists.now T slots) (take span.pivot.pivot_len order.old) }
     ensures { let T = terms leg.similarity.scoring norms.now floats.old in
         let old = held places.old blocks.old in
         let new = held places.new blocks.new in
         Hit file.now lists.now T leg.threshold old order.old span.len
-        span.pivot_len span.pivot_doc new order.new floats.new result }
+        span.pivot.pivot_len span.pivot.pivot_doc new order.new floats.new result }
 {
     let n = span.len;
-    let pivot_len = span.pivot_len;
+    let pivot_len = span.pivot.pivot_len;
     let score = score_on_pivot(file, leg, span, lists, norms, order, places, blocks, floats);
     if score > leg.threshold {
         let stage = Stage::Called(pivot_len);
         return Step {
-            union: Union { len: n, stage },
-            due: true,
-            doc: span.pivot_doc,
-            score,
+            to: Union { len: n, stage },
+            due: Some((span.pivot.pivot_doc, score)),
         };
     }
     let len = advance_all_scorers_on_pivot(file, lists, n, pivot_len, order, places, blocks);
@@ -107,11 +94,11 @@ fn on_pivot(
     places: &mut Places,
     blocks: &mut Blocks,
     floats: &mut Floats,
-) -> Step
+) -> Step<Union>
     requires { let scoring = leg.similarity.scoring in
         let slots = held places.old blocks.old in
         let l = terms_of file.now lists.now scoring places.old (take span.len order.old) in
-        (span.len ≤ 16) × (leg.similarity.norms ≡ norm_reader file.now) × Sixteen order.old
+        (span.len ≤ 16) × (leg.similarity.norms ≡ norm_reader file.now)
         × AtPivot file.now lists.now (terms scoring norms.now floats.old) slots l span }
     ensures { let T = terms leg.similarity.scoring norms.now floats.old in
         let old = held places.old blocks.old in
@@ -122,8 +109,8 @@ fn on_pivot(
         file,
         lists,
         span.len,
-        span.before_pivot_len,
-        span.pivot_doc,
+        span.pivot.before_pivot_len,
+        span.pivot.pivot_doc,
         order,
         places,
         blocks,
@@ -145,7 +132,7 @@ fn to_pivot(
     places: &mut Places,
     blocks: &mut Blocks,
     floats: &mut Floats,
-) -> Step
+) -> Step<Union>
     requires { let T = terms leg.similarity.scoring norms.now floats.old in
         let slots = held places.old blocks.old in
         (leg.similarity.norms ≡ norm_reader file.now)
@@ -156,13 +143,14 @@ fn to_pivot(
         Turned file.now lists.now T leg.threshold Looking
         old order.old span.len new order.new floats.new result }
 {
+    let pivot_len = span.pivot.pivot_len;
     let upper_bound = seek_blocks(
         file,
         leg.similarity,
         lists,
         norms,
-        span.pivot_len,
-        span.pivot_doc,
+        pivot_len,
+        span.pivot.pivot_doc,
         order,
         places,
         blocks,
@@ -172,7 +160,7 @@ fn to_pivot(
         return on_pivot(file, leg, span, lists, norms, order, places, blocks, floats);
     }
     let n = span.len;
-    block_max_was_too_low_advance_one_scorer(file, lists, n, span.pivot_len, order, places, blocks);
+    block_max_was_too_low_advance_one_scorer(file, lists, n, pivot_len, order, places, blocks);
     quiet(n, Stage::Looking)
 }
 
@@ -187,10 +175,10 @@ fn look(
     places: &mut Places,
     blocks: &mut Blocks,
     floats: &mut Floats,
-) -> Step
+) -> Step<Union>
     requires { let scoring = leg.similarity.scoring in
         let slots = held places.old blocks.old in
-        let u = (quiet_step n Looking).union in
+        let u = (quiet_step n Looking).to in
         (leg.similarity.norms ≡ norm_reader file.now)
         × Stands file.now lists.now (terms scoring norms.now floats.old) u order.old slots }
     ensures { let T = terms leg.similarity.scoring norms.now floats.old in
@@ -198,23 +186,11 @@ fn look(
         let new = held places.new blocks.new in
         Turned file.now lists.now T leg.threshold Looking old order.old n new order.new floats.new result }
 {
-    let pivot = find_pivot_doc(order, n, lists, leg.threshold, places, blocks);
-    match pivot {
-        Pivot::Nowhere => quiet(n, Stage::Over),
-        Pivot::At {
-            before_pivot_len,
-            pivot_len,
-            pivot_doc,
-        } => {
-            let span = Span {
-                len: n,
-                before_pivot_len,
-                pivot_len,
-                pivot_doc,
-            };
-            to_pivot(file, leg, span, lists, norms, order, places, blocks, floats)
-        }
-    }
+    let Some(pivot) = find_pivot_doc(order, n, lists, leg.threshold, places, blocks) else {
+        return quiet(n, Stage::Over);
+    };
+    let span = Span { len: n, pivot };
+    to_pivot(file, leg, span, lists, norms, order, places, blocks, floats)
 }
 
 // Behind a report the scorers on its document go on; over, nothing does.
@@ -228,7 +204,7 @@ pub fn turn(
     places: &mut Places,
     blocks: &mut Blocks,
     floats: &mut Floats,
-) -> Step
+) -> Step<Union>
     requires { let scoring = leg.similarity.scoring in
         let slots = held places.old blocks.old in
         (leg.similarity.norms ≡ norm_reader file.now)
@@ -240,8 +216,7 @@ pub fn turn(
         order.new floats.new result }
 {
     let n = union.len;
-    let stage = union.stage;
-    match stage {
+    match union.stage {
         Stage::Looking => look(file, leg, n, lists, norms, order, places, blocks, floats),
         Stage::Called(k) => {
             let len = advance_all_scorers_on_pivot(file, lists, n, k, order, places, blocks);

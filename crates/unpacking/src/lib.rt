@@ -1,241 +1,22 @@
-// A packed block by its width: 128 values of one width from 0 to 32, in four lanes. Each width has an arm of its own, with the word and
-// the bit at which each quarter of its block begins, so that the compiler lays out the rows of a width one after another, each shift a
-// constant. `eight` asks for these numbers to be the bit place, and carries it from there on.
+// A packed block by its width: 128 values of one width from 0 to 32, in four lanes. Each width is a constant of a function of its own, so
+// that the compiler lays out its rows one after another, each shift a constant.
 #![tactic(auto)]
 
 ghost use Rattle.std.specs.Prelude.{◌≡◌, ◌+◌, ◌*◌, ◌≤◌, length};
-ghost use Rattle.bitpacker.specs.Inner.Rows.{First, InBytes, Unpacked};
+ghost use Rattle.bitpacker.specs.Inner.Rows.{InBytes, Unpacked};
 
 use bitpacker::{copy, eight};
 
-// Widths from 26 to 31.
-fn from_26(s: &[u8], at: usize, width: u32, out: &mut [u32; 128])
-    requires { (26 ≤ width) × InBytes (length s.now) at width × First s.now at width 0 out.old }
-    ensures { First s.now at width 128 out.new }
+// The 128 values of a block of W bits each, by quarters of eight rows. A quarter has 8 * W bits of each lane, so that the second, third and
+// fourth begin at that place, at twice and at three times as much.
+fn of_width<const W: u32>(s: &[u8], at: usize, out: &mut [u32; 128])
+    requires { InBytes (length s.now) at W }
+    ensures { Unpacked s.now at W out.new }
 {
-    match width {
-        26 => {
-            eight(s, at, width, 0, 0, 0, out);
-            eight(s, at, width, 6, 16, 32, out);
-            eight(s, at, width, 13, 0, 64, out);
-            eight(s, at, width, 19, 16, 96, out);
-        }
-        27 => {
-            eight(s, at, width, 0, 0, 0, out);
-            eight(s, at, width, 6, 24, 32, out);
-            eight(s, at, width, 13, 16, 64, out);
-            eight(s, at, width, 20, 8, 96, out);
-        }
-        28 => {
-            eight(s, at, width, 0, 0, 0, out);
-            eight(s, at, width, 7, 0, 32, out);
-            eight(s, at, width, 14, 0, 64, out);
-            eight(s, at, width, 21, 0, 96, out);
-        }
-        29 => {
-            eight(s, at, width, 0, 0, 0, out);
-            eight(s, at, width, 7, 8, 32, out);
-            eight(s, at, width, 14, 16, 64, out);
-            eight(s, at, width, 21, 24, 96, out);
-        }
-        30 => {
-            eight(s, at, width, 0, 0, 0, out);
-            eight(s, at, width, 7, 16, 32, out);
-            eight(s, at, width, 15, 0, 64, out);
-            eight(s, at, width, 22, 16, 96, out);
-        }
-        31 => {
-            eight(s, at, width, 0, 0, 0, out);
-            eight(s, at, width, 7, 24, 32, out);
-            eight(s, at, width, 15, 16, 64, out);
-            eight(s, at, width, 23, 8, 96, out);
-        }
-        _ => {}
-    }
-}
-
-// Widths from 20 to 25, and the wider ones.
-fn from_20(s: &[u8], at: usize, width: u32, out: &mut [u32; 128])
-    requires { (20 ≤ width) × InBytes (length s.now) at width × First s.now at width 0 out.old }
-    ensures { First s.now at width 128 out.new }
-{
-    match width {
-        20 => {
-            eight(s, at, width, 0, 0, 0, out);
-            eight(s, at, width, 5, 0, 32, out);
-            eight(s, at, width, 10, 0, 64, out);
-            eight(s, at, width, 15, 0, 96, out);
-        }
-        21 => {
-            eight(s, at, width, 0, 0, 0, out);
-            eight(s, at, width, 5, 8, 32, out);
-            eight(s, at, width, 10, 16, 64, out);
-            eight(s, at, width, 15, 24, 96, out);
-        }
-        22 => {
-            eight(s, at, width, 0, 0, 0, out);
-            eight(s, at, width, 5, 16, 32, out);
-            eight(s, at, width, 11, 0, 64, out);
-            eight(s, at, width, 16, 16, 96, out);
-        }
-        23 => {
-            eight(s, at, width, 0, 0, 0, out);
-            eight(s, at, width, 5, 24, 32, out);
-            eight(s, at, width, 11, 16, 64, out);
-            eight(s, at, width, 17, 8, 96, out);
-        }
-        24 => {
-            eight(s, at, width, 0, 0, 0, out);
-            eight(s, at, width, 6, 0, 32, out);
-            eight(s, at, width, 12, 0, 64, out);
-            eight(s, at, width, 18, 0, 96, out);
-        }
-        25 => {
-            eight(s, at, width, 0, 0, 0, out);
-            eight(s, at, width, 6, 8, 32, out);
-            eight(s, at, width, 12, 16, 64, out);
-            eight(s, at, width, 18, 24, 96, out);
-        }
-        _ => from_26(s, at, width, out),
-    }
-}
-
-// Widths from 14 to 19, and the wider ones.
-fn from_14(s: &[u8], at: usize, width: u32, out: &mut [u32; 128])
-    requires { (14 ≤ width) × InBytes (length s.now) at width × First s.now at width 0 out.old }
-    ensures { First s.now at width 128 out.new }
-{
-    match width {
-        14 => {
-            eight(s, at, width, 0, 0, 0, out);
-            eight(s, at, width, 3, 16, 32, out);
-            eight(s, at, width, 7, 0, 64, out);
-            eight(s, at, width, 10, 16, 96, out);
-        }
-        15 => {
-            eight(s, at, width, 0, 0, 0, out);
-            eight(s, at, width, 3, 24, 32, out);
-            eight(s, at, width, 7, 16, 64, out);
-            eight(s, at, width, 11, 8, 96, out);
-        }
-        16 => {
-            eight(s, at, width, 0, 0, 0, out);
-            eight(s, at, width, 4, 0, 32, out);
-            eight(s, at, width, 8, 0, 64, out);
-            eight(s, at, width, 12, 0, 96, out);
-        }
-        17 => {
-            eight(s, at, width, 0, 0, 0, out);
-            eight(s, at, width, 4, 8, 32, out);
-            eight(s, at, width, 8, 16, 64, out);
-            eight(s, at, width, 12, 24, 96, out);
-        }
-        18 => {
-            eight(s, at, width, 0, 0, 0, out);
-            eight(s, at, width, 4, 16, 32, out);
-            eight(s, at, width, 9, 0, 64, out);
-            eight(s, at, width, 13, 16, 96, out);
-        }
-        19 => {
-            eight(s, at, width, 0, 0, 0, out);
-            eight(s, at, width, 4, 24, 32, out);
-            eight(s, at, width, 9, 16, 64, out);
-            eight(s, at, width, 14, 8, 96, out);
-        }
-        _ => from_20(s, at, width, out),
-    }
-}
-
-// Widths from 8 to 13, and the wider ones.
-fn from_8(s: &[u8], at: usize, width: u32, out: &mut [u32; 128])
-    requires { (8 ≤ width) × InBytes (length s.now) at width × First s.now at width 0 out.old }
-    ensures { First s.now at width 128 out.new }
-{
-    match width {
-        8 => {
-            eight(s, at, width, 0, 0, 0, out);
-            eight(s, at, width, 2, 0, 32, out);
-            eight(s, at, width, 4, 0, 64, out);
-            eight(s, at, width, 6, 0, 96, out);
-        }
-        9 => {
-            eight(s, at, width, 0, 0, 0, out);
-            eight(s, at, width, 2, 8, 32, out);
-            eight(s, at, width, 4, 16, 64, out);
-            eight(s, at, width, 6, 24, 96, out);
-        }
-        10 => {
-            eight(s, at, width, 0, 0, 0, out);
-            eight(s, at, width, 2, 16, 32, out);
-            eight(s, at, width, 5, 0, 64, out);
-            eight(s, at, width, 7, 16, 96, out);
-        }
-        11 => {
-            eight(s, at, width, 0, 0, 0, out);
-            eight(s, at, width, 2, 24, 32, out);
-            eight(s, at, width, 5, 16, 64, out);
-            eight(s, at, width, 8, 8, 96, out);
-        }
-        12 => {
-            eight(s, at, width, 0, 0, 0, out);
-            eight(s, at, width, 3, 0, 32, out);
-            eight(s, at, width, 6, 0, 64, out);
-            eight(s, at, width, 9, 0, 96, out);
-        }
-        13 => {
-            eight(s, at, width, 0, 0, 0, out);
-            eight(s, at, width, 3, 8, 32, out);
-            eight(s, at, width, 6, 16, 64, out);
-            eight(s, at, width, 9, 24, 96, out);
-        }
-        _ => from_14(s, at, width, out),
-    }
-}
-
-// Widths from 2 to 7, and the wider ones.
-fn from_2(s: &[u8], at: usize, width: u32, out: &mut [u32; 128])
-    requires { (2 ≤ width) × InBytes (length s.now) at width × First s.now at width 0 out.old }
-    ensures { First s.now at width 128 out.new }
-{
-    match width {
-        2 => {
-            eight(s, at, width, 0, 0, 0, out);
-            eight(s, at, width, 0, 16, 32, out);
-            eight(s, at, width, 1, 0, 64, out);
-            eight(s, at, width, 1, 16, 96, out);
-        }
-        3 => {
-            eight(s, at, width, 0, 0, 0, out);
-            eight(s, at, width, 0, 24, 32, out);
-            eight(s, at, width, 1, 16, 64, out);
-            eight(s, at, width, 2, 8, 96, out);
-        }
-        4 => {
-            eight(s, at, width, 0, 0, 0, out);
-            eight(s, at, width, 1, 0, 32, out);
-            eight(s, at, width, 2, 0, 64, out);
-            eight(s, at, width, 3, 0, 96, out);
-        }
-        5 => {
-            eight(s, at, width, 0, 0, 0, out);
-            eight(s, at, width, 1, 8, 32, out);
-            eight(s, at, width, 2, 16, 64, out);
-            eight(s, at, width, 3, 24, 96, out);
-        }
-        6 => {
-            eight(s, at, width, 0, 0, 0, out);
-            eight(s, at, width, 1, 16, 32, out);
-            eight(s, at, width, 3, 0, 64, out);
-            eight(s, at, width, 4, 16, 96, out);
-        }
-        7 => {
-            eight(s, at, width, 0, 0, 0, out);
-            eight(s, at, width, 1, 24, 32, out);
-            eight(s, at, width, 3, 16, 64, out);
-            eight(s, at, width, 5, 8, 96, out);
-        }
-        _ => from_8(s, at, width, out),
-    }
+    eight(s, at, W, 0, 0, 0, out);
+    eight(s, at, W, (W / 4) as usize, 8 * (W % 4), 32, out);
+    eight(s, at, W, (W / 2) as usize, 16 * (W % 2), 64, out);
+    eight(s, at, W, (3 * W / 4) as usize, 8 * (3 * W % 4), 96, out);
 }
 
 // The 128 values of the packed block at a place. A block of no width has no words.
@@ -244,16 +25,38 @@ pub fn unpack(s: &[u8], at: usize, width: u32, out: &mut [u32; 128])
     ensures { Unpacked s.now at width out.new }
 {
     match width {
-        0 => {
-            *out = [0; 128];
-        }
-        1 => {
-            eight(s, at, width, 0, 0, 0, out);
-            eight(s, at, width, 0, 8, 32, out);
-            eight(s, at, width, 0, 16, 64, out);
-            eight(s, at, width, 0, 24, 96, out);
-        }
-        32 => copy(s, at, out),
-        _ => from_2(s, at, width, out),
+        0 => *out = [0; 128],
+        1 => of_width::<1>(s, at, out),
+        2 => of_width::<2>(s, at, out),
+        3 => of_width::<3>(s, at, out),
+        4 => of_width::<4>(s, at, out),
+        5 => of_width::<5>(s, at, out),
+        6 => of_width::<6>(s, at, out),
+        7 => of_width::<7>(s, at, out),
+        8 => of_width::<8>(s, at, out),
+        9 => of_width::<9>(s, at, out),
+        10 => of_width::<10>(s, at, out),
+        11 => of_width::<11>(s, at, out),
+        12 => of_width::<12>(s, at, out),
+        13 => of_width::<13>(s, at, out),
+        14 => of_width::<14>(s, at, out),
+        15 => of_width::<15>(s, at, out),
+        16 => of_width::<16>(s, at, out),
+        17 => of_width::<17>(s, at, out),
+        18 => of_width::<18>(s, at, out),
+        19 => of_width::<19>(s, at, out),
+        20 => of_width::<20>(s, at, out),
+        21 => of_width::<21>(s, at, out),
+        22 => of_width::<22>(s, at, out),
+        23 => of_width::<23>(s, at, out),
+        24 => of_width::<24>(s, at, out),
+        25 => of_width::<25>(s, at, out),
+        26 => of_width::<26>(s, at, out),
+        27 => of_width::<27>(s, at, out),
+        28 => of_width::<28>(s, at, out),
+        29 => of_width::<29>(s, at, out),
+        30 => of_width::<30>(s, at, out),
+        31 => of_width::<31>(s, at, out),
+        _ => copy(s, at, out),
     }
 }

@@ -3,7 +3,7 @@ ghost use Rattle.std.specs.Prelude.{◌<◌};
 
 use noterank::noterank_run;
 use samples::rows::{DOCUMENT, ROWS, SCORE, rows_agree};
-use samples::words::{FEW, Replayed, part, read_few, read_thresholds, size, threshold, word};
+use samples::words::{FEW, Replayed, part, read_numbers, read_thresholds, size, threshold, word};
 
 // The run of the case at a place: after its size and the lengths of file and query come walk, mode, scoring, rule, the start's kind and
 // bits, and k.
@@ -51,8 +51,8 @@ fn hold(
 {
     let documents_len = size(data, at + 44, ROWS);
     let scores_len = size(data, at + 48, ROWS);
-    let mut documents = [DOCUMENT; 256];
-    let mut scores = [SCORE; 256];
+    let mut documents = [DOCUMENT; ROWS];
+    let mut scores = [SCORE; ROWS];
     let mut count = 1u32;
     let code = call(
         data,
@@ -85,7 +85,7 @@ pub fn replay_run(data: &[u8], at: usize) -> Replayed
     let rows_at = script_at + 8 * script_len;
     let file_len = size(data, at + 4, 32768);
     let file = part(data, rows_at + 8 * expected, file_len);
-    let query = read_few(data, at + 60);
+    let query: [u32; FEW] = read_numbers(data, at + 60);
     let script = read_thresholds(data, script_at);
     hold(
         data,

@@ -3,7 +3,7 @@ ghost use Rattle.std.specs.Prelude.{◌<◌};
 
 use noterank::noterank_write;
 use samples::words::{
-    FEW, MANY, Replayed, part, read_few, read_many, read_thresholds, size, threshold, word,
+    FEW, MANY, Replayed, part, read_numbers, read_thresholds, size, threshold, word,
 };
 
 // The most bytes of an output.
@@ -13,9 +13,8 @@ const OUTPUT: usize = 4096;
 const BYTE: u8 = 165;
 
 // Whether the output begins with the file expected, and every byte behind it is as it was.
-fn bytes_agree(out: &[u8; 4096], file: &[u8]) -> bool {
-    let mut i = 0usize;
-    while i < OUTPUT {
+fn bytes_agree(out: &[u8; OUTPUT], file: &[u8]) -> bool {
+    for i in 0..OUTPUT {
         let mut byte = BYTE;
         if i < file.len() {
             byte = file[i];
@@ -23,7 +22,6 @@ fn bytes_agree(out: &[u8; 4096], file: &[u8]) -> bool {
         if out[i] != byte {
             return false;
         }
-        i += 1;
     }
     true
 }
@@ -72,7 +70,7 @@ fn hold(
     requires { at < 4000000000 }
 {
     let out_len = size(data, at + 44, OUTPUT);
-    let mut out = [BYTE; 4096];
+    let mut out = [BYTE; OUTPUT];
     let mut length = 1u32;
     let code = call(
         data,
@@ -109,9 +107,9 @@ pub fn replay_write(data: &[u8], at: usize) -> Replayed
     let freqs_at = docs_at + 4 * docs_len;
     let norms_at = freqs_at + 4 * freqs_len;
     let weights = read_thresholds(data, at + 56);
-    let counts = read_few(data, counts_at);
-    let docs = read_many(data, docs_at);
-    let freqs = read_many(data, freqs_at);
+    let counts: [u32; FEW] = read_numbers(data, counts_at);
+    let docs: [u32; MANY] = read_numbers(data, docs_at);
+    let freqs: [u32; MANY] = read_numbers(data, freqs_at);
     let norms = part(data, norms_at, norms_len);
     let file = part(data, norms_at + norms_len, size(data, at + 52, OUTPUT));
     hold(

@@ -14,11 +14,11 @@ norm_reader-reader-requires c = header_of_lem c.args.file.now c.requires.0.accep
 pub open_lists-scorers-requires : goal.open_lists-scorers-requires
 open_lists-scorers-requires c =
     let R = c.requires.0 in
-    (R.accepted, c.read_header-h.ensures, R.few, R.named, c.requires.2)
+    (R.accepted, c.read_header-h.ensures, R.few, R.named, c.requires.1)
 
 pub begin_machine-machine-requires : goal.begin_machine-machine-requires
 begin_machine-machine-requires c =
-    (c.norm_reader-reader.ensures, c.requires.0, c.requires.1, c.open_lists-scorers.ensures.0)
+    (c.norm_reader-reader.ensures, c.requires.0, c.open_lists-scorers.ensures.0)
 
 pub returns : goal.returns
 returns c =

@@ -16,7 +16,7 @@ returns-then-live-eq1 c =
 
 pub begin-union-requires : goal.begin-union-requires
 begin-union-requires c =
-    (omega (arith, c.retain-live.ensures.0.few, c.requires.0), c.requires.1)
+    omega (arith, c.retain-live.ensures.0.few, c.requires)
 
 pub returns : goal.returns
 returns c =

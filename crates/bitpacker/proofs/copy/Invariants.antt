@@ -1,12 +1,7 @@
 -- `bitpacker::copy` meets its contract: of width 32 a value is a word (`word_value`), 4 bytes after the one before it.
-use mathlib.Core.Path.{◌≡◌}
-use Prim.Native.Nat.{◌+◌, ◌-◌, ◌*◌, ◌≤◌}
 use Rattle.arrays.proofs.Filling.{Filling}
 use Rattle.bitpacker.specs.Packed.{packed_at}
 use Rattle.bitpacker.proofs.copy.Given as goal
 
 abbrev pub invariant-loop-i : goal.invariant-loop-i
-invariant-loop-i l = (l.p ≡ l.at + 4 * l.i) × (l.i ≤ 128) × Filling 0 128 (packed_at l.s l.at 32) l.initial.out l.i l.out
-
-abbrev pub decreases-loop-i : goal.decreases-loop-i
-decreases-loop-i l = 128 - l.i
+invariant-loop-i l = Filling 0 128 (packed_at l.s l.at 32) l.initial.out l.i l.out

@@ -1,6 +1,5 @@
 -- `bitpacker::joined` meets its contract: the low bits are below the shifted word's, so the or is the sum, cut to 32 bits (`above-is`).
 use mathlib.Core.Path.{refl}
-use borrow.Author.Rules.{rules}
 use Rattle.bitpacker.proofs.Lanes.{above-is}
 use Rattle.bitpacker.proofs.joined.Goals as goal
 

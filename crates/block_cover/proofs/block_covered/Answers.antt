@@ -1,9 +1,8 @@
 -- `block_cover::block_covered` meets its contract: the scores at the norms that were read are compared with the lower of the two bounds.
 use mathlib.Core.Path.{◌≡◌}
 use mathlib.Core.Bool.{true, false}
-use mathlib.Core.Logic.{◌⊎◌, inl, inr, ⊎_elim}
+use mathlib.Core.Logic.{◌⊎◌, inl, inr}
 use lib.Ieee.{lt}
-use borrow.Author.Rules.{rules}
 use Rattle.block_cover.proofs.BoundTests.{block_read}
 use Rattle.block_cover.proofs.block_covered.Goals as goal
 use Rattle.block_cover.proofs.block_covered.Goals.{Joined-own-max_score}

@@ -1,12 +1,6 @@
 -- `block_cover::covered` meets its contract: the scores at the norms that were read are the postings'.
-use mathlib.Core.Path.{sym}
-use mathlib.Core.Bool.{true≢false}
-use borrow.Author.Rules.{rules}
 use Rattle.block_cover.proofs.BoundTests.{norms-read}
 use Rattle.block_cover.proofs.covered.Goals as goal
-
-pub norms_covered-requires : goal.norms_covered-requires
-norms_covered-requires c = (search rules, λ e. absurd (true≢false (sym e)))
 
 pub returns : goal.returns
 returns c =

@@ -1,20 +1,11 @@
 -- `load_packed` meets its contract: in a right block the sums and the counts fit.
-use borrow.Author.Rules.{rules}
-use Rattle.notefile.proofs.FullBlocks.{docs-in, docs-fit, freqs-fit, packed-block}
+use Rattle.notefile.proofs.FullBlocks.{docs-in, packed-block}
 use Rattle.block_loads.proofs.load_packed.Goals as goal
 
 pub unpack-requires : goal.unpack-requires
 unpack-requires c =
     let i = docs-in c.requires.0 c.args.e c.requires.1 in
     (i.0, i.1, c.sized.ensures.1.long-docs)
-
-pub sums-requires : goal.sums-requires
-sums-requires c =
-    docs-fit c.requires.0 c.args.e c.requires.1 c.sized.ensures.1 c.unpack.ensures
-
-pub packed_freqs-requires : goal.packed_freqs-requires
-packed_freqs-requires c =
-    (c.requires.0, c.requires.1, freqs-fit c.requires.0 c.args.e c.requires.1 c.sized.ensures.1 c.unpack.ensures c.sums.ensures)
 
 pub returns : goal.returns
 returns c =

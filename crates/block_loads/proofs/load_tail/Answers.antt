@@ -1,6 +1,5 @@
 -- `load_tail` meets its contract: in a right tail the sums fit, and a VInt is its frequency.
 use mathlib.Core.Path.{◌∙◌}
-use borrow.Author.Rules.{rules}
 use Rattle.note_blocks.proofs.TailBlocks.{tail-block}
 use Rattle.block_loads.proofs.load_tail.Goals as goal
 

@@ -1,8 +1,7 @@
--- `doc_or` meets its contract. The loop's invariant (`Joining`): the bits of the first i steps are joined. The measure is how many are
--- left.
-use Rattle.std.proofs.Common.{ℕ, ◌+◌, ◌-◌, ◌<◌, ◌≤◌, get_or, arith, rules}
+-- `doc_or` meets its contract. The loop's invariant (`Joining`): the bits of the first i steps are joined.
+use Rattle.std.proofs.Common.{ℕ, ◌+◌, ◌-◌, ◌<◌, get_or, arith}
 use Rattle.block_look.specs.Inner.Joint.{steps}
-use Rattle.block_look.proofs.Joins.{Joining, first-joined, next-joined, joined}
+use Rattle.block_look.proofs.Joins.{first-joined, next-joined, joined}
 use Rattle.block_look.proofs.Steps.{first_step, next-step}
 use Rattle.block_look.proofs.doc_or.Goals as goal
 use Rattle.block_look.proofs.doc_or.Goals.{Start}

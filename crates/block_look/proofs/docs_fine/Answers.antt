@@ -1,5 +1,5 @@
 -- `docs_fine` meets its contract: a long step is refused, and of short steps the last document says the rest.
-use Rattle.std.proofs.Common.{ℕ, ◌+◌, ◌<◌, get_or, arith, rules}
+use Rattle.std.proofs.Common.{ℕ, ◌+◌, ◌<◌, get_or, arith}
 use Rattle.block_look.proofs.Judged.{docs-long, docs-short}
 use Rattle.block_look.proofs.docs_fine.Goals as goal
 use Rattle.block_look.proofs.docs_fine.Goals.{Start}

@@ -1,8 +1,7 @@
--- `freq_or` meets its contract. The loop's invariant (`Joining`): the bits of the first i frequencies less 1 are joined. The measure is how
--- many are left.
-use Rattle.std.proofs.Common.{ℕ, ◌+◌, ◌-◌, get_or, rules}
+-- `freq_or` meets its contract. The loop's invariant (`Joining`): the bits of the first i frequencies less 1 are joined.
+use Rattle.std.proofs.Common.{ℕ, ◌+◌, get_or}
 use Rattle.block_look.specs.Inner.Joint.{less_one}
-use Rattle.block_look.proofs.Joins.{Joining, none-joined, next-joined, joined}
+use Rattle.block_look.proofs.Joins.{none-joined, next-joined, joined}
 use Rattle.block_look.proofs.Steps.{less-one}
 use Rattle.block_look.proofs.freq_or.Goals as goal
 use Rattle.block_look.proofs.freq_or.Goals.{Start}

@@ -1,5 +1,5 @@
 -- `freqs_fine` meets its contract: low frequencies are right, and of others `freqs_right` says it.
-use Rattle.std.proofs.Common.{ℕ, ◌+◌, ◌<◌, get_or, arith, rules}
+use Rattle.std.proofs.Common.{ℕ, ◌+◌, ◌<◌, get_or, arith}
 use Rattle.block_look.proofs.Judged.{freqs-low}
 use Rattle.block_look.proofs.freqs_fine.Goals as goal
 

@@ -1,6 +1,5 @@
 -- `look` meets its contract: its three ways, one after another.
-use Rattle.std.proofs.Common.{ℕ, ◌+◌, ◌≤◌, true, get_or, sym, subst, rules}
-use borrow.Author.Tests.{not-true, not-false}
+use Rattle.std.proofs.Common.{ℕ, ◌+◌, ◌≤◌, true, get_or, sym, subst}
 use Rattle.compression.specs.Documents.{start_of}
 use Rattle.block_look.specs.Inner.Joint.{steps, Joint}
 use Rattle.block_look.proofs.Judged.{start-low}

@@ -2,7 +2,6 @@
 -- tests are segments of one value.
 use Prim.Native.Nat.{◌+◌, ◌*◌}
 use native.Mathlib.Omega.{arith}
-use borrow.Author.Rules.{rules}
 use Rattle.block_search.specs.Search.{count_below}
 use Rattle.block_search.proofs.Segments.{Segment, at_most, ends-are, first-end, next-end, last-two}
 use Rattle.block_search.proofs.count_below.Goals as goal

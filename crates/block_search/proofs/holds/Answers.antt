@@ -1,5 +1,4 @@
 -- `block_search::holds` meets its contract: within the block the value is looked at, behind it there is none.
-use borrow.Author.Rules.{rules}
 use borrow.Author.Tests.{lt-ltb, le-ltb}
 use Rattle.block_search.proofs.holds.Goals as goal
 

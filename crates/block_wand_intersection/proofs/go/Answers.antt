@@ -1,12 +1,9 @@
 -- `go` meets its contract: each turn is one of the route, until one has a report, the route is over or all are taken.
 use mathlib.Core.List.{List}
-use Prim.Native.Nat.{◌-◌}
 use native.Mathlib.Omega.{arith}
 use lib.Ieee.{Float}
-use borrow.Author.Rules.{rules}
 use Rattle.term_scorer.specs.Inner.Slots.{held, Held}
-use Rattle.intersection_order.specs.Inner.Scorers.{query}
-use Rattle.block_wand_intersection.proofs.Going.{Going, ends, goes_on, going, more, pauses, reports, stands_here}
+use Rattle.block_wand_intersection.proofs.Going.{ends, goes_on, going, more, pauses, reports, stands_here}
 use Rattle.block_wand_intersection.proofs.go.Goals as goal
 use Rattle.block_wand_intersection.proofs.go.Goals.{After-turn-turned}
 
@@ -22,11 +19,11 @@ loop-leg-init c = going _ _ _ _ _ _ c.requires
 
 pub returns-then-is_over : goal.returns-then-is_over
 returns-then-is_over c =
-    ends _ _ _ _ _ _ c.loop-leg.invariant c.is_over.ensures c.if-is_over.true c.standing.ensures
+    ends _ _ _ _ _ _ c.loop-leg.invariant c.is_over.ensures c.if-is_over.true c.new.ensures
 
 pub returns-then-taken-leg : goal.returns-then-taken-leg
 returns-then-taken-leg c =
-    pauses _ _ _ _ _ _ c.loop-leg.invariant c.is_over.ensures c.if-is_over.false c.if-taken-leg.true c.standing-then-taken-leg.ensures
+    pauses _ _ _ _ _ _ c.loop-leg.invariant c.is_over.ensures c.if-is_over.false c.if-taken-leg.true c.new-then-taken-leg.ensures
 
 pub turn-turned-requires : goal.turn-turned-requires
 turn-turned-requires c =
@@ -36,9 +33,9 @@ pub overflow_add-taken : goal.overflow_add-taken
 overflow_add-taken c =
     record { fits = omega (arith, more _ _ _ _ _ _ c.loop-leg.invariant c.is_over.ensures c.if-is_over.false c.if-taken-leg.false) }
 
-pub returns-in-Report : goal.returns-in-Report
-returns-in-Report c =
-    reports _ _ _ _ _ _ c.loop-leg.invariant c.is_over.ensures c.if-is_over.false c.if-taken-leg.false {h' = left (goal.at.returns-in-Report c).After-turn-turned} {floats' = floats' (goal.at.returns-in-Report c).After-turn-turned} c.turn-turned.ensures c.in-Report.is c.standing-in-Report.ensures
+pub returns-in-Some : goal.returns-in-Some
+returns-in-Some c =
+    reports _ _ _ _ _ _ c.loop-leg.invariant c.is_over.ensures c.if-is_over.false c.if-taken-leg.false {h' = left (goal.at.returns-in-Some c).After-turn-turned} {floats' = floats' (goal.at.returns-in-Some c).After-turn-turned} c.turn-turned.ensures c.in-Some.is c.new-in-Some.ensures
 
 pub loop-leg-smaller : goal.loop-leg-smaller
 loop-leg-smaller c =
@@ -46,4 +43,4 @@ loop-leg-smaller c =
 
 pub loop-leg-preserved : goal.loop-leg-preserved
 loop-leg-preserved c =
-    goes_on _ _ _ _ _ _ c.loop-leg.invariant c.is_over.ensures c.if-is_over.false c.if-taken-leg.false {h' = left (goal.at.loop-leg-preserved c).After-turn-turned} {floats' = floats' (goal.at.loop-leg-preserved c).After-turn-turned} c.turn-turned.ensures c.in-Nothing.is
+    goes_on _ _ _ _ _ _ c.loop-leg.invariant c.is_over.ensures c.if-is_over.false c.if-taken-leg.false {h' = left (goal.at.loop-leg-preserved c).After-turn-turned} {floats' = floats' (goal.at.loop-leg-preserved c).After-turn-turned} c.turn-turned.ensures c.in_default.is

@@ -7,11 +7,6 @@ use Rattle.reports.specs.declared.Event.{Event}
 use Rattle.term_scorer.specs.Inner.Slots.{Sixteen}
 use Rattle.union_turn.specs.declared.Stage.TheVariants.{Looking}
 use Rattle.union_turn.specs.declared.Union.{Union}
-use Rattle.block_wand_union.specs.declared.Gone.{Gone}
-
--- where `walk` stopped
-abbrev pub gone_to : Union → ℕ → Event → Gone
-gone_to u taken event = record { union = u; taken = taken; event = event }
 
 -- a run over scorers l begins: it looks for a pivot, and the slots stand in the order of the scorers' documents
 pub record Begins (l : List TermScorer) (n : ℕ) (u : Union) (order : List ℕ) : Type 0 where

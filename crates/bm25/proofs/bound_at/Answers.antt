@@ -1,6 +1,5 @@
 -- `bound_at` meets its contract: the score of the decoded frequency at the norm, as the scoring has it.
 use mathlib.Core.Path.{ap, ◌∙◌}
-use borrow.Author.Rules.{rules}
 use Rattle.bm25.specs.Score.{score_at}
 use Rattle.bm25.specs.Scoring.{scored}
 use Rattle.bm25.proofs.bound_at.Goals as goal

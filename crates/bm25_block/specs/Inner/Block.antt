@@ -1,8 +1,9 @@
 -- What the loops over a block's 128 postings leave.
-use Rattle.std.specs.Prelude.{◌≡◌, Bool, true, List, ℕ, get_or, Float}
+use Rattle.std.specs.Prelude.{◌≡◌, Bool, true, List, ℕ, ◌<◌, get_or, Float}
 use Rattle.std.specs.Float.{nan}
 use Rattle.arrays.specs.Inner.Holds.{Holds}
 use Rattle.floats.specs.Step.{step_down}
+use Rattle.floats.specs.Whole.{whole_f32}
 use Rattle.fieldnorm.specs.Reader.{fieldnorm_id}
 use Rattle.fieldnorm.specs.declared.FieldNormReader.{FieldNormReader}
 use Rattle.bm25.specs.Score.{score_at}
@@ -19,6 +20,11 @@ all_exact freqs = all_at_most 16777216 freqs
 -- what a caller says who calls a block small
 abbrev pub ExactWhere : Bool → List ℕ → Type 0
 ExactWhere small freqs = small ≡ true → all_exact freqs ≡ true
+
+-- a way to make each of the first n frequencies an f32 can be taken and gives the nearest one
+pub record Rounds (pre : ℕ → Type 0) (post : ℕ → Float → Type 0) (n : ℕ) (freqs : List ℕ) : Type 0 where
+  pub may : (i : ℕ) → i < n → pre (get_or freqs i 0)
+  pub gives : (i : ℕ) → i < n → (x : Float) → post (get_or freqs i 0) x → x ≡ whole_f32 (get_or freqs i 0)
 
 -- each posting's score, at its norm
 abbrev pub weighed_at : Float → List ℕ → List Float → ℕ → Float

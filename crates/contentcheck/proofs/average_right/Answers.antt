@@ -1,7 +1,6 @@
 -- `average_right` meets its contract: a number is tested by its bits, and a NaN is refused.
 use mathlib.Core.Path.{refl}
 use lib.Ieee.{le, round}
-use borrow.Author.Rules.{rules}
 use Rattle.bm25.specs.Limits.{average_ok}
 use Rattle.contentcheck.proofs.Numbers.{is_number, by_bits, no_number}
 use Rattle.contentcheck.proofs.average_right.Goals as goal

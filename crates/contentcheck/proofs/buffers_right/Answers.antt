@@ -1,54 +1,48 @@
 -- `buffers_right` meets its contract: the tests are those of row 3, in its order.
 use mathlib.Core.Path.{◌≡◌, refl, ◌∙◌}
 use mathlib.Core.Bool.{cond, ◌&&◌}
-use mathlib.Core.Logic.{⊎_elim}
 use Prim.Native.Nat.{ℕ}
 use lib.Dec.{eqb}
 use lib.ListN.{length}
-use borrow.Author.Rules.{rules}
 use borrow.Author.Tests.{eq-eqb, ne_eqb}
-use Rattle.contents.specs.Inner.Handed.{contents_of}
+use Rattle.contents.specs.Inner.Handed.{contents_in}
 use Rattle.contentcheck.proofs.Rows.{buffer_tests, by-buffers, with-bytes, with_code}
 use Rattle.contentcheck.proofs.buffers_right.Goals as goal
-use Rattle.contentcheck.proofs.buffers_right.Goals.{Else-weights-counts, Joined-h-eq0}
+use Rattle.contentcheck.proofs.buffers_right.Goals.{Else-c, Joined-c-eq0}
 
-bytes-are : (c : Joined-h-eq0) → let h = c.args.h in c.if-h-eq0.bytes ≡ cond (eqb h.kind 0) h.documents 0
+bytes-are : (c : Joined-c-eq0) → let h = c.args.c.head in c.if-c-eq0.bytes ≡ cond (eqb h.kind 0) h.documents 0
 bytes-are c =
-    let h = c.args.h in
-    elim c.if-h-eq0.branch [
-      | goal.then-h-eq0 w ↦ with-bytes h.kind h.documents w.if-h-eq0.true w.bytes-is
-      | goal.else-h-eq0 w ↦ with_code h.kind h.documents w.if-h-eq0.false w.bytes-is
+    let h = c.args.c.head in
+    elim c.if-c-eq0.branch [
+      | goal.then-c-eq0 w ↦ with-bytes h.kind h.documents w.if-c-eq0.true w.bytes-is
+      | goal.else-c-eq0 w ↦ with_code h.kind h.documents w.if-c-eq0.false w.bytes-is
     ]
 
-pub returns-then-norms-bytes : goal.returns-then-norms-bytes
-returns-then-norms-bytes c =
-    let a = c.args in
-    let d = contents_of a.h a.norms.now a.weights.now a.counts.now a.docs.now a.freqs.now in
-    by-buffers d (bytes-are (goal.at.returns-then-norms-bytes c).Joined-h-eq0) refl (simp (ne_eqb (length d.norms) _ c.if-norms-bytes.true))
+pub returns-then-c-bytes : goal.returns-then-c-bytes
+returns-then-c-bytes c =
+    let d = contents_in c.args.c in
+    by-buffers d (bytes-are (goal.at.returns-then-c-bytes c).Joined-c-eq0) refl (simp (ne_eqb (length d.norms) _ c.if-c-bytes.true))
 
-pub returns-then-weights-counts : goal.returns-then-weights-counts
-returns-then-weights-counts c =
-    let a = c.args in
-    let d = contents_of a.h a.norms.now a.weights.now a.counts.now a.docs.now a.freqs.now in
-    by-buffers d (bytes-are (goal.at.returns-then-weights-counts c).Joined-h-eq0) refl
-    (simp (eq-eqb (length d.norms) _ c.if-norms-bytes.false, ne_eqb (length d.weights) (length d.counts) c.if-weights-counts.true))
+pub returns-then-c : goal.returns-then-c
+returns-then-c c =
+    let d = contents_in c.args.c in
+    by-buffers d (bytes-are (goal.at.returns-then-c c).Joined-c-eq0) refl
+    (simp (eq-eqb (length d.norms) _ c.if-c-bytes.false, ne_eqb (length d.weights) (length d.counts) c.if-c.true))
 
 -- what the first two tests have shown
-passed : (c : Else-weights-counts) (n : ℕ) →
+passed : (c : Else-c) (n : ℕ) →
     let a = c.args in
-    buffer_tests (contents_of a.h a.norms.now a.weights.now a.counts.now a.docs.now a.freqs.now) c.if-h-eq0.bytes n ≡ eqb (length a.docs.now) n && eqb (length a.freqs.now) n
+    buffer_tests (contents_in a.c) c.if-c-eq0.bytes n ≡ eqb (length a.c.docs.now) n && eqb (length a.c.freqs.now) n
 passed c n =
     let a = c.args in
-    simp (eq-eqb (length a.norms.now) _ c.if-norms-bytes.false, eq-eqb (length a.weights.now) (length a.counts.now) c.if-weights-counts.false)
+    simp (eq-eqb (length a.c.norms.now) _ c.if-c-bytes.false, eq-eqb (length a.c.weights.now) (length a.c.counts.now) c.if-c.false)
 
-pub returns-then-docs-postings : goal.returns-then-docs-postings
-returns-then-docs-postings c =
-    let a = c.args in
-    let d = contents_of a.h a.norms.now a.weights.now a.counts.now a.docs.now a.freqs.now in
-    by-buffers d (bytes-are (goal.at.returns-then-docs-postings c).Joined-h-eq0) (c.total-postings.ensures d refl) (passed (goal.at.returns-then-docs-postings c).Else-weights-counts _ ∙ simp (ne_eqb (length d.docs) _ c.if-docs-postings.true))
+pub returns-then-c-postings : goal.returns-then-c-postings
+returns-then-c-postings c =
+    let d = contents_in c.args.c in
+    by-buffers d (bytes-are (goal.at.returns-then-c-postings c).Joined-c-eq0) (c.total-postings.ensures d refl) (passed (goal.at.returns-then-c-postings c).Else-c _ ∙ simp (ne_eqb (length d.docs) _ c.if-c-postings.true))
 
 pub returns : goal.returns
 returns c =
-    let a = c.args in
-    let d = contents_of a.h a.norms.now a.weights.now a.counts.now a.docs.now a.freqs.now in
-    by-buffers d (bytes-are (goal.at.returns c).Joined-h-eq0) (c.total-postings.ensures d refl) (passed (goal.at.returns c).Else-weights-counts _ ∙ simp (eq-eqb (length d.docs) _ c.if-docs-postings.false))
+    let d = contents_in c.args.c in
+    by-buffers d (bytes-are (goal.at.returns c).Joined-c-eq0) (c.total-postings.ensures d refl) (passed (goal.at.returns c).Else-c _ ∙ simp (eq-eqb (length d.docs) _ c.if-c-postings.false))

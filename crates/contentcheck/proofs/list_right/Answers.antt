@@ -1,5 +1,4 @@
 -- `list_right` meets its contract: the weight, then the count.
-use borrow.Author.Rules.{rules}
 use Rattle.contentcheck.proofs.Rows.{weight-fits, weight-wrong}
 use Rattle.contentcheck.proofs.list_right.Goals as goal
 

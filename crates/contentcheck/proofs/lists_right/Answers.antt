@@ -1,17 +1,9 @@
 -- `lists_right` meets its contract: the flag is the test over the lists passed.
 use mathlib.Core.Path.{◌≡◌, refl, sym, ap, ◌∙◌}
-use mathlib.Core.Bool.{Bool}
-use mathlib.Core.List.{List}
-use mathlib.Core.Logic.{⊎_elim}
-use Prim.Native.Nat.{ℕ, ◌-◌, ◌≤◌}
 use native.Mathlib.Omega.{arith}
-use lib.Ieee.{Float, nan}
-use lib.ListN.{length, get_or}
-use borrow.Author.Rules.{rules}
-use borrow.Author.Tests.{not-true, not-false}
+use lib.ListN.{length}
 use Rattle.arrays.specs.Every.{every}
 use Rattle.arrays.proofs.Every.{stays, lowered}
-use Rattle.notefile.specs.Conditions.{list_fits}
 use Rattle.contentcheck.proofs.lists_right.Invariants.{right_at}
 use Rattle.contentcheck.proofs.lists_right.Goals as goal
 

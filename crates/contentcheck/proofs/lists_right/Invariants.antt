@@ -2,7 +2,7 @@
 use mathlib.Core.Path.{◌≡◌}
 use mathlib.Core.Bool.{Bool}
 use mathlib.Core.List.{List}
-use Prim.Native.Nat.{ℕ, ◌-◌, ◌≤◌}
+use Prim.Native.Nat.{ℕ, ◌≤◌}
 use lib.Ieee.{Float, nan}
 use lib.ListN.{length, get_or}
 use Rattle.arrays.specs.Every.{every}
@@ -15,6 +15,3 @@ right_at documents weights counts l = list_fits (get_or weights l nan) (get_or c
 
 abbrev pub invariant-loop-l : goal.invariant-loop-l
 invariant-loop-l l = (l.l ≤ length l.counts) × (l.right ≡ every l.l (right_at l.documents l.weights l.counts))
-
-abbrev pub decreases-loop-l : goal.decreases-loop-l
-decreases-loop-l l = length l.counts - l.l

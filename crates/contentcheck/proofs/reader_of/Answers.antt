@@ -1,6 +1,5 @@
 -- `reader_of` meets its contract: the kind says where norm codes are read.
 use mathlib.Core.Path.{sym, ap}
-use borrow.Author.Rules.{rules}
 use borrow.Author.Tests.{eq-eqb, ne_eqb}
 use Rattle.contents.specs.Contents.{reader_of}
 use Rattle.contents.specs.Inner.Handed.{contents_of}

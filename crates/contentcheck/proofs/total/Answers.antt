@@ -1,11 +1,10 @@
 -- `total` meets its contract: the sum is where the list at hand starts.
 use mathlib.Core.Path.{◌≡◌, sym, ap, ◌∙◌}
 use mathlib.Core.List.{List}
-use Prim.Native.Nat.{ℕ, ◌+◌, ◌*◌, ◌-◌, ◌≤◌}
+use Prim.Native.Nat.{ℕ, ◌+◌}
 use native.Mathlib.Numerals.{add-one}
 use native.Mathlib.Omega.{arith}
 use lib.ListN.{length, get_or}
-use borrow.Author.Rules.{rules}
 use Rattle.contents.specs.Contents.{Contents, list_at}
 use Rattle.contents.proofs.Places.{list-at-zero, list-at-next}
 use Rattle.contentcheck.proofs.total.Goals as goal

@@ -1,6 +1,5 @@
 -- `weight_right` meets its contract: a number is tested by its bits, and a NaN is refused.
 use mathlib.Core.Path.{refl}
-use borrow.Author.Rules.{rules}
 use Rattle.bm25.specs.Limits.{weight_ok}
 use Rattle.contentcheck.proofs.Numbers.{is_number, by_bits, no_number}
 use Rattle.contentcheck.proofs.weight_right.Goals as goal

@@ -46,7 +46,7 @@ returns-then-t-room c =
 pub report-t-requires : goal.report-t-requires
 report-t-requires c =
     let r = has-row _ _ _ _ _ _ _ _ c.loop-doc.invariant c.if-t-room.false c.rows-room.ensures in
-    (c.requires.1, c.loop-doc.invariant.going.kept.follows.long, r.1, r.2)
+    (c.requires.1, r.1, r.2)
 
 pub loop-doc-smaller-in-Report : goal.loop-doc-smaller-in-Report
 loop-doc-smaller-in-Report c =

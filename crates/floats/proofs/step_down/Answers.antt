@@ -1,5 +1,4 @@
 -- `floats::step_down` meets its contract: below 8192 the comparison with x tells a step too high from the cut, and from there on every f32 is on the grid.
-use mathlib.Core.Logic.{inl, inr}
 use mathlib.Core.Path.{sym, subst}
 use lib.Dec.{T}
 use lib.Ieee.{of_bits}

@@ -1,7 +1,6 @@
 -- `floats::threshold_ok` meets its contract: on the grid is what the step does not change, and the comparisons are the range's.
 use lib.Dec.{T, lit≤}
 use lib.Ieee.{of_bits, neg}
-use borrow.Author.Rules.{rules}
 use Rattle.floats.specs.Step.{within}
 use Rattle.floats.proofs.Range.{within_more}
 use Rattle.floats.proofs.Threshold.{in-high, ok-high, out-high, in-low, ok-low, out-low, ok-zero}

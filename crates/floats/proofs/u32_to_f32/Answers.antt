@@ -9,7 +9,6 @@ use lib.Pow.{pow_pos, pow_mono, pow-add}
 use lib.Count.{count_leading_zeros, leading_top}
 use lib.Ieee.{binary32, mul, of_int, in_float}
 use lib.Ieee.Nearest.{closest}
-use borrow.Author.Rules.{rules}
 use Rattle.floats.specs.Whole.{whole_f32}
 use Rattle.floats.proofs.Digits.{closest-le, closest-ge, one_shift, whole-rounds, mul-whole}
 use Rattle.floats.proofs.u32_to_f32.Goals as goal
@@ -54,9 +53,6 @@ module _ (n : ℕ) (big : 16777216 < n) (small : n < 4294967296) where
   unfolding of_int
   result = mul-whole binary32 (closest n (2 ^ k)) (2 ^ k) p-pos (pow_pos k) p-small u-small ∙ sym (whole-rounds binary32 n k lo hi (omega arith))
 
-pub int_to_float-result : goal.int_to_float-result
-int_to_float-result c = in-float c.args.n c.if-n-le16777216.true
-
 pub overflow_sub-dropped : goal.overflow_sub-dropped
 overflow_sub-dropped c = omega (arith, zeros c.args.n c.if-n-le16777216.false (omega arith))
 
@@ -66,12 +62,6 @@ rounded_shift-kept-requires c = omega (arith, zeros c.args.n c.if-n-le16777216.f
 pub int_to_float-result-2 : goal.int_to_float-result-2
 int_to_float-result-2 c =
     in-float c.rounded_shift-kept.result (rw c.rounded_shift-kept.ensures (p-small c.args.n c.if-n-le16777216.false (omega arith)))
-
-pub int_to_float-result-3 : goal.int_to_float-result-3
-int_to_float-result-3 c =
-    let n = c.args.n in
-    let b = c.if-n-le16777216.false in
-    rw (u-is n b (omega arith)) (in-float (2 ^ k n b (omega arith)) (u-small n b (omega arith)))
 
 pub returns : goal.returns
 returns c =

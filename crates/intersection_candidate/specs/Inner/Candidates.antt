@@ -1,5 +1,6 @@
 -- A candidate of the leader against the secondaries, and the candidates of a window.
-use Rattle.std.specs.Prelude.{◌≡◌, cond, List, [], ◌∷◌, ℕ, suc, min, ◌+◌, ◌-◌, ◌≤◌, ◌<◌, get_or, Float}
+use Rattle.std.specs.Prelude.{◌≡◌, cond, Some, None, List, [], ◌∷◌, ℕ, suc, min, ◌+◌, ◌-◌, ◌≤◌, ◌<◌, get_or, Float}
+use Rattle.std.specs.Prelude as prelude
 use Rattle.std.proofs.Math.Option.{Option, none, some}
 use Rattle.block_search.specs.Search.{count_below}
 use Rattle.block_search.specs.Inner.Segments.{Sorted}
@@ -12,20 +13,16 @@ use Rattle.route.specs.Inner.Lists.{ListOk}
 use Rattle.term_scorer.specs.Inner.Slots.{Held, SameRows}
 use Rattle.term_scorer.specs.Inner.Weights.{BlockScores}
 use Rattle.intersection_order.specs.Inner.Scorers.{Query, Rests, secondaries_in, slot_at, SlotsIn, StillKept}
-use Rattle.intersection_candidate.specs.declared.candidate.Candidate.{Candidate}
-use Rattle.intersection_candidate.specs.declared.candidate.Candidate.TheVariants.{Due, Passed}
 use Rattle.intersection_candidate.specs.declared.candidate.Posting.{Posting}
 use Rattle.intersection_candidate.specs.declared.leader.Candidates.{Candidates}
-use Rattle.intersection_candidate.specs.declared.leader.Next.{Next}
-use Rattle.intersection_candidate.specs.declared.leader.Next.TheVariants.{At, Nowhere}
 
 -- a report is due where all secondaries have the candidate and its score is above the threshold
-abbrev pub candidate_of : Float → Option Float → Candidate
-candidate_of t none = Passed
-candidate_of t (some total) = cond (f32.above total t) (Due total) Passed
+abbrev pub candidate_of : Float → Option Float → prelude.Option Float
+candidate_of t none = None
+candidate_of t (some total) = cond (f32.above total t) (Some total) None
 
 -- what the secondaries made of candidate c: they stand where the route's do, and the leader stays
-pub record Tries (x : Query) (c : ℕ) (score t : Float) (rests : List Float) (h h' : Held) (r : Candidate) : Type 0 where
+pub record Tries (x : Query) (c : ℕ) (score t : Float) (rests : List Float) (h h' : Held) (r : prelude.Option Float) : Type 0 where
   pub seated : SlotsIn x h'
   pub leader : SameRows h h' (slot_at x 0)
   pub bounds : StillKept x h.places h'.places
@@ -63,9 +60,9 @@ abbrev pub report_of : Posting → Report Float
 report_of p = record { doc = p.doc; score = p.score }
 
 -- what is found of the candidates left: none, or the first
-abbrev pub FindsBy : Postings Float → ℕ → Candidates → Next → Type 0
-FindsBy l b c Nowhere = left_in l b c ≡ []
-FindsBy l b c (At i p) = (left_in l b c ≡ report_of p ∷ left_in l b (behind c i)) × (i ≤ 128) × (p.doc < 2147483647)
+abbrev pub FindsBy : Postings Float → ℕ → Candidates → prelude.Option (ℕ × Posting) → Type 0
+FindsBy l b c None = left_in l b c ≡ []
+FindsBy l b c (Some r) = (left_in l b c ≡ report_of r.1 ∷ left_in l b (behind c r.0)) × (r.0 ≤ 128) × (r.1.doc < 2147483647)
 
-pub record Finds (l : Postings Float) (b : ℕ) (c : Candidates) (r : Next) : Type 0 where
+pub record Finds (l : Postings Float) (b : ℕ) (c : Candidates) (r : prelude.Option (ℕ × Posting)) : Type 0 where
   pub finds : FindsBy l b c r

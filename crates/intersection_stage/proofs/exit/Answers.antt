@@ -1,7 +1,6 @@
 -- `exit` meets its contract: its test is the exit's.
 use mathlib.Core.Bool.{Bool, cond}
 use mathlib.Core.Path.{ap, sym, ◌∙◌}
-use borrow.Author.Rules.{rules}
 use Rattle.intersection_stage.specs.Inner.Steps.{quietly}
 use Rattle.intersection_stage.specs.declared.Stage.TheVariants.{Over}
 use Rattle.intersection_stage.proofs.exit.Goals as goal

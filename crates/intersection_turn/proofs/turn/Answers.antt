@@ -1,5 +1,4 @@
 -- `turn` meets its contract, by the stage.
-use borrow.Author.Rules.{rules}
 use Rattle.intersection_turn.proofs.Turning.{ends-windows, exits-called, exits-early, stays-over}
 use Rattle.intersection_turn.proofs.turn.Goals as goal
 

@@ -5,7 +5,6 @@ use Prim.Native.Nat.{ℕ, ◌<◌}
 use native.Mathlib.Omega.{arith}
 use lib.Ieee.{Float}
 use lib.ListN.{get_or}
-use borrow.Author.Rules.{rules}
 use Rattle.term_scorer.specs.Inner.Slots.{held, Held}
 use Rattle.intersection_order.proofs.Seats.{slot_small}
 use Rattle.intersection_candidate.proofs.Finding.{block-sorted}
@@ -45,7 +44,7 @@ keep_scores-requires c =
 pub sum_rests-requires : goal.sum_rests-requires
 sum_rests-requires c =
     let O = c.requires.0.order in
-    (O.leader, O.few, O.long, (λ i h. slot_small O h), c.keep_scores.ensures.rows)
+    (O.leader, O.few, (λ i h. slot_small O h), c.keep_scores.ensures.rows)
 
 pub offset_bounds-blocks-q : goal.offset_bounds-blocks-q
 offset_bounds-blocks-q c = omega (arith, leader-small (goal.at.offset_bounds-blocks-q c).After-next_window-window)

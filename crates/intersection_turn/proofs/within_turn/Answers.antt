@@ -1,6 +1,5 @@
 -- `within_turn` meets its contract: the next candidate is tried as the route tries it, or the window ends.
 use native.Mathlib.Omega.{arith}
-use borrow.Author.Rules.{rules}
 use Rattle.term_scorer.specs.Inner.Slots.{cursor_at, held}
 use Rattle.intersection_order.specs.Inner.Scorers.{Query, list_in, query, slot_at}
 use Rattle.intersection_candidate.specs.Inner.Candidates.{Finds}
@@ -41,12 +40,12 @@ overflow_add-left c =
 pub try_candidate-tried-requires : goal.try_candidate-tried-requires
 try_candidate-tried-requires c =
     let S = c.requires.0 in
-    (S.order, S.ready.seated, (found _ c.args.leg.threshold S _ c.requires.1 (finds (goal.at.try_candidate-tried-requires c).After-next_candidate-found) c.in-At.is).2)
+    (S.order, S.ready.seated, (found _ c.args.leg.threshold S _ c.requires.1 (finds (goal.at.try_candidate-tried-requires c).After-next_candidate-found) c.in-Some.is).2)
 
-pub returns-in-Nowhere : goal.returns-in-Nowhere
-returns-in-Nowhere c =
-    window-ends _ c.args.leg.threshold c.requires.0 _ c.requires.1 (finds (goal.at.returns-in-Nowhere c).After-next_candidate-found) c.in-Nowhere.is c.quiet.ensures
+pub returns-in_default : goal.returns-in_default
+returns-in_default c =
+    window-ends _ c.args.leg.threshold c.requires.0 _ c.requires.1 (finds (goal.at.returns-in_default c).After-next_candidate-found) c.in_default.is c.quiet.ensures
 
-pub returns-in-At : goal.returns-in-At
-returns-in-At c =
-    tried _ c.args.leg.threshold c.requires.0 _ c.requires.1 (finds (goal.at.returns-in-At c).After-next_candidate-found) c.in-At.is {h' = held c.try_candidate-tried.new.places c.try_candidate-tried.new.blocks} _ c.try_candidate-tried.ensures c.after_candidate.ensures
+pub returns : goal.returns
+returns c =
+    tried _ c.args.leg.threshold c.requires.0 _ c.requires.1 (finds (goal.at.returns c).After-next_candidate-found) c.in-Some.is {h' = held c.try_candidate-tried.new.places c.try_candidate-tried.new.blocks} _ c.try_candidate-tried.ensures c.after_candidate.ensures

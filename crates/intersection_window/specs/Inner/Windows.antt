@@ -1,5 +1,5 @@
 -- A window: where the first of the present blocks ends, and what all of them may add.
-use Rattle.std.specs.Prelude.{◌≡◌, false, true, List, [], map, ℕ, suc, ◌+◌, ◌≤◌, drop, get_or, take, Float}
+use Rattle.std.specs.Prelude.{◌≡◌, false, true, Option, Some, None, List, [], map, ℕ, suc, ◌+◌, ◌≤◌, drop, get_or, take, Float}
 use Rattle.std.specs.Float.{nan}
 use Rattle.route.specs.F32.{f32}
 use Rattle.route.specs.Score.{sum}
@@ -54,11 +54,15 @@ pub record RunOut (x : Query) (d : ℕ) (h : Held) (places' : List (List ℕ)) (
   pub leader : get_or places' (slot_at x 0) [] ≡ get_or h.places (slot_at x 0) []
   pub secs-are : secondaries_in x places' ≡ seek_block_all 128 d (secondaries_in x h.places)
 
+-- by `gather`'s answer
+abbrev pub GathersBy : Query → ℕ → ℕ → Held → List (List ℕ) → List Float → Option Secondaries → Type 0
+GathersBy x d leader_end h places' bounds' None = (all_remain 128 d (secondaries_in x h.places) ≡ false) × RunOut x d h places' bounds'
+GathersBy x d leader_end h places' bounds' (Some r) =
+    (all_remain 128 d (secondaries_in x h.places) ≡ true) × Gathered x d leader_end h places' bounds' r
+
 pub record Gathers (x : Query) (d leader_end : ℕ) (h : Held)
-    (places' : List (List ℕ)) (bounds' : List Float) (r : Secondaries) : Type 0 where
-  pub remain-is : r.remain ≡ all_remain 128 d (secondaries_in x h.places)
-  pub gathered : r.remain ≡ true → Gathered x d leader_end h places' bounds' r
-  pub run_out : r.remain ≡ false → RunOut x d h places' bounds'
+    (places' : List (List ℕ)) (bounds' : List Float) (r : Option Secondaries) : Type 0 where
+  pub by : GathersBy x d leader_end h places' bounds' r
 
 -- one turn of `while doc < TERMINATED`, up to the candidates, by its answer: a list has run out; the window up to document e is too low,
 -- and the next begins behind it; or it is open, with the leader's block loaded

@@ -1,10 +1,9 @@
 -- `fill` meets its contract: documents and then frequencies are put into the block.
 use mathlib.Core.Path.{◌≡◌}
 use native.Mathlib.Omega.{arith}
-use borrow.Author.Rules.{rules}
 use Rattle.house.specs.House.{doc_before}
 use Rattle.list_writer.specs.Inner.Skips.{numbers_from}
-use Rattle.list_writer.proofs.Values.{first-is, not_first, previous-is, previous-fits, docs-rise, freqs-rise, freqs-room, filled}
+use Rattle.list_writer.proofs.Values.{first-is, previous-is, previous-fits, docs-rise, freqs-rise, freqs-room, filled}
 use Rattle.list_writer.proofs.fill.Goals as goal
 use Rattle.list_writer.proofs.fill.Goals.{After-doc_before-previous}
 
@@ -14,9 +13,6 @@ previous : (c : After-doc_before-previous) → let a = c.args in
 previous c =
     let a = c.args in
     previous-is a.docs.now a.from (numbers_from a.freqs.now a.from) a.b c.doc_before-previous.ensures
-
-pub doc_before-previous-requires : goal.doc_before-previous-requires
-doc_before-previous-requires c = (not_first c.args.from c.args.b, omega (arith, c.requires.1.docs-in))
 
 pub differences-requires : goal.differences-requires
 differences-requires c =

@@ -1,16 +1,9 @@
 -- `write_block` meets its contract: the skip entry, and at its own place the block.
 use mathlib.Core.Path.{refl}
 use native.Mathlib.Omega.{arith}
-use borrow.Author.Rules.{rules}
 use Rattle.list_writer.proofs.Values.{number_same}
 use Rattle.list_writer.proofs.Blocks.{docs-fit, freqs-fit, block-length, block_written}
 use Rattle.list_writer.proofs.write_block.Goals as goal
-
-pub num_bits-doc_bits-requires : goal.num_bits-doc_bits-requires
-num_bits-doc_bits-requires c = c.fill.ensures.sized.long-docs
-
-pub num_bits-freq_bits-requires : goal.num_bits-freq_bits-requires
-num_bits-freq_bits-requires c = c.fill.ensures.sized.long-freqs
 
 pub write_skip_entry-requires : goal.write_skip_entry-requires
 write_skip_entry-requires c =
@@ -33,11 +26,6 @@ pack-requires-2 c =
       (freqs-fit b c.requires.0.sound c.fill.ensures g).0,
       omega (arith, long, c.requires.2, c.write_skip_entry.ensures.written.long, c.pack.ensures.written.long),
     )
-
-pub overflow_add-result : goal.overflow_add-result
-overflow_add-result c =
-    let long = block-length c.args.b c.requires.0.sound c.fill.ensures c.num_bits-doc_bits.ensures c.num_bits-freq_bits.ensures in
-    omega (arith, long, c.requires.2)
 
 pub returns : goal.returns
 returns c =

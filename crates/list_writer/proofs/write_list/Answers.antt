@@ -1,19 +1,10 @@
--- `write_list` meets its contract. The loop's invariant (`Writing`): b blocks are written with their entries, and the next comes to p. The
--- measure is how many are left.
-use Prim.Native.Nat.{◌+◌, ◌-◌, ◌*◌, ◌/◌, ◌%◌}
+-- `write_list` meets its contract. The loop's invariant (`Writing`): b blocks are written with their entries, and the next comes to p.
+use Prim.Native.Nat.{◌+◌, ◌*◌, ◌/◌, ◌%◌}
 use native.Mathlib.Omega.{arith}
-use borrow.Author.Rules.{rules}
 use Rattle.list_writer.specs.Inner.Skips.{numbers_from}
-use Rattle.list_writer.proofs.Listing.{postings-less, skips-long, Writing, begun, goes_on, all-written}
+use Rattle.list_writer.proofs.Listing.{postings-less, begun, goes_on, all-written}
 use Rattle.list_writer.proofs.Listing.{entry-room, block_room, tail-room}
 use Rattle.list_writer.proofs.write_list.Goals as goal
-
-pub overflow_add-p : goal.overflow_add-p
-overflow_add-p c =
-    let a = c.args in
-    let d = numbers_from a.docs.now a.from in
-    let f = numbers_from a.freqs.now a.from in
-    omega (arith, skips-long a.norms.now a.reader d f a.tops.now a.start (a.n / 128), c.requires.5, c.well_formed)
 
 pub loop-b-init : goal.loop-b-init
 loop-b-init c =
@@ -21,27 +12,6 @@ loop-b-init c =
     let d = numbers_from a.docs.now a.from in
     let f = numbers_from a.freqs.now a.from in
     begun a.norms.now a.reader d f a.tops.now a.start (a.n / 128) a.out.now a.place
-
-pub overflow_cast-top : goal.overflow_cast-top
-overflow_cast-top c = omega (arith, c.requires.3.low c.loop-b.b c.loop-b-test.true)
-
-pub overflow_add-b : goal.overflow_add-b
-overflow_add-b c =
-    omega (arith, c.requires.3.low c.loop-b.b c.loop-b-test.true, c.requires.1)
-
-pub overflow_add-from : goal.overflow_add-from
-overflow_add-from c =
-    omega (arith, c.requires.3.low c.loop-b.b c.loop-b-test.true, c.requires.1)
-
-pub pair_at-pair-requires : goal.pair_at-pair-requires
-pair_at-pair-requires c =
-    let low = c.requires.3.low c.loop-b.b c.loop-b-test.true in
-    (omega (arith, low, c.requires.1), omega (arith, low, c.requires.2))
-
-pub overflow_add-skip : goal.overflow_add-skip
-overflow_add-skip c =
-    let h = c.loop-b-test.true in
-    omega (arith, entry-room c.args.n c.loop-b.invariant h, block_room c.args.n c.loop-b.invariant c.requires.5 h, c.loop-b.invariant.two.long)
 
 pub write_block-p-requires : goal.write_block-p-requires
 write_block-p-requires c =

@@ -1,5 +1,4 @@
 -- `write_tail` meets its contract: the documents' VInts, and behind them the frequencies'.
-use borrow.Author.Rules.{rules}
 use Rattle.list_writer.proofs.Tails.{docs-room, tail-room, tail_written}
 use Rattle.list_writer.proofs.write_tail.Goals as goal
 

@@ -4,9 +4,9 @@ use borrow.Author.Rules.{rules}
 use Rattle.term_scorer.specs.Inner.Slots.{held}
 use Rattle.machine.specs.Inner.Stands.{tables, Tables, StandsIn}
 use Rattle.machine.specs.Inner.Goes.{GoesOn}
-use Rattle.machine.specs.declared.Gone.{Gone}
+use Rattle.reports.specs.declared.Gone.{Gone}
 use Rattle.machine.specs.declared.Machine.{Machine}
-use Rattle.machine.proofs.Going.{intersection-goes, plain-goes, single-goes, union-goes}
+use Rattle.machine.proofs.Going.{as-machine, intersection-goes, plain-goes, single-goes, union-goes}
 use Rattle.machine.proofs.go_on.Goals as goal
 use Rattle.machine.proofs.go_on.Goals.{Start}
 
@@ -18,7 +18,7 @@ had a = tables a.args.order.now a.args.places.now a.args.blocks.now a.args.float
 stood : (a : Start) {m : Machine} → a.args.machine ≡ m → StandsIn a.args.file.now a.args.leg.similarity a.args.lists.now a.args.norms.now (had a) m
 stood a e = subst (StandsIn a.args.file.now a.args.leg.similarity a.args.lists.now a.args.norms.now (had a)) e a.requires.1
 
-from-mode : (a : Start) {m : Machine} → m ≡ a.args.machine → {new : Tables} {r : Gone}
+from-mode : (a : Start) {m : Machine} → m ≡ a.args.machine → {new : Tables} {r : Gone Machine}
     → GoesOn a.args.file.now a.args.leg.similarity a.args.lists.now a.args.norms.now a.args.leg.threshold a.args.leg.turns (had a) m new r
     → GoesOn a.args.file.now a.args.leg.similarity a.args.lists.now a.args.norms.now a.args.leg.threshold a.args.leg.turns (had a) a.args.machine new r
 from-mode a e {new} {r} G =
@@ -44,20 +44,20 @@ go-g-requires-in-Plain c =
 
 pub returns-in-Union : goal.returns-in-Union
 returns-in-Union c =
-    rw c.of_union.ensures
+    rw (as-machine c.map.ensures.to c.map.ensures.taken c.map.ensures.event)
     (from-mode (goal.at.returns-in-Union c).Start (sym c.in-Union.is) (union-goes c.args.file.now c.args.leg.similarity c.args.lists.now c.args.norms.now c.args.leg.threshold c.args.leg.turns _ (had (goal.at.returns-in-Union c).Start) {order = c.go-g.new.order} {h = held c.go-g.new.places c.go-g.new.blocks} {floats = c.go-g.new.floats} c.go-g.result c.go-g.ensures.0 c.go-g.ensures.1))
 
 pub returns-in-Single : goal.returns-in-Single
 returns-in-Single c =
-    rw c.of_single.ensures
+    rw (as-machine c.map-in-Single.ensures.to c.map-in-Single.ensures.taken c.map-in-Single.ensures.event)
     (from-mode (goal.at.returns-in-Single c).Start (sym c.in-Single.is) (single-goes c.args.file.now c.args.leg.similarity c.args.lists.now c.args.norms.now c.args.leg.threshold c.args.leg.turns _ (had (goal.at.returns-in-Single c).Start) c.go-g-in-Single.result {h = held c.go-g-in-Single.new.places c.go-g-in-Single.new.blocks} {floats = c.go-g-in-Single.new.floats} c.go-g-in-Single.ensures))
 
 pub returns-in-Intersection : goal.returns-in-Intersection
 returns-in-Intersection c =
-    rw c.of_intersection.ensures
+    rw (as-machine c.map-in-Intersection.ensures.to c.map-in-Intersection.ensures.taken c.map-in-Intersection.ensures.event)
     (from-mode (goal.at.returns-in-Intersection c).Start (sym c.in-Intersection.is) (intersection-goes c.args.file.now c.args.leg.similarity c.args.lists.now c.args.norms.now c.args.leg.threshold c.args.leg.turns c.in-Intersection.v (had (goal.at.returns-in-Intersection c).Start) c.go-g-in-Intersection.result {h = held c.go-g-in-Intersection.new.places c.go-g-in-Intersection.new.blocks} {floats = c.go-g-in-Intersection.new.floats} c.go-g-in-Intersection.ensures))
 
 pub returns-in-Plain : goal.returns-in-Plain
 returns-in-Plain c =
-    rw c.of_plain.ensures
+    rw (as-machine c.map-in-Plain.ensures.to c.map-in-Plain.ensures.taken c.map-in-Plain.ensures.event)
     (from-mode (goal.at.returns-in-Plain c).Start (sym c.in-Plain.is) (plain-goes c.args.file.now c.args.leg.similarity c.args.lists.now c.args.norms.now c.args.leg.threshold c.args.leg.turns _ (had (goal.at.returns-in-Plain c).Start) c.go-g-in-Plain.result {h = held c.go-g-in-Plain.new.places c.go-g-in-Plain.new.blocks} c.go-g-in-Plain.ensures))

@@ -1,8 +1,7 @@
 -- `packed_docs` meets its contract: the unpacked values, summed, are the block's documents.
 use mathlib.Core.Path.{sym, ◌∙◌}
-use mathlib.Core.Logic.{inl, inr, ⊎_elim}
+use mathlib.Core.Logic.{inl, inr}
 use native.Mathlib.Omega.{arith}
-use borrow.Author.Rules.{rules}
 use borrow.Author.Tests.{leb-true}
 use Rattle.notefile.proofs.FullBlocks.{docs-in, small, narrow-block, docs-fall, docs-end}
 use Rattle.note_blocks.proofs.packed_docs.Goals as goal
@@ -17,7 +16,7 @@ documents-requires c =
       U.long,
       small c.requires.0 c.args.e c.requires.1 32 (docs-in c.requires.0 c.args.e c.requires.1).0 U,
       narrow-block c.requires.0 c.args.e c.requires.1 U c.requires.6
-          (elim c.if-e.branch [ goal.then-e w ↦ inl (w.if-e.true, λ t. let n = sym w.narrow-is ∙ t in omega (arith, leb-true)) | goal.else-e w ↦ inr w.narrow-is ]),
+          (elim c.if-e.branch [ goal.then-e w ↦ inl (w.if-e.true, λ t. let n = sym w.narrow-is ∙ t in omega (arith, leb-true)) | goal.else-e w ↦ inr (w.narrow-is ∙ w.if-e.false) ]),
     )
 
 pub returns-then-documents : goal.returns-then-documents

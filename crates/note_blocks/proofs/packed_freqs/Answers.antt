@@ -1,6 +1,5 @@
 -- `packed_freqs` meets its contract: the unpacked values, counted, are the block's frequencies.
 use native.Mathlib.Omega.{arith}
-use borrow.Author.Rules.{rules}
 use Rattle.notefile.proofs.FullBlocks.{freqs-in, small, freqs-counted}
 use Rattle.note_blocks.proofs.packed_freqs.Goals as goal
 

@@ -1,5 +1,4 @@
 -- `best_of_run` meets its contract: by the run's outcome, from its contract alone.
-use borrow.Author.Rules.{rules}
 use Rattle.reports.specs.Rows.{Rows, rows}
 use Rattle.note_finder.specs.Found.{Sought, sought}
 use Rattle.note_finder.proofs.Finding.{done, full, not-run, readable}

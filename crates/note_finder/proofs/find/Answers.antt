@@ -1,6 +1,5 @@
 -- `find` meets its contract: refused before 14, with 14, or as the run is.
 use native.Mathlib.Omega.{arith}
-use borrow.Author.Rules.{rules}
 use Rattle.reports.specs.Rows.{Rows, rows}
 use Rattle.note_finder.specs.Found.{Sought, sought}
 use Rattle.note_finder.proofs.Finding.{refused-14, refused-first}
@@ -17,13 +16,13 @@ reports a = rows a.args.reported.now a.args.values.now
 abbrev notes : Start → Rows
 notes a = rows a.args.documents.now a.args.scores.now
 
-pub returns-then-number-ne0 : goal.returns-then-number-ne0
-returns-then-number-ne0 c =
-    refused-first (sought-at (goal.at.returns-then-number-ne0 c).Start) (reports (goal.at.returns-then-number-ne0 c).Start) (notes (goal.at.returns-then-number-ne0 c).Start) c.refusal-number.ensures c.if-number-ne0.true
+pub returns-in-Err : goal.returns-in-Err
+returns-in-Err c =
+    refused-first (sought-at (goal.at.returns-in-Err c).Start) (reports (goal.at.returns-in-Err c).Start) (notes (goal.at.returns-in-Err c).Start) c.in-Err.refusal c.in-Err.ensures
 
-pub returns-then-rows-k : goal.returns-then-rows-k
-returns-then-rows-k c =
-    refused-14 (sought-at (goal.at.returns-then-rows-k c).Start) (reports (goal.at.returns-then-rows-k c).Start) (notes (goal.at.returns-then-rows-k c).Start) c.refusal-number.ensures c.if-number-ne0.false (omega (arith, c.rows.ensures, c.if-rows-k.true))
+pub returns-in-Ok : goal.returns-in-Ok
+returns-in-Ok c =
+    refused-14 (sought-at (goal.at.returns-in-Ok c).Start) (reports (goal.at.returns-in-Ok c).Start) (notes (goal.at.returns-in-Ok c).Start) c.in-Ok.ensures (omega (arith, c.rows.ensures, c.if-rows-k.true))
 
 pub best_of_run-requires : goal.best_of_run-requires
 best_of_run-requires c =

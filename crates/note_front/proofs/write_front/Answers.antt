@@ -2,7 +2,7 @@
 use borrow.Author.Rules.{rules}
 use native.Mathlib.Omega.{arith}
 use Rattle.note_front.proofs.Entries.{bits_in}
-use Rattle.note_front.proofs.Fronts.{average-is-number, header-fits, entries_fit, front-put}
+use Rattle.note_front.proofs.Fronts.{average-is-number, header-fits, front-put}
 use Rattle.note_front.proofs.write_front.Goals as goal
 
 pub float_to_bits-h : goal.float_to_bits-h
@@ -16,12 +16,6 @@ pub write_header-requires : goal.write_header-requires
 write_header-requires c =
     let a = c.args in
     header-fits a.h a.norms.now a.weights.now a.counts.now a.postings.now c.requires (search rules)
-
-pub write_entries-requires : goal.write_entries-requires
-write_entries-requires c =
-    let a = c.args in
-    entries_fit a.h a.norms.now a.weights.now a.counts.now a.postings.now c.requires
-    c.write_header.ensures.written.long
 
 pub returns : goal.returns
 returns c =

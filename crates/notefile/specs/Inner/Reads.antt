@@ -1,5 +1,5 @@
 -- What the functions that read a file leave and answer.
-use Rattle.std.specs.Prelude.{◌≡◌, Bool, true, cond, List, [], ℕ, ◌≤◌, ◌<◌, eqb, ltb, length, get_or, Float}
+use Rattle.std.specs.Prelude.{◌≡◌, Bool, true, List, [], ℕ, ◌≤◌, ◌<◌, length, get_or, Float}
 use Rattle.notefile.specs.Header.{norm_code_of}
 use Rattle.notefile.specs.Lists.{full_blocks, tail_size, block_size, doc_value, freq_value, block_doc, block_freq, score_for}
 use Rattle.notefile.specs.Conditions.{postings_right, block_docs_right, block_freqs_right, bounds_right}
@@ -66,7 +66,3 @@ pub record Loaded (file : List ℕ) (x : Part) (b : ℕ) (docs freqs : List ℕ)
 -- what one block is refused for, of 7 to 9
 abbrev pub block_refusal : List ℕ → Part → ℕ → ℕ
 block_refusal file x b = first_of (block_docs_right file x b) (block_freqs_right file x b) (bounds_right file x b)
-
--- the lower of two refusals, where 0 is none
-abbrev pub lower : ℕ → ℕ → ℕ
-lower a b = cond (eqb a 0) b (cond (eqb b 0) a (cond (ltb b a) b a))

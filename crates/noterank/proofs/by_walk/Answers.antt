@@ -1,5 +1,4 @@
 -- `by_walk` meets its contract: by the walk's number.
-use borrow.Author.Rules.{rules}
 use Rattle.reports.specs.Rows.{Rows, rows}
 use Rattle.request.specs.Request.{asked}
 use Rattle.noterank.proofs.Numbers.{skipping-by, plain_by}

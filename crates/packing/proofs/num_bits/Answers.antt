@@ -1,19 +1,12 @@
 -- `packing::num_bits` meets its contract. The loop's invariant (`Gathering`): a width holds the bits gathered if and only if it
--- holds the values passed. The measure is how many are left.
-use Prim.Native.Nat.{◌-◌}
-use lib.Count.{leading_le}
+-- holds the values passed.
+use mathlib.Core.Path.{refl}
 use borrow.Author.Rules.{rules}
-use Rattle.packing.proofs.Widths.{Gathering, begun, goes_on, width_is}
+use Rattle.packing.proofs.Widths.{goes_on, width_is}
 use Rattle.packing.proofs.num_bits.Goals as goal
 
-pub loop-i-init : goal.loop-i-init
-loop-i-init c = begun c.args.values.now
-
-pub loop-i-preserved : goal.loop-i-preserved
-loop-i-preserved c = goes_on c.loop-i.invariant c.loop-i-test.true c.told-all.ensures.0 c.told-all.ensures.1
-
-pub overflow_sub-result : goal.overflow_sub-result
-overflow_sub-result c = leading_le 32 c.loop-i.all
+pub loop-value-preserved : goal.loop-value-preserved
+loop-value-preserved c = goes_on c.loop-value.invariant c.loop-value-test.true refl (search rules)
 
 pub returns : goal.returns
-returns c = width_is c.loop-i.invariant c.loop-i-test.false
+returns c = width_is c.loop-value.invariant c.loop-value-test.false

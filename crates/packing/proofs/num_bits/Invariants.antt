@@ -1,11 +1,7 @@
 -- `packing::num_bits` meets its contract. The loop's invariant (`Gathering`): a width holds the bits gathered if and only if it
--- holds the values passed. The measure is how many are left.
-use Prim.Native.Nat.{◌-◌}
+-- holds the values passed.
 use Rattle.packing.proofs.Widths.{Gathering}
 use Rattle.packing.proofs.num_bits.Given as goal
 
-abbrev pub invariant-loop-i : goal.invariant-loop-i
-invariant-loop-i l = Gathering l.values l.all l.i
-
-abbrev pub decreases-loop-i : goal.decreases-loop-i
-decreases-loop-i l = 128 - l.i
+abbrev pub invariant-loop-value : goal.invariant-loop-value
+invariant-loop-value l = Gathering l.values l.all l.value-index

@@ -3,11 +3,10 @@ use mathlib.Core.List.{List}
 use mathlib.Core.Path.{◌≡◌, sym, ◌∙◌}
 use Prim.Native.Nat.{◌+◌, ◌-◌, ◌≤◌, ◌<◌, ℕ}
 use native.Mathlib.Omega.{arith}
-use borrow.Author.Rules.{rules}
 use Rattle.route.proofs.Cases.{lt_of_ne}
 use Rattle.reports.proofs.TurnLaws.{none_yet}
 use Rattle.term_scorer.specs.Inner.Slots.{held, Held}
-use Rattle.plain_scan.proofs.Beginning.{places-read, with-heads}
+use Rattle.plain_scan.proofs.Beginning.{with-heads}
 use Rattle.plain_scan.proofs.Scanning.{Upward, ahead, gone-on, passes, stands-next, stops-due, stops-early, stops-over, stops-paused, to-document}
 use Rattle.plain_scan.proofs.go.Goals as goal
 use Rattle.plain_scan.proofs.go.Goals.{After-least-doc, After-take_document-found, Else-doc-eq-TERMINATED, Else-taken-turns, Else-turns-taken}
@@ -39,10 +38,6 @@ more : (x : Else-taken-turns)
     → (x.loop-taken.taken + (x.least-doc.result - x.loop-taken.at) < x.args.leg.turns)
 more x = lt_of_ne (omega (arith, x.if-turns-taken.false, x.loop-taken.invariant.within)) x.if-taken-turns.false
 
-pub heads_of-heads-requires : goal.heads_of-heads-requires
-heads_of-heads-requires c =
-    (c.requires.1.few, places-read c.args.leg.similarity.scoring _ _ _ _ c.args.plain c.requires.1)
-
 pub loop-taken-init : goal.loop-taken-init
 loop-taken-init c =
     let P = c.requires.1 in
@@ -53,34 +48,13 @@ loop-taken-init c =
       within = omega arith;
     }
 
-pub least-doc-requires : goal.least-doc-requires
-least-doc-requires c = c.requires.1.few
-
 pub overflow_sub-gap : goal.overflow_sub-gap
 overflow_sub-gap c = omega (arith, (ahead_of c).0)
-
-pub overflow_cast-gap : goal.overflow_cast-gap
-overflow_cast-gap c = omega (arith, (ahead_of c).1)
-
-pub overflow_sub-turns : goal.overflow_sub-turns
-overflow_sub-turns c = omega (arith, c.loop-taken.invariant.within)
-
-pub overflow_sub-far : goal.overflow_sub-far
-overflow_sub-far c = omega (arith, c.loop-taken.invariant.within)
-
-pub overflow_cast-far : goal.overflow_cast-far
-overflow_cast-far c = omega (arith, c.if-turns-taken.true, (ahead_of (goal.at.overflow_cast-far c).After-least-doc).1)
-
-pub overflow_add-far : goal.overflow_add-far
-overflow_add-far c = omega (arith, c.if-turns-taken.true, (ahead_of (goal.at.overflow_add-far c).After-least-doc).1)
 
 pub returns-then-turns-taken : goal.returns-then-turns-taken
 returns-then-turns-taken c =
     let z = stops-early _ _ _ _ _ c.loop-taken.invariant c.least-doc.ensures c.if-turns-taken.true in
     gone-on c.args.leg.similarity.scoring _ _ _ c.args.plain c.requires.1 z.0.standing z.0.cap z.1 c.stand.ensures
-
-pub overflow_add-taken : goal.overflow_add-taken
-overflow_add-taken c = omega (arith, c.if-turns-taken.false, c.loop-taken.invariant.within)
 
 pub returns-then-doc-eq-TERMINATED : goal.returns-then-doc-eq-TERMINATED
 returns-then-doc-eq-TERMINATED c =
@@ -95,9 +69,6 @@ returns-then-taken-turns c =
 pub take_document-found-requires : goal.take_document-found-requires
 take_document-found-requires c =
     (c.requires.1.few, c.requires.0, c.requires.1.weighed, (at_least (goal.at.take_document-found-requires c).Else-turns-taken).standing, live (goal.at.take_document-found-requires c).Else-doc-eq-TERMINATED)
-
-pub overflow_add-taken-in-loop-taken : goal.overflow_add-taken-in-loop-taken
-overflow_add-taken-in-loop-taken c = omega (arith, more (goal.at.overflow_add-taken-in-loop-taken c).Else-taken-turns)
 
 pub overflow_add-at : goal.overflow_add-at
 overflow_add-at c = omega (arith, live (goal.at.overflow_add-at c).Else-doc-eq-TERMINATED)

@@ -6,6 +6,3 @@ use Rattle.plain_scan.proofs.take_document.Given as goal
 
 abbrev pub invariant-loop-q : goal.invariant-loop-q
 invariant-loop-q l = Taking l.similarity.scoring l.file l.lists l.n l.doc l.found (held l.places l.blocks) l.heads l.q
-
-abbrev pub decreases-loop-q : goal.decreases-loop-q
-decreases-loop-q l = l.n - l.q

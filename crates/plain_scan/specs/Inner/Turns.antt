@@ -12,7 +12,7 @@ use Rattle.reports.specs.declared.Event.{Event}
 use Rattle.term_scorer.specs.Inner.Slots.{Held, lists_from}
 use Rattle.scan_heads.specs.Inner.Found.{found_of, hit_in}
 use Rattle.plain_scan.specs.Inner.Heads.{AllWeighed, RestsFrom}
-use Rattle.plain_scan.specs.declared.Gone.{Gone}
+use Rattle.reports.specs.declared.Gone.{Gone}
 use Rattle.plain_scan.specs.declared.Plain.{Plain}
 
 -- in an intersection every list must have a document
@@ -39,8 +39,8 @@ abbrev pub hits_of : Scoring → List ℕ → List (List ℕ) → ℕ → Bool �
 hits_of scoring file lists n all d = hit_in all n (found_of (present d (lists_from scoring file lists 0 n)))
 
 -- a scan as it stands still
-abbrev pub gone_to : ℕ → Bool → ℕ → ℕ → Event → Gone
-gone_to len all doc taken event = record { plain = record { len = len; all = all; doc = doc }; taken = taken; event = event }
+abbrev pub gone_to : ℕ → Bool → ℕ → ℕ → Event → Gone Plain
+gone_to len all doc taken event = record { to = record { len = len; all = all; doc = doc }; taken = taken; event = event }
 
 module _ (scoring : Scoring) (file : List ℕ) (lists : List (List ℕ)) (norms : List (List Float)) where
   -- a scan stands at its document: no scorer has passed it
@@ -51,8 +51,8 @@ module _ (scoring : Scoring) (file : List ℕ) (lists : List (List ℕ)) (norms 
     pub each : (q : ℕ) → q < p.len → RestsFrom scoring file lists p.doc h q
 
   -- it went on, over the same lists
-  pub record GoneOn (t : Float) (turns : ℕ) (p : Plain) (h' : Held) (r : Gone) : Type 0 where
-    pub stands : PlainStands h' r.plain
-    pub len_is : r.plain.len ≡ p.len
-    pub all-is : r.plain.all ≡ p.all
-    pub went : Went (scan_turn (hits_of scoring file lists p.len p.all)) (leb TERMINATED) t p.doc turns r.taken r.plain.doc r.event
+  pub record GoneOn (t : Float) (turns : ℕ) (p : Plain) (h' : Held) (r : Gone Plain) : Type 0 where
+    pub stands : PlainStands h' r.to
+    pub len_is : r.to.len ≡ p.len
+    pub all-is : r.to.all ≡ p.all
+    pub went : Went (scan_turn (hits_of scoring file lists p.len p.all)) (leb TERMINATED) t p.doc turns r.taken r.to.doc r.event

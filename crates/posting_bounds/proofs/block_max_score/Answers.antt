@@ -1,6 +1,5 @@
 -- `block_max_score` meets its contract: the pair of a full block, the scores of a loaded tail, the list bound of one that is not loaded.
 use native.Mathlib.Omega.{arith}
-use borrow.Author.Rules.{rules}
 use Rattle.skip_reader.proofs.Blocks.{decoded-small}
 use Rattle.skip_reader.proofs.Readers.{packed-info, tail-info}
 use Rattle.posting_bounds.proofs.BlockBounds.{full-bound, unloaded-bound, loaded-bound}

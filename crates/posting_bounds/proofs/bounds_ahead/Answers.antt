@@ -1,17 +1,9 @@
 -- `bounds_ahead` meets its contract: each turn writes one block's bound.
 use borrow.Author.Rules.{rules}
-use native.Mathlib.Omega.{arith}
-use Prim.Native.Nat.{◌+◌, ◌-◌}
+use Prim.Native.Nat.{◌+◌}
 use Rattle.decoded.specs.Lists.{list_of}
-use Rattle.posting_bounds.proofs.Ahead.{Writing, begun, goes_on, ended, bound_of}
+use Rattle.posting_bounds.proofs.Ahead.{goes_on, ended, bound_of}
 use Rattle.posting_bounds.proofs.bounds_ahead.Goals as goal
-
-pub loop-k-init : goal.loop-k-init
-loop-k-init c = begun _ _ _ _ _
-
-pub read_skip_entry-e-requires : goal.read_skip_entry-e-requires
-read_skip_entry-e-requires c =
-    (c.requires.0.blocks.skipped, omega (arith, c.full_ahead-n.ensures, c.loop-k-test.true))
 
 pub loop-k-preserved : goal.loop-k-preserved
 loop-k-preserved c =

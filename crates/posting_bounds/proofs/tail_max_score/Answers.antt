@@ -1,13 +1,8 @@
 -- `tail_max_score` meets its contract: the scores of the whole block are made at once, and the first n compared.
-use mathlib.Core.Path.{sym, ◌∙◌}
-use mathlib.Core.Bool.{true≢false}
-use borrow.Author.Rules.{rules}
+use mathlib.Core.Path.{◌∙◌}
 use Rattle.notefile.specs.Inner.Reads.{docs_of, freqs_of}
 use Rattle.posting_bounds.proofs.BlockBounds.{scores-most}
 use Rattle.posting_bounds.proofs.tail_max_score.Goals as goal
-
-pub score_block-requires : goal.score_block-requires
-score_block-requires c = (search rules, λ e. absurd (true≢false (sym e)))
 
 pub returns : goal.returns
 returns c =

@@ -1,8 +1,6 @@
 -- A scorer's place in its list, and the route's cursor that it stands for.
-use Rattle.std.specs.Prelude.{◌≡◌, true, List, ℕ, suc, min, ◌+◌, ◌≤◌, ◌<◌, ltb, get_or}
+use Rattle.std.specs.Prelude.{Result, Ok, Err, ◌≡◌, true, List, ℕ, suc, min, ◌+◌, ◌≤◌, ◌<◌, ltb, get_or}
 use Rattle.block_search.specs.Search.{answer_if}
-use Rattle.block_search.specs.declared.Answer.{Answer}
-use Rattle.block_search.specs.declared.Answer.TheVariants.{Hit, Miss}
 use Rattle.route.specs.Postings.{TERMINATED, start}
 use Rattle.route.specs.Cursor.{Cursor, doc_here}
 use Rattle.bm25.specs.declared.Scoring.{Scoring}
@@ -46,6 +44,6 @@ Here p block doc =
     → (scoring : Scoring) → doc ≡ doc_here (list_of scoring file x) (cursor_of p)
 
 -- a search's answer, to a seek: `TERMINATED` is never a hit
-abbrev pub live_answer : ℕ → Answer → Answer
-live_answer target (Hit i) = answer_if (ltb target TERMINATED) i
-live_answer target (Miss n) = Miss n
+abbrev pub live_answer : ℕ → Result ℕ ℕ → Result ℕ ℕ
+live_answer target (Ok i) = answer_if (ltb target TERMINATED) i
+live_answer target (Err n) = Err n

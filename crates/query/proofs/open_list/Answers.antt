@@ -1,6 +1,5 @@
 -- `open_list` meets its contract: the list's part is read, its weight made, and its first block loaded.
 use mathlib.Core.Path.{sym, subst}
-use borrow.Author.Rules.{rules}
 use Rattle.term_scorer.specs.Inner.Slots.{held}
 use Rattle.bm25.proofs.Numbers.{weight-number, average-number}
 use Rattle.notefile.specs.Inner.Given.{HeaderIn, Limits}

@@ -1,11 +1,10 @@
 -- `open_lists` meets its contract: after q turns the first q numbers of the query stand in their slots.
 use mathlib.Core.Path.{◌≡◌, subst}
-use Prim.Native.Nat.{ℕ, ◌-◌, ◌≤◌, ◌<◌}
+use Prim.Native.Nat.{ℕ, ◌<◌}
 use native.Mathlib.Omega.{arith}
 use lib.ListN.{length}
 use lib.Ieee.{of_bits}
-use borrow.Author.Rules.{rules}
-use Rattle.query.specs.Inner.Openings.{tables, QueryOpened, Untouched, Tables}
+use Rattle.query.specs.Inner.Openings.{tables, QueryOpened, Tables}
 use Rattle.query.proofs.Opening.{behind-as, behind-one, none-opened, none-touched, one_more}
 use Rattle.query.proofs.open_lists.Goals as goal
 use Rattle.query.proofs.open_lists.Goals.{After-open_list-scorer, At-loop-q}
@@ -37,12 +36,6 @@ offset_bounds-scorers-q c = omega (arith, small c)
 
 pub bounds-scorers-q : goal.bounds-scorers-q
 bounds-scorers-q c = omega (arith, small c)
-
-pub overflow_add-q : goal.overflow_add-q
-overflow_add-q c = omega (arith, small c)
-
-pub loop-q-smaller : goal.loop-q-smaller
-loop-q-smaller c = omega (arith, c.loop-q-test.true)
 
 pub loop-q-preserved : goal.loop-q-preserved
 loop-q-preserved c =

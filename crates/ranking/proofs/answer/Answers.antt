@@ -26,7 +26,6 @@ pub begin-task-requires : goal.begin-task-requires
 begin-task-requires c =
     let t = through (goal.at.begin-task-requires c).Start in (
       record { accepted = t.accepted; few = t.few; named = t.named; takes = t.takes },
-      search rules,
       record { lists = search rules; norms = search rules; places = search rules; blocks = search rules },
     )
 

@@ -1,5 +1,4 @@
 -- `count_right` meets its contract: the mode's own test.
-use borrow.Author.Rules.{rules}
 use borrow.Author.Tests.{le-leb, lt-leb}
 use Rattle.request.proofs.count_right.Goals as goal
 

@@ -1,10 +1,6 @@
 -- `numbers_right` meets its contract: the numbers that are left decide, one by one.
-use mathlib.Core.Path.{◌≡◌, refl}
-use Prim.Native.Nat.{◌-◌, ◌≤◌}
+use mathlib.Core.Path.{refl}
 use native.Mathlib.Omega.{arith}
-use lib.ListN.{length, drop}
-use borrow.Author.Rules.{rules}
-use Rattle.request.specs.Request.{numbers_right}
 use Rattle.request.proofs.Requests.{number-high, number-right, all-numbers}
 use Rattle.request.proofs.numbers_right.Goals as goal
 

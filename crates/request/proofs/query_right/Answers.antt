@@ -1,6 +1,5 @@
 -- `query_right` meets its contract: the numbers first, then how many they are.
 use mathlib.Core.Path.{sym, ◌∙◌}
-use borrow.Author.Rules.{rules}
 use Rattle.request.proofs.query_right.Goals as goal
 
 pub returns-then-numbers_right : goal.returns-then-numbers_right

@@ -7,6 +7,3 @@ use Rattle.rulecheck.proofs.script_right.Given as goal
 
 abbrev pub invariant-loop-i : goal.invariant-loop-i
 invariant-loop-i l = (l.i ≤ length l.script) × (script_right l.scoring l.start l.script ≡ script_right l.scoring l.last (drop l.i l.script))
-
-abbrev pub decreases-loop-i : goal.decreases-loop-i
-decreases-loop-i l = length l.script - l.i

@@ -1,6 +1,6 @@
 -- `heads_of` meets its contract: after q turns the first q documents are in.
 use mathlib.Core.Path.{◌≡◌, subst}
-use Prim.Native.Nat.{ℕ, ◌-◌, ◌≤◌}
+use Prim.Native.Nat.{ℕ}
 use native.Mathlib.Omega.{arith}
 use lib.ListN.{get_or-replicate}
 use borrow.Author.Rules.{rules}

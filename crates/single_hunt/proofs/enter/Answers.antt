@@ -4,7 +4,7 @@ use Prim.Native.Nat.{ℕ}
 use lib.Ieee.{Float}
 use Rattle.route.specs.Cursor.{seek_in}
 use Rattle.term_scorer.specs.Inner.Slots.{cursor_at, held, list_at, Held, MovedSlot}
-use Rattle.single_hunt.proofs.Hunting.{cur-small, cur-then, doc-there, entered, entered-over, read-then, ready-then}
+use Rattle.single_hunt.proofs.Hunting.{doc-there, entered, entered-over, read-then}
 use Rattle.single_hunt.proofs.enter.Goals as goal
 use Rattle.single_hunt.proofs.enter.Goals.{After-doc-doc, After-keep_scores, After-seek}
 
@@ -19,17 +19,9 @@ places' c = c.keep_scores.new.places
 abbrev floats' : After-keep_scores → List (List Float)
 floats' c = c.keep_scores.new.floats
 
-pub doc-here-requires : goal.doc-here-requires
-doc-here-requires c =
-    (c.requires.0.kept.slot-in, cur-small c.args.single c.requires.0)
-
 pub seek-requires : goal.seek-requires
 seek-requires c =
     (c.requires.0.kept.slot-in, c.requires.0.kept.slot, doc-there c.args.single c.requires.0 c.doc-here.ensures, c.requires.1)
-
-pub doc-doc-requires : goal.doc-doc-requires
-doc-doc-requires c =
-    (c.requires.0.kept.slot-in, cur-then c.args.single c.requires.0 {h' = sought c} c.seek.ensures.moved)
 
 -- the scorer has moved to the document that is read
 landed : (c : After-doc-doc) → (let x = c.args.single in
@@ -41,12 +33,6 @@ landed c =
 pub returns-then-doc-eq-TERMINATED : goal.returns-then-doc-eq-TERMINATED
 returns-then-doc-eq-TERMINATED c =
     entered-over c.args.single c.requires.0 {h' = sought (goal.at.returns-then-doc-eq-TERMINATED c).After-seek} (landed (goal.at.returns-then-doc-eq-TERMINATED c).After-doc-doc) c.if-doc-eq-TERMINATED.true
-
-pub keep_scores-requires : goal.keep_scores-requires
-keep_scores-requires c =
-    let R = ready-then c.args.single c.requires.0 {h' = sought (goal.at.keep_scores-requires c).After-seek} (landed (goal.at.keep_scores-requires c).After-doc-doc) c.if-doc-eq-TERMINATED.false in
-    let K = R.kept in
-    (K.slot-in, R.norms-are, K.slot, K.weighed, R.rows, K.scores)
 
 pub returns : goal.returns
 returns c =

@@ -1,9 +1,7 @@
 -- `single_hunt::hunt` meets its contract: its test is the route's.
 use mathlib.Core.List.{List}
 use Prim.Native.Nat.{ℕ}
-use native.Mathlib.Omega.{arith}
 use lib.Ieee.{Float}
-use borrow.Author.Rules.{rules}
 use Rattle.term_scorer.specs.Inner.Slots.{held}
 use Rattle.single_hunt.proofs.Scorers.{ready-bounded}
 use Rattle.term_scorer.proofs.Slots.{standing-in}
@@ -17,12 +15,6 @@ places' b = b.new_block_max-bound.new.places
 
 abbrev bounds : After-new_block_max-bound → List Float
 bounds b = b.new_block_max-bound.new.bounds
-
-pub new_block_max-bound-requires : goal.new_block_max-bound-requires
-new_block_max-bound-requires c =
-    let R = c.requires.0.ready in
-    let K = R.kept in
-    (K.slot-in, R.norms-are, K.slot, K.weighed, K.bound, R.rows.row 0 (omega arith))
 
 pub enter-requires : goal.enter-requires
 enter-requires c =

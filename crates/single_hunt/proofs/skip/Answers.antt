@@ -1,13 +1,8 @@
 -- `single_hunt::skip` meets its contract: its test is the definition's.
 use native.Mathlib.Omega.{arith}
-use borrow.Author.Rules.{rules}
 use Rattle.bm25.specs.declared.Scoring.TheVariants.{Unstepped}
-use Rattle.slot_rows.proofs.Rows.{last-small}
 use Rattle.single_hunt.proofs.Scorers.{last-low, skip-over, skip-past}
 use Rattle.single_hunt.proofs.skip.Goals as goal
-
-pub last_doc_in_block-last-requires : goal.last_doc_in_block-last-requires
-last_doc_in_block-last-requires c = (c.requires.0, last-small _ _ _ c.requires.1.standing)
 
 pub returns-then-last-eq-TERMINATED : goal.returns-then-last-eq-TERMINATED
 returns-then-last-eq-TERMINATED c = skip-over c.requires.1 _ c.last_doc_in_block-last.ensures c.if-last-eq-TERMINATED.true

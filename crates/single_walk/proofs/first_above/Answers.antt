@@ -1,8 +1,6 @@
 -- `single_walk::first_above` meets its contract: no score that the loop has passed is above the threshold.
-use Prim.Native.Nat.{◌-◌}
 use native.Mathlib.Omega.{arith}
-use borrow.Author.Rules.{rules}
-use Rattle.single_walk.proofs.Seeking.{Seeking, seeking-begun, seeking-on, first_found, none_found}
+use Rattle.single_walk.proofs.Seeking.{seeking-begun, seeking-on, first_found, none_found}
 use Rattle.single_walk.proofs.first_above.Goals as goal
 
 pub loop-i-init : goal.loop-i-init

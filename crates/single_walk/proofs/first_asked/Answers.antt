@@ -1,5 +1,4 @@
 -- `single_walk::first_asked` meets its contract: its test is the definition's.
-use borrow.Author.Rules.{rules}
 use Rattle.single_walk.proofs.first_asked.Goals as goal
 
 pub returns-in-Called : goal.returns-in-Called

@@ -1,6 +1,5 @@
 -- `single_walk::to_place` meets its contract: one number changes, and behind the last posting the block is left.
 use native.Mathlib.Omega.{arith}
-use borrow.Author.Rules.{rules}
 use Rattle.single_hunt.proofs.Scorers.{placed-in, placed-out, put-slot}
 use Rattle.term_scorer.proofs.Slots.{standing-in}
 use Rattle.single_walk.proofs.to_place.Goals as goal

@@ -2,7 +2,6 @@
 use mathlib.Core.Path.{refl}
 use Prim.Native.Nat.{◌<◌}
 use native.Mathlib.Omega.{arith}
-use borrow.Author.Rules.{rules}
 use Rattle.route.proofs.Cases.{lt_of_ne}
 use Rattle.single_walk.proofs.Walking.{cur-in, cur-inside, low, room, short, starts, walk-due, walk-on}
 use Rattle.single_walk.proofs.walk.Goals as goal
@@ -34,7 +33,7 @@ pub returns-then-place-end : goal.returns-then-place-end
 returns-then-place-end c =
     record {
       steps = λ similarity norms floats T.
-          walk-on T c.block_len-n.ensures c.args.threshold c.requires.1 c.reach-end.ensures c.first_asked-from.ensures c.first_above-place.ensures c.if-place-end.true c.to_place-single.ensures;
+          rw c.new.ensures (walk-on T c.block_len-n.ensures c.args.threshold c.requires.1 c.reach-end.ensures c.first_asked-from.ensures c.first_above-place.ensures c.if-place-end.true c.to_place-single.ensures);
     }
 
 -- the place found is one of the block's
@@ -44,8 +43,8 @@ found_in c =
     let e = lt_of_ne c.first_above-place.ensures.high c.if-place-end.false in
     omega (arith, h.1)
 
-pub overflow_add-reported : goal.overflow_add-reported
-overflow_add-reported c = omega (arith, found_in c)
+pub overflow_add-taken : goal.overflow_add-taken
+overflow_add-taken c = omega (arith, found_in (goal.at.overflow_add-taken c).Else-place-end)
 
 pub offset_bounds-blocks-place : goal.offset_bounds-blocks-place
 offset_bounds-blocks-place c = omega (arith, found_in c)
@@ -63,5 +62,5 @@ pub returns : goal.returns
 returns c =
     record {
       steps = λ similarity norms floats T.
-          walk-due T c.block_len-n.ensures c.args.threshold c.requires.1 c.reach-end.ensures c.first_asked-from.ensures c.first_above-place.ensures c.if-place-end.false refl;
+          rw c.new-2.ensures (walk-due T c.block_len-n.ensures c.args.threshold c.requires.1 c.reach-end.ensures c.first_asked-from.ensures c.first_above-place.ensures c.if-place-end.false refl);
     }

@@ -9,7 +9,7 @@ use Rattle.term_scorer.specs.declared.score.Similarity.{Similarity}
 use Rattle.single_hunt.specs.Inner.Places.{place_of, single_route}
 use Rattle.single_hunt.specs.Inner.Stands.{Stands}
 use Rattle.single_hunt.specs.declared.Single.{Single}
-use Rattle.single_walk.specs.declared.Gone.{Gone}
+use Rattle.reports.specs.declared.Gone.{Gone}
 
 module _ (file : List ℕ) (similarity : Similarity) (lists : List (List ℕ)) (norms : List (List Float)) (t : Float) (turns : ℕ) where
   -- up to a report, or turns without one, and one at least: whether the scan is over is not asked
@@ -20,9 +20,9 @@ module _ (file : List ℕ) (similarity : Similarity) (lists : List (List ℕ)) (
       (0 < taken) × (taken ≤ turns) × (q ≡ after_turns W.turn W.ended t p taken) × Silent W.turn W.ended t p taken
 
   -- what `stride` leaves
-  pub record Steps (x : Single) (before : Held) (r : Gone) (after : Held) (floats : List (List Float)) : Type 0 where
-    pub slot_is : r.single.slot ≡ x.slot
-    pub stands : Stands file similarity lists norms r.single after floats
+  pub record Steps (x : Single) (before : Held) (r : Gone Single) (after : Held) (floats : List (List Float)) : Type 0 where
+    pub slot_is : r.to.slot ≡ x.slot
+    pub stands : Stands file similarity lists norms r.to after floats
     pub strode : (ord : ℕ)
         → Strode (single_route similarity.scoring file lists x.slot ord) (place_of x before.places)
-        r.taken (place_of r.single after.places) r.event
+        r.taken (place_of r.to after.places) r.event

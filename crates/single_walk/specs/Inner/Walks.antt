@@ -7,7 +7,7 @@ use Rattle.term_scorer.specs.declared.score.Similarity.{Similarity}
 use Rattle.single_hunt.specs.Inner.Places.{on_walk}
 use Rattle.single_hunt.specs.Inner.Stands.{Stands}
 use Rattle.single_walk.specs.Inner.Strides.{Steps}
-use Rattle.single_walk.specs.declared.Gone.{Gone}
+use Rattle.reports.specs.declared.Gone.{Gone}
 use Rattle.single_hunt.specs.declared.Single.{Single}
 
 -- the first score above the threshold, from a place on and below n
@@ -33,6 +33,6 @@ module _ (file : List ℕ) (lists : List (List ℕ)) (x : Single) (places : List
     pub tables : Tables similarity norms floats
 
   -- what `walk` leaves, whatever the others are
-  pub record Walks (t : Float) (turns : ℕ) (r : Gone) (places' : List (List ℕ)) : Type 0 where
+  pub record Walks (t : Float) (turns : ℕ) (r : Gone Single) (places' : List (List ℕ)) : Type 0 where
     pub steps : (similarity : Similarity) (norms floats : List (List Float)) → Tables similarity norms floats
         → Steps file similarity lists norms t turns x (held places blocks) r (held places' blocks) floats

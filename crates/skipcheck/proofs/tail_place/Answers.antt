@@ -1,9 +1,6 @@
 -- `skipcheck::tail_place` meets its contract: each turn tests one entry and steps over its block.
-use Prim.Native.Nat.{◌-◌}
 use native.Mathlib.Omega.{arith}
-use borrow.Author.Rules.{rules}
-use borrow.Author.Tests.{not-true, not-false}
-use Rattle.skipcheck.proofs.SkipTests.{skips-small, wrong-length, Passed, begun, all-passed, one-wrong, one_right}
+use Rattle.skipcheck.proofs.SkipTests.{skips-small, wrong-length, begun, all-passed, one-wrong, one_right}
 use Rattle.skipcheck.proofs.tail_place.Goals as goal
 
 pub overflow_mul-x : goal.overflow_mul-x

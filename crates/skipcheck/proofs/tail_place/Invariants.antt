@@ -1,10 +1,6 @@
 -- `skipcheck::tail_place` meets its contract: each turn tests one entry and steps over its block.
-use Prim.Native.Nat.{◌-◌}
 use Rattle.skipcheck.proofs.SkipTests.{Passed}
 use Rattle.skipcheck.proofs.tail_place.Given as goal
 
 abbrev pub invariant-loop-b : goal.invariant-loop-b
 invariant-loop-b l = Passed l.file l.x l.at l.b
-
-abbrev pub decreases-loop-b : goal.decreases-loop-b
-decreases-loop-b l = l.blocks - l.b

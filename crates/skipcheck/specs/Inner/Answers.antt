@@ -1,9 +1,9 @@
 -- The answer about a list's skip entries.
-use Rattle.std.specs.Prelude.{Bool, true, false, ℕ}
-use Rattle.skipcheck.specs.declared.TailPlace.{TailPlace}
-use Rattle.skipcheck.specs.declared.TailPlace.TheVariants.{At, Wrong}
+use Rattle.std.specs.Prelude.{Bool, true, false, ℕ, Result, Ok, Err}
+use Rattle.outcome.specs.declared.refusal.Refusal.{Refusal}
+use Rattle.outcome.specs.declared.refusal.Refusal.TheVariants.{Skips}
 
 -- where the tail starts, if the skip entries are right
-abbrev pub tail_or : Bool → ℕ → TailPlace
-tail_or true at = At at
-tail_or false at = Wrong
+abbrev pub tail_or : Bool → ℕ → Result ℕ Refusal
+tail_or true at = Ok at
+tail_or false at = Err Skips

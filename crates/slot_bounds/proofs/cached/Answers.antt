@@ -1,7 +1,6 @@
 -- `cached` meets its contract: the flag says whether the row's bound is one.
 use mathlib.Core.List.{[]}
 use lib.ListN.{get_or}
-use borrow.Author.Rules.{rules}
 use borrow.Author.Tests.{eq-eqb, ne_eqb}
 use Rattle.slot_bounds.proofs.cached.Goals as goal
 

@@ -12,7 +12,7 @@ use Rattle.slot_bounds.proofs.ready_bound.Goals as goal
 pub returns-then-end-block : goal.returns-then-end-block
 returns-then-end-block c =
     ready-known c.args.scoring c.args.file.now c.args.lists.now c.args.q c.args.places.now c.args.bounds.now
-    c.requires.5 c.requires.6 c.requires.4 c.if-block-end.true c.if-end-block.true
+    c.requires.4 c.requires.5 c.requires.3 c.if-block-end.true c.if-end-block.true
 
 pub bounds_ahead-requires : goal.bounds_ahead-requires
 bounds_ahead-requires c =
@@ -21,10 +21,9 @@ bounds_ahead-requires c =
       subst (λ (z : Part). WeightIn z c.weight_in-w.result) (sym e) c.weight_in-w.ensures,
       rw e (search rules),
       search rules,
-      c.requires.3,
     )
 
 pub returns : goal.returns
 returns c =
     ready-new c.args.scoring c.args.file.now c.args.lists.now c.args.q c.args.places.now c.args.bounds.now
-    c.requires.5 c.requires.6 c.part_of-x.ensures c.bounds_ahead.ensures
+    c.requires.4 c.requires.5 c.part_of-x.ensures c.bounds_ahead.ensures

@@ -1,6 +1,5 @@
 -- `tail_bound` meets its contract: the bound is that of the row's place, and lasts where it is loaded.
 use mathlib.Core.Path.{sym, subst}
-use borrow.Author.Rules.{rules}
 use Rattle.notefile.specs.Inner.Given.{WeightIn}
 use Rattle.notefile.specs.declared.part.Part.{Part}
 use Rattle.slot_rows.proofs.Rows.{list-for, standing-for, placed-for}
@@ -13,8 +12,8 @@ postings_of-p-requires c =
     let list = c.args.list.now in
     ((list-for file list c.part_of-x.ensures c.requires.2).blocks, standing-for file list c.part_of-x.ensures c.args.place.now c.requires.3.standing)
 
-pub block_max_score-score-requires : goal.block_max_score-score-requires
-block_max_score-score-requires c =
+pub block_max_score-requires : goal.block_max_score-requires
+block_max_score-requires c =
     let file = c.args.file.now in
     let list = c.args.list.now in (
       list-for file list c.part_of-x.ensures c.requires.2,
@@ -25,4 +24,4 @@ block_max_score-score-requires c =
 
 pub returns : goal.returns
 returns c =
-    tail-found c.args.similarity.scoring c.args.file.now c.args.list.now c.args.place.now c.part_of-x.ensures c.postings_of-p.ensures c.block_max_score-score.ensures
+    tail-found c.args.similarity.scoring c.args.file.now c.args.list.now c.args.place.now c.part_of-x.ensures c.postings_of-p.ensures c.block_max_score.ensures

@@ -1,18 +1,12 @@
 -- Block bounds that are found by slot, and what that leaves.
-use Rattle.std.specs.Prelude.{◌≡◌, cond, ◌||◌, List, [], ℕ, ◌+◌, ◌*◌, ◌<◌, eqb, ltb, get_or, length, set, Float}
+use Rattle.std.specs.Prelude.{◌≡◌, Option, Some, None, cond, ◌||◌, List, [], ℕ, ◌+◌, ◌*◌, ◌<◌, eqb, ltb, get_or, length, set, Float}
 use Rattle.std.specs.Float.{nan}
 use Rattle.route.specs.Cursor.{block_max}
 use Rattle.route.specs.F32.{f32}
 use Rattle.bm25.specs.declared.Scoring.{Scoring}
 use Rattle.notefile.specs.Lists.{full_blocks}
-use Rattle.notefile.specs.declared.part.Part.{Part}
-use Rattle.decoded.specs.Lists.{list_of}
-use Rattle.slot_rows.specs.Inner.Rows.{cursor_in}
 use Rattle.term_scorer.specs.Inner.Slots.{part_at, list_at, cursor_at}
 use Rattle.term_scorer.specs.Inner.Weights.{ReadyUpTo}
-use Rattle.slot_bounds.specs.declared.BlockMax.{BlockMax}
-use Rattle.slot_bounds.specs.declared.BlockMax.TheVariants.{Known, Unknown}
-use Rattle.slot_bounds.specs.declared.Bound.{Bound}
 
 -- the row's cells of slot p are as they were
 pub record SameCells (p : ℕ) (bounds bounds' : List Float) : Type 0 where
@@ -20,13 +14,8 @@ pub record SameCells (p : ℕ) (bounds bounds' : List Float) : Type 0 where
   pub ahead : (k : ℕ) → k < 7 → get_or bounds' (16 + 7 * p + k) nan ≡ get_or bounds (16 + 7 * p + k) nan
 
 -- what a slot keeps of its block's bound: the flag says whether there is one
-abbrev pub block_max_at : List (List ℕ) → List Float → ℕ → BlockMax
-block_max_at places bounds q = cond (eqb (get_or (get_or places q []) 7 0) 1) (Known (get_or bounds q nan)) Unknown
-
--- the bound of a tail's row, and whether it lasts: it does once the tail is loaded
-pub record BoundFound (scoring : Scoring) (file : List ℕ) (x : Part) (row : List ℕ) (r : Bound) : Type 0 where
-  pub score-is : r.score ≡ block_max 128 f32 (list_of scoring file x) (cursor_in row)
-  pub lasts-is : r.lasts ≡ (cursor_in row).loaded
+abbrev pub block_max_at : List (List ℕ) → List Float → ℕ → Option Float
+block_max_at places bounds q = cond (eqb (get_or (get_or places q []) 7 0) 1) (Some (get_or bounds q nan)) None
 
 -- the bound of slot q's block, a full one, as it stands ready: what was worked out for it changes nothing else
 pub record Readied (scoring : Scoring) (file : List ℕ) (lists : List (List ℕ)) (q : ℕ) (places : List (List ℕ))

@@ -3,7 +3,6 @@ use mathlib.Core.Logic.{inl, inr}
 use Prim.Native.Nat.{◌+◌, ◌<◌}
 use native.Mathlib.Omega.{arith}
 use lib.ListN.{get_or}
-use borrow.Author.Rules.{rules}
 use Rattle.arrays.proofs.Order.{lt-or-ge}
 use Rattle.slot_rows.proofs.Rows.{cur-inside}
 use Rattle.slot_moves.proofs.Moves.{advances-in}
@@ -18,24 +17,6 @@ next-inside c =
       | inr h ↦ absurd (c.if-cur-ne127.true (omega arith))
     ]
 
-pub overflow_add-place : goal.overflow_add-place
-overflow_add-place c = omega (arith, next-inside c)
-
-pub overflow_add-result : goal.overflow_add-result
-overflow_add-result c = omega (arith, next-inside c)
-
-pub offset_bounds-block-cur : goal.offset_bounds-block-cur
-offset_bounds-block-cur c = omega (arith, next-inside c)
-
-pub bounds-block-cur : goal.bounds-block-cur
-bounds-block-cur c = omega (arith, next-inside c)
-
 pub returns-then-cur-ne127 : goal.returns-then-cur-ne127
 returns-then-cur-ne127 c =
     advances-in c.args.file.now c.args.list.now c.args.place.now c.requires.1 c.requires.2 c.if-cur-ne127.true
-
-pub advance_far-requires : goal.advance_far-requires
-advance_far-requires c = c.requires
-
-pub returns : goal.returns
-returns c = c.advance_far.ensures

@@ -3,16 +3,9 @@ use mathlib.Core.Path.{ap}
 use mathlib.Core.List.{List}
 use Prim.Native.Nat.{ℕ}
 use native.Mathlib.Omega.{arith}
-use lib.ListN.{get_or, length, set}
-use borrow.Author.Rules.{rules}
+use lib.ListN.{get_or, set}
 use Rattle.slot_rows.proofs.Rows.{moved_row}
 use Rattle.slot_moves.proofs.open.Goals as goal
-
-pub bounds-place-9 : goal.bounds-place-9
-bounds-place-9 c = let e = ap length c.keep.ensures.0 in omega arith
-
-pub doc-requires : goal.doc-requires
-doc-requires c = c.open-p.ensures.placed.inside
 
 pub returns : goal.returns
 returns c =

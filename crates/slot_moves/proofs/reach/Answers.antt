@@ -1,15 +1,6 @@
 -- `reach` meets its contract: by the skip reader and a load, by a load alone, or as it stands.
-use native.Mathlib.Omega.{arith}
-use borrow.Author.Rules.{rules}
 use Rattle.slot_moves.proofs.Moves.{reached-by, reached-here, stays-shallow}
 use Rattle.slot_moves.proofs.reach.Goals as goal
-
-pub seek_block-requires : goal.seek_block-requires
-seek_block-requires c = (c.requires.0, c.requires.1, c.requires.2.standing)
-
-pub load-requires : goal.load-requires
-load-requires c =
-    (c.requires.0, c.requires.1, (c.seek_block.ensures _ c.requires.2).place)
 
 pub returns-then-place-target : goal.returns-then-place-target
 returns-then-place-target c =

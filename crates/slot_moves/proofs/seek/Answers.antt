@@ -1,10 +1,6 @@
 -- `seek` meets its contract: the present posting, the next, else one in the block that may hold the target.
 use Prim.Native.Nat.{◌+◌, ◌<◌}
-use native.Mathlib.Omega.{arith}
 use lib.ListN.{get_or}
-use borrow.Author.Rules.{rules}
-use Rattle.slot_rows.specs.Inner.Rows.{part_in}
-use Rattle.slot_rows.proofs.Rows.{told-by}
 use Rattle.slot_moves.proofs.Moves.{behind-last, behind-next, next-inside, told_here, told-next}
 use Rattle.slot_moves.proofs.seek.Goals as goal
 use Rattle.slot_moves.proofs.seek.Goals.{Else-cur-eq127}
@@ -17,29 +13,10 @@ pub seek_on-hit-requires : goal.seek_on-hit-requires
 seek_on-hit-requires c =
     (c.requires.0, c.requires.1, c.requires.2, behind-last c.args.file.now c.args.list.now c.args.place.now c.requires.1 c.requires.2 c.args.target c.requires.3 c.if-target-doc.false c.if-cur-eq127.true, c.requires.4)
 
-pub returns-then-cur-eq127 : goal.returns-then-cur-eq127
-returns-then-cur-eq127 c =
-    told-by c.args.file.now (part_in c.args.list.now) c.args.target c.seek_on-hit.ensures c.answer_by.ensures
-
 -- the next place is one of the block's
 inside : (e : Else-cur-eq127) → get_or e.args.place.now 6 0 + 1 < 128
 inside e =
     next-inside e.args.file.now e.args.list.now e.args.place.now e.requires.1 e.requires.2 e.args.target e.requires.3 e.if-target-doc.false e.if-cur-eq127.false
-
-pub overflow_add-next_doc : goal.overflow_add-next_doc
-overflow_add-next_doc c = omega (arith, inside c)
-
-pub offset_bounds-block-cur : goal.offset_bounds-block-cur
-offset_bounds-block-cur c = omega (arith, inside c)
-
-pub bounds-block-cur : goal.bounds-block-cur
-bounds-block-cur c = omega (arith, inside c)
-
-pub overflow_add-place : goal.overflow_add-place
-overflow_add-place c = omega (arith, inside (goal.at.overflow_add-place c).Else-cur-eq127)
-
-pub overflow_add-cur : goal.overflow_add-cur
-overflow_add-cur c = omega (arith, inside (goal.at.overflow_add-cur c).Else-cur-eq127)
 
 pub returns-then-target-next_doc : goal.returns-then-target-next_doc
 returns-then-target-next_doc c =
@@ -48,7 +25,3 @@ returns-then-target-next_doc c =
 pub seek_on-hit-requires-2 : goal.seek_on-hit-requires-2
 seek_on-hit-requires-2 c =
     (c.requires.0, c.requires.1, c.requires.2, behind-next c.args.file.now c.args.list.now c.args.place.now c.requires.1 c.requires.2 c.args.target c.requires.3 c.if-target-doc.false c.if-cur-eq127.false c.if-target-next_doc.false, c.requires.4)
-
-pub returns : goal.returns
-returns c =
-    told-by c.args.file.now (part_in c.args.list.now) c.args.target c.seek_on-hit-2.ensures c.answer_by-2.ensures

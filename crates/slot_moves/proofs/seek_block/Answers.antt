@@ -1,22 +1,14 @@
 -- `seek_block` meets its contract: within the block the row stays, else the reader that moved is kept.
 use native.Mathlib.Omega.{arith}
-use borrow.Author.Rules.{rules}
 use Rattle.route.specs.Cursor.{seek_block_in}
 use Rattle.decoded.specs.Lists.{list_of}
 use Rattle.slot_rows.specs.Inner.Rows.{cursor_in, part_in}
-use Rattle.slot_rows.proofs.Rows.{moves-shallow, list-for, standing-for, stands-for, block-for}
+use Rattle.slot_rows.proofs.Rows.{moves-shallow, list-for, stands-for, block-for}
 use Rattle.slot_moves.proofs.Moves.{keeps-at, last-for, stays-shallow}
 use Rattle.slot_moves.proofs.seek_block.Goals as goal
 
 pub returns-then-target-place : goal.returns-then-target-place
 returns-then-target-place c = stays-shallow c.args.file.now c.args.list.now c.args.place.now c.requires.1 c.requires.2 c.args.target c.if-target-place.true
-
-pub part_of-x-requires : goal.part_of-x-requires
-part_of-x-requires c = c.requires.0
-
-pub postings_of-p-requires : goal.postings_of-p-requires
-postings_of-p-requires c =
-    ((list-for c.args.file.now c.args.list.now c.part_of-x.ensures c.requires.1).blocks, standing-for c.args.file.now c.args.list.now c.part_of-x.ensures c.args.place.now c.requires.2)
 
 pub seek_block-r-requires : goal.seek_block-r-requires
 seek_block-r-requires c =

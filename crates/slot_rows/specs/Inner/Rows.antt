@@ -1,6 +1,5 @@
 -- The rows of numbers that a slot keeps: its list's part, and a scorer's place.
-use Rattle.std.specs.Prelude.{◌≡◌, Bool, true, false, List, [], ◌∷◌, ℕ, suc, ◌+◌, ◌≤◌, ◌<◌, eqb, get_or}
-use Rattle.block_search.specs.declared.Answer.{Answer}
+use Rattle.std.specs.Prelude.{Result, ◌≡◌, Bool, true, false, List, [], ◌∷◌, ℕ, suc, ◌+◌, ◌≤◌, ◌<◌, eqb, get_or}
 use Rattle.route.specs.Postings.{start}
 use Rattle.route.specs.Cursor.{Cursor, seek_block_in}
 use Rattle.bm25.specs.declared.Scoring.{Scoring}
@@ -108,7 +107,7 @@ module _ (file : List ℕ) (x : Part) where
     pub loaded : (cursor_in row').loaded ≡ true
 
   -- after a seek: where the route's cursor is, and the answer of the document there
-  pub record SoughtRow (target : ℕ) (to : Scoring → Cursor) (row row' : List ℕ) (block' : List (List ℕ)) (r : Answer) : Type 0 where
+  pub record SoughtRow (target : ℕ) (to : Scoring → Cursor) (row row' : List ℕ) (block' : List (List ℕ)) (r : Result ℕ ℕ) : Type 0 where
     pub moved : MovedRow to row row' block' (doc_in file x (cursor_in row').at)
     pub answer-is : r ≡ seek_answer target (doc_in file x (cursor_in row').at) (get_or row' 6 0)
 

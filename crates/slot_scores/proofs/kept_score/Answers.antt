@@ -3,9 +3,8 @@ use mathlib.Core.List.{[], List}
 use Prim.Native.Nat.{◌<◌, ℕ}
 use lib.ListN.{get_or}
 use lib.Ieee.{Float}
-use borrow.Author.Rules.{rules}
 use Rattle.slot_rows.proofs.Rows.{cur-inside}
-use Rattle.slot_scores.proofs.Scores.{cur-made, score-made, scores-known}
+use Rattle.slot_scores.proofs.Scores.{score-made, scores-known}
 use Rattle.slot_scores.proofs.kept_score.Goals as goal
 use Rattle.slot_scores.proofs.kept_score.Goals.{After-make_scores, Start}
 
@@ -19,17 +18,10 @@ floats' m = m.make_scores.new.floats
 cur-in : (a : Start) → get_or (get_or a.args.places.now a.args.q []) 6 0 < 128
 cur-in a = cur-inside a.args.file.now (get_or a.args.lists.now a.args.q []) (get_or a.args.places.now a.args.q []) a.requires.2.list a.requires.2.place
 
-pub score_in-requires : goal.score_in-requires
-score_in-requires c = (c.requires.0, cur-in (goal.at.score_in-requires c).Start)
-
 pub returns-then-places-q-eq-MADE : goal.returns-then-places-q-eq-MADE
 returns-then-places-q-eq-MADE c =
     let M = scores-known c.args.similarity.scoring c.args.file.now c.args.lists.now c.args.q c.args.places.now c.args.floats.now c.requires.4 c.if-places-q-eq-MADE.true c.requires.5 in
     (score-made c.requires.0 c.requires.2.sixteen.0 c.requires.2.place c.requires.6 M c.score_in.ensures, M)
-
-pub score_in-requires-2 : goal.score_in-requires-2
-score_in-requires-2 c =
-    (c.requires.0, rw (cur-made {places = c.args.places.now} {places' = places' c} {floats = c.args.floats.now} {floats' = floats' c} c.requires.0 c.requires.2.sixteen.0 c.make_scores.ensures) (cur-in (goal.at.score_in-requires-2 c).Start))
 
 pub returns : goal.returns
 returns c =

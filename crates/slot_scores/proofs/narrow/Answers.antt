@@ -1,6 +1,5 @@
 -- `narrow` meets its contract: the skip entry's frequency width is compared.
 use mathlib.Core.Path.{refl}
-use borrow.Author.Rules.{rules}
 use Rattle.slot_rows.proofs.Rows.{list-for}
 use Rattle.slot_scores.proofs.Scores.{full-in, narrow-full, narrow-tail}
 use Rattle.slot_scores.proofs.narrow.Goals as goal

@@ -1,15 +1,7 @@
 -- `score` meets its contract: the document's norm and the frequency at the scorer's place, by its list's struct.
-use mathlib.Core.List.{[]}
-use lib.ListN.{get_or}
-use borrow.Author.Rules.{rules}
-use Rattle.slot_rows.proofs.Rows.{cur-inside}
 use Rattle.term_scorer.specs.Inner.Slots.{part_at}
 use Rattle.slot_scores.proofs.Scores.{score-here}
 use Rattle.slot_scores.proofs.score.Goals as goal
-
-pub term_freq-freq-requires : goal.term_freq-freq-requires
-term_freq-freq-requires c =
-    (c.requires.0, cur-inside c.args.file.now (get_or c.args.lists.now c.args.q []) (get_or c.args.places.now c.args.q []) c.requires.2.list c.requires.2.place)
 
 pub returns : goal.returns
 returns c =

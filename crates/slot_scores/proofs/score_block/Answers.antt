@@ -2,7 +2,6 @@
 use mathlib.Core.List.{[]}
 use native.Mathlib.Omega.{arith}
 use lib.ListN.{get_or}
-use borrow.Author.Rules.{rules}
 use Rattle.skip_reader.specs.Inner.Decoded.{Decoded}
 use Rattle.skip_reader.proofs.Blocks.{decoded-below, decoded-small}
 use Rattle.slot_rows.specs.Inner.Rows.{postings_in}

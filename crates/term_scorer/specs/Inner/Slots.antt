@@ -1,6 +1,5 @@
 -- The slots of a run: what the lent arrays hold of each scorer, and what a move of one leaves.
-use Rattle.std.specs.Prelude.{◌≡◌, List, [], ◌∷◌, map, ℕ, zero, suc, ◌≤◌, ◌<◌, length, get_or, set, Float}
-use Rattle.block_search.specs.declared.Answer.{Answer}
+use Rattle.std.specs.Prelude.{Result, ◌≡◌, List, [], ◌∷◌, map, ℕ, zero, suc, ◌≤◌, ◌<◌, length, get_or, set, Float}
 use Rattle.route.specs.Postings.{Postings}
 use Rattle.route.specs.Cursor.{Cursor, fresh}
 use Rattle.bm25.specs.declared.Scoring.{Scoring}
@@ -76,7 +75,7 @@ module _ (file : List ℕ) (lists : List (List ℕ)) where
         (get_or after.places q []) (get_or after.blocks q []) doc
 
   -- slot q's scorer has sought the target: it has moved, and the answer is that of the document there
-  pub record SoughtSlot (q target : ℕ) (to : Scoring → Cursor) (before after : Held) (r : Answer) : Type 0 where
+  pub record SoughtSlot (q target : ℕ) (to : Scoring → Cursor) (before after : Held) (r : Result ℕ ℕ) : Type 0 where
     pub moved : MovedSlot q to before after (doc_in file (part_at lists q) (cursor_at after.places q).at)
     pub answer-is : r
         ≡ seek_answer target (doc_in file (part_at lists q) (cursor_at after.places q).at) (get_or (get_or after.places q []) 6 0)

@@ -1,5 +1,5 @@
 -- The scorers of a union in their slots: what the tables hold of each, and the route's scorer that it stands for.
-use Rattle.std.specs.Prelude.{◌≡◌, List, [], map, ℕ, ◌≤◌, ◌<◌, take, Float}
+use Rattle.std.specs.Prelude.{◌≡◌, List, map, ℕ, ◌≤◌, ◌<◌, take, Float}
 use Rattle.arrays.specs.Every.{All}
 use Rattle.route.specs.Scorer.{Scorer}
 use Rattle.bm25.specs.declared.Scoring.{Scoring}

@@ -1,7 +1,7 @@
 -- `union_pivot::score_on_pivot` meets its contract: each turn adds the next scorer's score, and the scorers stay.
 use mathlib.Core.List.{map}
 use mathlib.Core.Path.{◌≡◌}
-use Prim.Native.Nat.{◌-◌, ◌≤◌}
+use Prim.Native.Nat.{◌≤◌}
 use lib.ListN.{take}
 use Rattle.route.specs.F32.{f32}
 use Rattle.route.specs.Score.{sum}
@@ -14,6 +14,3 @@ abbrev pub invariant-loop-i : goal.invariant-loop-i
 invariant-loop-i l =
     (l.i ≤ l.pivot_len) × (l.sum ≡ sum f32 (map score_here (map (slot_scorer l.file l.lists l.similarity.scoring l.initial.places) (take l.i l.order))))
     × Unmoved l.file l.lists l.similarity.scoring l.norms l.initial.floats (held l.initial.places l.blocks) l.floats (held l.places l.blocks)
-
-abbrev pub decreases-loop-i : goal.decreases-loop-i
-decreases-loop-i l = l.pivot_len - l.i

@@ -3,7 +3,6 @@ use lib.ListN.{take}
 use mathlib.Core.List.{List}
 use native.Mathlib.Omega.{arith}
 use lib.Ieee.{Float}
-use borrow.Author.Rules.{rules}
 use Rattle.term_scorer.specs.Inner.Slots.{held, Held}
 use Rattle.union_moves.proofs.Slots.{tops-read}
 use Rattle.union_turn.proofs.Steps.{at-pivot, few, first-seated, found, high, lined', low}
@@ -20,12 +19,12 @@ floats' b = b.seek_blocks-upper_bound.new.floats
 pub seek_blocks-upper_bound-requires : goal.seek_blocks-upper_bound-requires
 seek_blocks-upper_bound-requires c =
     let P = c.requires.1 in
-    (omega (arith, few P, P.few), c.requires.0, P.long, first-seated P)
+    (omega (arith, few P, P.few), c.requires.0, first-seated P)
 
 pub on_pivot-requires : goal.on_pivot-requires
 on_pivot-requires c =
     let P = c.requires.1 in
-    (P.few, c.requires.0, P.long, at-pivot P {h' = sought (goal.at.on_pivot-requires c).After-seek_blocks-upper_bound} {floats' = floats' (goal.at.on_pivot-requires c).After-seek_blocks-upper_bound} (c.seek_blocks-upper_bound.ensures c.args.span.len (few P) P.seated))
+    (P.few, c.requires.0, at-pivot P {h' = sought (goal.at.on_pivot-requires c).After-seek_blocks-upper_bound} {floats' = floats' (goal.at.on_pivot-requires c).After-seek_blocks-upper_bound} (c.seek_blocks-upper_bound.ensures c.args.span.len (few P) P.seated))
 
 pub returns-then-upper_bound-leg : goal.returns-then-upper_bound-leg
 returns-then-upper_bound-leg c =
@@ -35,7 +34,7 @@ returns-then-upper_bound-leg c =
 pub block_max_was_too_low_advance_one_scorer-requires : goal.block_max_was_too_low_advance_one_scorer-requires
 block_max_was_too_low_advance_one_scorer-requires c =
     let P = c.requires.1 in
-    (omega (arith, (found P).first), few P, P.few, P.long, lined' P {h' = sought (goal.at.block_max_was_too_low_advance_one_scorer-requires c).After-seek_blocks-upper_bound} {floats' = floats' (goal.at.block_max_was_too_low_advance_one_scorer-requires c).After-seek_blocks-upper_bound} (c.seek_blocks-upper_bound.ensures c.args.span.len (few P) P.seated), tops-read (take c.args.span.len c.args.order.now) P.seated)
+    (omega (arith, (found P).first), few P, P.few, lined' P {h' = sought (goal.at.block_max_was_too_low_advance_one_scorer-requires c).After-seek_blocks-upper_bound} {floats' = floats' (goal.at.block_max_was_too_low_advance_one_scorer-requires c).After-seek_blocks-upper_bound} (c.seek_blocks-upper_bound.ensures c.args.span.len (few P) P.seated), tops-read (take c.args.span.len c.args.order.now) P.seated)
 
 pub returns : goal.returns
 returns c =

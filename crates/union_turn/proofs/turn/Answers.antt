@@ -1,6 +1,5 @@
 -- `union_turn::turn` meets its contract: at each stage the turn is the route's.
 use lib.ListN.{take}
-use borrow.Author.Rules.{rules}
 use Rattle.term_scorer.specs.Inner.Slots.{held, Held}
 use Rattle.union_turn.proofs.Standing.{kept_at, stands_at}
 use Rattle.union_moves.proofs.Slots.{lined}
@@ -19,7 +18,7 @@ pub advance_all_scorers_on_pivot-len-requires : goal.advance_all_scorers_on_pivo
 advance_all_scorers_on_pivot-len-requires c =
     let S = c.requires.1 in
     let R = on-report c.args.file.now c.args.lists.now c.args.leg.similarity.scoring (now (goal.at.advance_all_scorers_on_pivot-len-requires c).Start) c.args.order.now c.args.union.len (kept_at S c.in-Called.is) in
-    (R.0, S.few, S.room, lined c.args.file.now c.args.lists.now c.args.leg.similarity.scoring (now (goal.at.advance_all_scorers_on_pivot-len-requires c).Start) (take c.args.union.len c.args.order.now) (stands S.seated) S.seated.apart, R.1)
+    (R.0, S.few, lined c.args.file.now c.args.lists.now c.args.leg.similarity.scoring (now (goal.at.advance_all_scorers_on_pivot-len-requires c).Start) (take c.args.union.len c.args.order.now) (stands S.seated) S.seated.apart, R.1)
 
 pub returns-in-Looking : goal.returns-in-Looking
 returns-in-Looking c =

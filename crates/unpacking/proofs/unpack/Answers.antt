@@ -1,5 +1,4 @@
--- `unpacking::unpack` meets its contract: a block of no width is all 0 (`none-unpacked`), one of width 32 is copied, and of every other
--- width the fourth quarter ends with all values.
+-- `unpacking::unpack` meets its contract: a block of no width is all 0 (`none-unpacked`).
 use mathlib.Core.Path.{◌≡◌, sym, subst}
 use Prim.Native.Nat.{ℕ}
 use lib.ListN.{replicate}
@@ -13,9 +12,3 @@ returns-in-0 c =
     let a = c.args in
     let none : a.width ≡ 0 = search rules in
     subst (λ (w : ℕ). Unpacked a.s.now a.at w (replicate 128 0)) (sym none) (none-unpacked a.s.now a.at)
-
-pub returns-in-32 : goal.returns-in-32
-returns-in-32 c =
-    let a = c.args in
-    let whole : a.width ≡ 32 = search rules in
-    subst (λ (w : ℕ). Unpacked a.s.now a.at w c.copy.new.out) (sym whole) c.copy.ensures

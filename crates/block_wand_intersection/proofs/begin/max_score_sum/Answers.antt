@@ -1,21 +1,20 @@
 -- `max_score_sum` meets its contract: the secondaries' list bounds are added from the first on, then the leader's before them.
-use Prim.Native.Nat.{ℕ, ◌-◌, ◌≤◌, ◌<◌}
+use Prim.Native.Nat.{ℕ, ◌≤◌, ◌<◌}
 use native.Mathlib.Omega.{arith}
 use lib.Ieee.{of_bits}
 use lib.ListN.{get_or, length}
-use borrow.Author.Rules.{rules}
 use Rattle.ordering.proofs.Places.{all_first}
 use Rattle.term_scorer.specs.Inner.Weights.{TopRead}
-use Rattle.block_wand_intersection.proofs.Beginning.{Adding, added, adding, adds}
+use Rattle.block_wand_intersection.proofs.Beginning.{added, adding, adds}
 use Rattle.block_wand_intersection.proofs.begin.max_score_sum.Goals as goal
 use Rattle.block_wand_intersection.proofs.begin.max_score_sum.Goals.{Start}
 
 long : (a : Start) → a.args.n ≤ length a.args.order.now
-long a = omega (arith, a.requires.1, a.requires.2)
+long a = omega (arith, a.requires.1, a.told-order)
 
 -- a slot in the row whose list bound can be read
 read : (a : Start) → (i : ℕ) → i < a.args.n → TopRead a.args.lists.now (get_or a.args.order.now i 0)
-read a i h = all_first (TopRead a.args.lists.now) a.args.order.now a.args.n i 0 h (long a) a.requires.3
+read a i h = all_first (TopRead a.args.lists.now) a.args.order.now a.args.n i 0 h (long a) a.requires.2
 
 pub loop-i-init : goal.loop-i-init
 unfolding of_bits

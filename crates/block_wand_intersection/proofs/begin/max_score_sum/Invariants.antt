@@ -1,10 +1,6 @@
 -- `max_score_sum` meets its contract: the secondaries' list bounds are added from the first on, then the leader's before them.
-use Prim.Native.Nat.{◌-◌}
 use Rattle.block_wand_intersection.proofs.Beginning.{Adding}
 use Rattle.block_wand_intersection.proofs.begin.max_score_sum.Given as goal
 
 abbrev pub invariant-loop-i : goal.invariant-loop-i
 invariant-loop-i l = Adding l.lists l.n l.order l.i l.sum
-
-abbrev pub decreases-loop-i : goal.decreases-loop-i
-decreases-loop-i l = l.n - l.i

@@ -1,6 +1,5 @@
 -- `scan::stride` meets its contract: a turn of the hunt, or a walk, by the phase.
 use mathlib.Core.Path.{refl, sym, ◌∙◌}
-use borrow.Author.Rules.{rules}
 use Rattle.term_scorer.specs.Inner.Slots.{held}
 use Rattle.block_wand_single.proofs.Going.{hunt-strides, is-hunt}
 use Rattle.block_wand_single.proofs.scan.stride.Goals as goal
@@ -11,20 +10,20 @@ walk-requires c = (
     similarity = c.args.leg.similarity;
     norms = c.args.norms.now;
     floats = c.args.floats.now;
-    tables = record { walking = sym c.on_walk.ensures ∙ c.if-on_walk.true; row_is = refl; stands = c.requires.0 };
+    tables = record { walking = sym c.walks.ensures ∙ c.if-walks.true; row_is = refl; stands = c.requires.0 };
   },
   c.requires.2,
 )
 
-pub returns-then-on_walk : goal.returns-then-on_walk
-returns-then-on_walk c =
+pub returns-then-walks : goal.returns-then-walks
+returns-then-walks c =
     c.walk.ensures.steps c.args.leg.similarity c.args.norms.now c.args.floats.now
-    (record { walking = sym c.on_walk.ensures ∙ c.if-on_walk.true; row_is = refl; stands = c.requires.0 })
+    (record { walking = sym c.walks.ensures ∙ c.if-walks.true; row_is = refl; stands = c.requires.0 })
 
 pub hunt-single-requires : goal.hunt-single-requires
 hunt-single-requires c =
-    (c.requires.0, is-hunt _ (sym c.on_walk.ensures ∙ c.if-on_walk.false) c.requires.1)
+    (c.requires.0, is-hunt _ (sym c.walks.ensures ∙ c.if-walks.false) c.requires.1)
 
 pub returns : goal.returns
 returns c =
-    hunt-strides {lists = c.args.lists.now} {norms = c.args.norms.now} {h = held c.args.places.now c.args.blocks.now} {h' = held c.hunt-single.new.places c.hunt-single.new.blocks} {floats = c.hunt-single.new.floats} (is-hunt _ (sym c.on_walk.ensures ∙ c.if-on_walk.false) c.requires.1) c.requires.2 c.hunt-single.ensures
+    rw c.new.ensures (hunt-strides {lists = c.args.lists.now} {norms = c.args.norms.now} {h = held c.args.places.now c.args.blocks.now} {h' = held c.hunt-single.new.places c.hunt-single.new.blocks} {floats = c.hunt-single.new.floats} (is-hunt _ (sym c.walks.ensures ∙ c.if-walks.false) c.requires.1) c.requires.2 c.hunt-single.ensures)

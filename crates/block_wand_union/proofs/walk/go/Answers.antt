@@ -2,16 +2,14 @@
 use mathlib.Core.Bool.{false}
 use mathlib.Core.List.{List}
 use mathlib.Core.Path.{sym, ◌∙◌, ◌≡◌}
-use Prim.Native.Nat.{ℕ, ◌-◌, ◌<◌}
+use Prim.Native.Nat.{ℕ, ◌<◌}
 use native.Mathlib.Omega.{arith}
 use lib.Ieee.{Float}
-use borrow.Author.Rules.{rules}
 use Rattle.route.specs.Union.{is_over}
 use Rattle.route.proofs.Cases.{lt_of_ne}
 use Rattle.term_scorer.specs.Inner.Slots.{held, Held}
 use Rattle.union_turn.specs.Inner.Turns.{stage_of}
-use Rattle.union_turn.specs.Inner.Runs.{place_of}
-use Rattle.block_wand_union.proofs.Runs.{OnWay, begun, not-false, not-true, over, paused, quiet-turn, reports, stands_on}
+use Rattle.block_wand_union.proofs.Runs.{begun, over, paused, quiet-turn, reports, stands_on}
 use Rattle.block_wand_union.proofs.walk.go.Goals as goal
 use Rattle.block_wand_union.proofs.walk.go.Goals.{After-turn-step, Else-taken-leg, In-loop-leg}
 
@@ -38,7 +36,7 @@ loop-leg-init c =
 
 pub returns-then-taken-leg : goal.returns-then-taken-leg
 returns-then-taken-leg c =
-    rw c.stopped.ensures (c.loop-leg.invariant.stands, paused c.loop-leg.invariant (on (goal.at.returns-then-taken-leg c).In-loop-leg) c.if-taken-leg.true)
+    rw c.new.ensures (c.loop-leg.invariant.stands, paused c.loop-leg.invariant (on (goal.at.returns-then-taken-leg c).In-loop-leg) c.if-taken-leg.true)
 
 pub turn-step-requires : goal.turn-step-requires
 turn-step-requires c =
@@ -49,19 +47,19 @@ pub overflow_add-taken : goal.overflow_add-taken
 overflow_add-taken c =
     omega (arith, room (goal.at.overflow_add-taken c).Else-taken-leg, c.struct_known-1.given)
 
-pub returns-then-step : goal.returns-then-step
-returns-then-step c =
+pub returns-in-Some : goal.returns-in-Some
+returns-in-Some c =
     let S = c.loop-leg.invariant in
-    rw c.stopped-then-step.ensures (stands_on S (on (goal.at.returns-then-step c).In-loop-leg) (room (goal.at.returns-then-step c).Else-taken-leg) {h' = left (goal.at.returns-then-step c).After-turn-step} {order' = order' (goal.at.returns-then-step c).After-turn-step} {floats' = floats' (goal.at.returns-then-step c).After-turn-step} c.turn-step.ensures, reports S (on (goal.at.returns-then-step c).In-loop-leg) (room (goal.at.returns-then-step c).Else-taken-leg) {h' = left (goal.at.returns-then-step c).After-turn-step} {order' = order' (goal.at.returns-then-step c).After-turn-step} {floats' = floats' (goal.at.returns-then-step c).After-turn-step} c.turn-step.ensures c.if-step.true)
+    rw c.new-in-Some.ensures (stands_on S (on (goal.at.returns-in-Some c).In-loop-leg) (room (goal.at.returns-in-Some c).Else-taken-leg) {h' = left (goal.at.returns-in-Some c).After-turn-step} {order' = order' (goal.at.returns-in-Some c).After-turn-step} {floats' = floats' (goal.at.returns-in-Some c).After-turn-step} c.turn-step.ensures, reports S (on (goal.at.returns-in-Some c).In-loop-leg) (room (goal.at.returns-in-Some c).Else-taken-leg) {h' = left (goal.at.returns-in-Some c).After-turn-step} {order' = order' (goal.at.returns-in-Some c).After-turn-step} {floats' = floats' (goal.at.returns-in-Some c).After-turn-step} c.turn-step.ensures c.in-Some.is)
 
 pub loop-leg-smaller : goal.loop-leg-smaller
 loop-leg-smaller c = omega (arith, room (goal.at.loop-leg-smaller c).Else-taken-leg)
 
 pub loop-leg-preserved : goal.loop-leg-preserved
 loop-leg-preserved c =
-    quiet-turn c.loop-leg.invariant (on (goal.at.loop-leg-preserved c).In-loop-leg) (room (goal.at.loop-leg-preserved c).Else-taken-leg) {h' = left (goal.at.loop-leg-preserved c).After-turn-step} {order' = order' (goal.at.loop-leg-preserved c).After-turn-step} {floats' = floats' (goal.at.loop-leg-preserved c).After-turn-step} c.turn-step.ensures c.if-step.false
+    quiet-turn c.loop-leg.invariant (on (goal.at.loop-leg-preserved c).In-loop-leg) (room (goal.at.loop-leg-preserved c).Else-taken-leg) {h' = left (goal.at.loop-leg-preserved c).After-turn-step} {order' = order' (goal.at.loop-leg-preserved c).After-turn-step} {floats' = floats' (goal.at.loop-leg-preserved c).After-turn-step} c.turn-step.ensures c.in_default.is
 
 pub returns : goal.returns
 returns c =
     let S = c.loop-leg.invariant in
-    rw c.stopped-2.ensures (S.stands, over S (sym c.is_over.ensures ∙ c.loop-leg-test.false))
+    rw c.new-2.ensures (S.stands, over S (sym c.is_over.ensures ∙ c.loop-leg-test.false))

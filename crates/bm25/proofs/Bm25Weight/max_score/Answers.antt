@@ -1,5 +1,4 @@
 -- `Bm25Weight::max_score` meets its contract: it is the score of the definition's pair.
-use borrow.Author.Rules.{rules}
 use Rattle.bm25.specs.Inner.Bound.{list_bound_in}
 use Rattle.bm25.proofs.Bm25Weight.max_score.Goals as goal
 

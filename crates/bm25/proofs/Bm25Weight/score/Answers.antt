@@ -1,6 +1,5 @@
 -- `Bm25Weight::score` meets its contract: the score at the cached norm, as the scoring has it.
 use mathlib.Core.Path.{ap, ◌∙◌}
-use borrow.Author.Rules.{rules}
 use Rattle.bm25.specs.Score.{score_at}
 use Rattle.bm25.specs.Scoring.{scored}
 use Rattle.bm25.specs.Inner.Weight.{score_in}

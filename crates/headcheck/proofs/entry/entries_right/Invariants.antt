@@ -7,6 +7,3 @@ use Rattle.headcheck.proofs.entry.entries_right.Given as goal
 
 abbrev pub invariant-loop-l : goal.invariant-loop-l
 invariant-loop-l l = (l.l ≤ l.lists) × (l.right ≡ every l.l (entry_right l.file))
-
-abbrev pub decreases-loop-l : goal.decreases-loop-l
-decreases-loop-l l = l.lists - l.l

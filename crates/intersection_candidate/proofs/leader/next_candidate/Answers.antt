@@ -1,11 +1,6 @@
 -- `next_candidate` meets its contract: each place of the leader's block is left out, or its posting is the first candidate.
 use mathlib.Core.Path.{refl}
-use Prim.Native.Nat.{ℕ, ◌-◌}
-use lib.Ieee.{Float}
-use borrow.Author.Rules.{rules}
-use Rattle.route.specs.Postings.{Postings}
-use Rattle.intersection_candidate.specs.Inner.Candidates.{BlockRows}
-use Rattle.intersection_candidate.proofs.Finding.{Finding, begun, block-ends, ends, hits, list-ends, skips, window-ends}
+use Rattle.intersection_candidate.proofs.Finding.{begun, block-ends, ends, hits, list-ends, skips, window-ends}
 use Rattle.intersection_candidate.proofs.leader.next_candidate.Goals as goal
 
 pub loop-i-init : goal.loop-i-init

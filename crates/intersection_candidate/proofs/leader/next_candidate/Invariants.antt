@@ -1,5 +1,5 @@
 -- `next_candidate` meets its contract: each place of the leader's block is left out, or its posting is the first candidate.
-use Prim.Native.Nat.{ℕ, ◌-◌}
+use Prim.Native.Nat.{ℕ}
 use lib.Ieee.{Float}
 use Rattle.route.specs.Postings.{Postings}
 use Rattle.intersection_candidate.specs.Inner.Candidates.{BlockRows}
@@ -10,6 +10,3 @@ use Rattle.intersection_candidate.proofs.leader.next_candidate.Given as goal
 abbrev pub invariant-loop-i : goal.invariant-loop-i
 invariant-loop-i l =
     (p : Postings Float) (b : ℕ) → BlockRows p b l.docs l.scores → Finding p b (record { next = l.initial.i; window_end = l.window_end; score_threshold = l.score_threshold }) l.i
-
-abbrev pub decreases-loop-i : goal.decreases-loop-i
-decreases-loop-i l = 128 - l.i

@@ -1,12 +1,8 @@
 -- `gather` meets its contract: each turn takes one skip reader on, and adds its block's end and bound to those before.
-use Prim.Native.Nat.{◌-◌}
 use lib.Ieee.{of_bits}
-use borrow.Author.Rules.{rules}
-use Rattle.term_scorer.specs.Inner.Slots.{held}
-use Rattle.intersection_order.specs.Inner.Scorers.{query}
 use Rattle.term_scorer.proofs.Slots.{standing-in}
 use Rattle.intersection_order.proofs.Seats.{last_fits, slot_small}
-use Rattle.intersection_window.proofs.Gathering.{Gathering, begun, ended, goes_on, kept_there, runs-out, seated-there}
+use Rattle.intersection_window.proofs.Gathering.{begun, ended, goes_on, kept_there, runs-out, seated-there}
 use Rattle.intersection_window.proofs.window.gather.Goals as goal
 
 pub loop-i-init : goal.loop-i-init
@@ -51,7 +47,7 @@ block_max-bound-requires c =
     let G = c.loop-i.invariant in
     let hi = c.loop-i-test.true in
     let hq = O.below _ hi in
-    (slot_small O hi, O.norms-are, (seated-there _ _ _ _ O G hi c.shallow_seek.ensures).slot _ hq, O.weighed _ hq, kept_there _ _ _ _ O G hi c.shallow_seek.ensures _ hq, G.ready.long)
+    (slot_small O hi, O.norms-are, (seated-there _ _ _ _ O G hi c.shallow_seek.ensures).slot _ hq, O.weighed _ hq, kept_there _ _ _ _ O G hi c.shallow_seek.ensures _ hq)
 
 pub loop-i-preserved : goal.loop-i-preserved
 loop-i-preserved c =
@@ -59,7 +55,7 @@ loop-i-preserved c =
     let G = c.loop-i.invariant in
     let hi = c.loop-i-test.true in
     let hq = O.below _ hi in
-    goes_on _ _ _ _ O G hi c.shallow_seek.ensures c.has_remaining_docs.ensures c.if-not-has_remaining_docs.false c.last_doc_in_block.ensures c.least-window_end.ensures {places₂ = c.block_max-bound.new.places} {bounds₂ = c.block_max-bound.new.bounds} c.block_max-bound.ensures
+    goes_on _ _ _ _ O G hi c.shallow_seek.ensures c.has_remaining_docs.ensures c.if-not-has_remaining_docs.false c.last_doc_in_block.ensures c.min-window_end.ensures {places₂ = c.block_max-bound.new.places} {bounds₂ = c.block_max-bound.new.bounds} c.block_max-bound.ensures
 
 pub returns : goal.returns
 returns c = ended _ _ _ _ c.requires.0 c.loop-i.invariant c.loop-i-test.false

@@ -4,6 +4,3 @@ use Rattle.intersection_window.proofs.window.sum_rests.Given as goal
 
 abbrev pub invariant-loop-i : goal.invariant-loop-i
 invariant-loop-i l = Summing l.n l.order l.initial.floats l.i l.running l.floats
-
-abbrev pub decreases-loop-i : goal.decreases-loop-i
-decreases-loop-i l = l.i

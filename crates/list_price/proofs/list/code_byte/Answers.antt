@@ -1,5 +1,4 @@
 -- `list::code_byte` meets its contract: the code is a byte by its type.
-use native.Mathlib.Omega.{arith}
 use borrow.Author.Rules.{rules}
 use Rattle.list_price.proofs.list.code_byte.Goals as goal
 

@@ -1,6 +1,5 @@
 -- `list::load_block` meets its contract: documents are tested before frequencies, and right ones are copied.
 use Rattle.list_price.proofs.Loads.{docs-refused, freqs-refused, none-refused}
-use borrow.Author.Rules.{rules}
 use Rattle.list_price.proofs.list.load_block.Goals as goal
 
 pub returns-then-not-docs_right : goal.returns-then-not-docs_right

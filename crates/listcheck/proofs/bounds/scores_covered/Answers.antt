@@ -1,5 +1,4 @@
 -- `bounds::scores_covered` meets its contract: the scores are the list's.
-use borrow.Author.Rules.{rules}
 use Rattle.notefile.specs.Inner.Reads.{docs_of, freqs_of}
 use Rattle.listcheck.proofs.Covers.{scores-are}
 use Rattle.listcheck.proofs.bounds.scores_covered.Goals as goal

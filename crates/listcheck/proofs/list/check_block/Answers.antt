@@ -1,27 +1,33 @@
 -- `list::check_block` meets its contract: where nothing was found before, the bounds decide.
-use mathlib.Core.Path.{◌≡◌, refl}
+use mathlib.Core.Path.{◌≡◌, refl, sym, ap, ◌∙◌}
 use mathlib.Core.Bool.{true, false}
 use Prim.Native.Nat.{ℕ}
 use native.Mathlib.Omega.{arith}
-use borrow.Author.Rules.{rules}
 use borrow.Author.Tests.{leb-true}
 use Rattle.notefile.specs.Conditions.{block_docs_right, block_freqs_right, bounds_right}
 use Rattle.notefile.specs.Inner.Reads.{block_refusal}
+use Rattle.std.proofs.lemmas.Result.{err_from_is_err_and}
+use Rattle.outcome.specs.Refusals.{number_of, refusal_number}
+use Rattle.outcome.proofs.ByNumber.{no-refusal}
 use Rattle.listcheck.proofs.Covers.{narrow_exact, docs-below}
 use Rattle.listcheck.proofs.Judged.{refused-before, full-bounds, bounds-wrong, all_right}
 use Rattle.listcheck.proofs.list.check_block.Goals as goal
 use Rattle.listcheck.proofs.list.check_block.Goals.{After-block_covered}
 
-pub returns-then-found-ne0 : goal.returns-then-found-ne0
-returns-then-found-ne0 c =
+pub returns-in_err-found : goal.returns-in_err-found
+returns-in_err-found c =
     let s = c.args.file.now in
     let x = c.args.x in
     let b = c.args.b in
-    refused-before (block_docs_right s x b) (block_freqs_right s x b) (bounds_right s x b) c.requires.3.same c.if-found-ne0.true
+    let p = err_from_is_err_and c.from_residual.result c.from_residual.ensures.1 in
+    let r = c.in_err-found.field-0.0 in
+    let e : refusal_number c.args.found ≡ number_of r = ap refusal_number c.in_err-found.was in
+    rw (p.1, p.2)
+    (sym e ∙ refused-before (block_docs_right s x b) (block_freqs_right s x b) (bounds_right s x b) c.requires.3.same (λ z. (no-refusal r).0 (sym e ∙ z)))
 
 pub block_covered-requires : goal.block_covered-requires
 block_covered-requires c =
-    let none = c.if-found-ne0.false in
+    let none = ap refusal_number c.in_ok-found.was in
     let R = c.requires.3 in
     (docs-below c.requires.1 (R.docs-read none) c.requires.0.limit_is, λ s. narrow_exact c.requires.1 c.args.e c.requires.2 (R.freqs-read none) refl (omega (arith, leb-true)))
 
@@ -34,7 +40,7 @@ judged c =
     let s = c.args.file.now in
     let x = c.args.x in
     let b = c.args.b in
-    let none = c.if-found-ne0.false in
+    let none = ap refusal_number c.in_ok-found.was in
     let g = c.requires.0 in
     let D = c.requires.3.docs-read none in
     let F = c.requires.3.freqs-read none in

@@ -1,10 +1,10 @@
 -- `list::check_blocks` meets its contract: each turn joins one block's refusal to those before it.
-use mathlib.Core.Path.{refl}
-use Prim.Native.Nat.{◌-◌}
+use mathlib.Core.Path.{◌≡◌, refl, ◌∙◌}
 use native.Mathlib.Omega.{arith}
-use borrow.Author.Rules.{rules}
 use Rattle.notefile.proofs.FullBlocks.{docs-in, freqs-in, previous-same, previous-low, packed-in}
-use Rattle.listcheck.proofs.Judged.{Judging, judging-begun, all-judged, seven-found, one-judged}
+use Rattle.outcome.specs.Refusals.{refusal_number}
+use Rattle.outcome.proofs.ByNumber.{is-refusal, other_refusal}
+use Rattle.listcheck.proofs.Judged.{judging-begun, all-judged, seven-found, one-judged}
 use Rattle.listcheck.proofs.list.check_blocks.Goals as goal
 
 pub loop-b-init : goal.loop-b-init
@@ -27,10 +27,11 @@ check_packed-found-requires c =
       omega (arith, same, low, c.requires.0.limit_is, c.requires.0.few),
     )
 
-pub returns-then-found-eq7 : goal.returns-then-found-eq7
-returns-then-found-eq7 c =
+pub returns-then-eq : goal.returns-then-eq
+returns-then-eq c =
     let a = c.args in
-    seven-found a.file.now a.x c.loop-b.invariant c.loop-b-test.true c.check_packed-found.ensures.same c.if-found-eq7.true
+    let e : refusal_number c.check_packed-found.result ≡ 7 = is-refusal _ _ _ c.if-eq.ensures in
+    e ∙ seven-found a.file.now a.x c.loop-b.invariant c.loop-b-test.true c.check_packed-found.ensures.same e
 
 pub check_block-r-requires : goal.check_block-r-requires
 check_block-r-requires c =
@@ -48,13 +49,10 @@ overflow_add-at-in-loop-b c =
     let e = c.read_skip_entry-e in
     omega (arith, (freqs-in p e.result e.ensures).1)
 
-pub overflow_add-b : goal.overflow_add-b
-overflow_add-b c = omega (arith, c.loop-b-test.true, c.requires.1.skipped.parted.few)
-
 pub loop-b-preserved : goal.loop-b-preserved
 loop-b-preserved c =
     let e = c.read_skip_entry-e in
-    one-judged c.args.file.now c.args.x c.loop-b.invariant c.loop-b-test.true c.check_packed-found.ensures.same c.if-found-eq7.false c.check_block-r.ensures e.result e.ensures c.lower_of-lowest.ensures
+    one-judged c.args.file.now c.args.x c.loop-b.invariant c.loop-b-test.true c.check_packed-found.ensures.same (other_refusal _ _ _ c.if-eq.ensures) c.check_block-r.ensures e.result e.ensures c.lower_of-lowest.ensures
 
 pub returns : goal.returns
 returns c = let a = c.args in all-judged a.file.now a.x c.loop-b.invariant c.loop-b-test.false

@@ -1,6 +1,4 @@
 -- `list::check_packed` meets its contract: documents are tested before frequencies.
-use borrow.Author.Rules.{rules}
-use borrow.Author.Tests.{not-true, not-false}
 use Rattle.listcheck.proofs.Judged.{docs-refused, freqs-refused, freqs-fit, packed-right}
 use Rattle.listcheck.proofs.list.check_packed.Goals as goal
 

@@ -1,15 +1,15 @@
 -- `check::check_lists` meets its contract: it stops at the first list that is refused. The norms at hand are those of the average at hand.
 use mathlib.Core.Path.{◌≡◌, refl, sym, ap, ◌∙◌, subst}
-use Prim.Native.Nat.{◌-◌, ◌≤◌}
 use native.Mathlib.Omega.{arith}
-use lib.Ieee.{binary32, of_bits}
 use borrow.Author.Rules.{rules}
-use Rattle.bm25.specs.Inner.Weight.{NormsOf}
 use Rattle.bm25.proofs.Numbers.{average-number}
 use Rattle.notefile.specs.Conditions.{average_right}
 use Rattle.notefile.specs.Inner.Given.{Limits, Parted}
 use Rattle.notefile.specs.Inner.Order.{list_refusal, lists_refusal}
 use Rattle.notefile.proofs.Entries.{parted, limits}
+use Rattle.std.proofs.lemmas.Result.{err_from_is_err_and}
+use Rattle.outcome.specs.Refusals.{number_of, refusal_number}
+use Rattle.outcome.proofs.ByNumber.{no-refusal}
 use Rattle.notecheck.proofs.FileOrder.{list-refused, list-clear, documents-is}
 use Rattle.notecheck.proofs.check.check_lists.Goals as goal
 use Rattle.notecheck.proofs.check.check_lists.Goals.{After-read_part-x}
@@ -37,26 +37,31 @@ part-limits c =
 pub renew_tf_cache-requires : goal.renew_tf_cache-requires
 renew_tf_cache-requires c = (average-number c.read_part-x.result.average (part-limits (goal.at.renew_tf_cache-requires c).After-read_part-x).average, c.loop-l.invariant.1.1)
 
-pub check_list-r-requires : goal.check_list-r-requires
-check_list-r-requires c =
+pub check_list-requires : goal.check_list-requires
+check_list-requires c =
     let s = c.args.file.now in (
       subst (Parted s) (sym c.read_part-x.ensures) (parted s c.loop-l.l c.args.h.lists c.loop-l-test.true c.requires.exact),
-      part-limits (goal.at.check_list-r-requires c).After-read_part-x,
+      part-limits (goal.at.check_list-requires c).After-read_part-x,
       c.renew_tf_cache.ensures,
       documents-is s c.args.h c.requires.header.same,
       c.requires.header.documents,
       search rules,
     )
 
-pub returns-then-r-ne0 : goal.returns-then-r-ne0
-returns-then-r-ne0 c =
+pub returns-in_err-check_list : goal.returns-in_err-check_list
+returns-in_err-check_list c =
     let s = c.args.file.now in
-    list-refused s c.loop-l.l c.args.h.lists c.loop-l-test.true c.loop-l.invariant.1.0 (c.check_list-r.ensures ∙ ap (list_refusal s) c.read_part-x.ensures) c.if-r-ne0.true
+    let p = err_from_is_err_and c.from_residual.result c.from_residual.ensures.1 in
+    let r = c.in_err-check_list.field-0.0 in
+    let e : number_of r ≡ list_refusal s c.read_part-x.result = ap refusal_number (sym c.in_err-check_list.was) ∙ c.check_list.ensures in
+    rw (p.1, p.2)
+    (list-refused s c.loop-l.l c.args.h.lists c.loop-l-test.true c.loop-l.invariant.1.0 (e ∙ ap (list_refusal s) c.read_part-x.ensures) (no-refusal r).0)
 
 pub loop-l-preserved : goal.loop-l-preserved
 loop-l-preserved c =
     let s = c.args.file.now in
-    (omega arith, (list-clear s c.loop-l.l c.loop-l.invariant.1.0 (c.check_list-r.ensures ∙ ap (list_refusal s) c.read_part-x.ensures) c.if-r-ne0.false, c.renew_tf_cache.ensures))
+    let e : 0 ≡ list_refusal s c.read_part-x.result = ap refusal_number (sym c.in_ok-check_list.was) ∙ c.check_list.ensures in
+    (omega arith, (list-clear s c.loop-l.l c.loop-l.invariant.1.0 (e ∙ ap (list_refusal s) c.read_part-x.ensures) refl, c.renew_tf_cache.ensures))
 
 pub returns : goal.returns
 returns c =

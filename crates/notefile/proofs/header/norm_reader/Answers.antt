@@ -1,5 +1,4 @@
 -- `header::norm_reader` meets its contract: the kind decides.
-use borrow.Author.Rules.{rules}
 use Rattle.notefile.proofs.Headers.{from-data, constant}
 use Rattle.notefile.proofs.header.norm_reader.Goals as goal
 

@@ -1,5 +1,4 @@
 -- `header::read_average` meets its contract: the average is four whole bytes.
-use borrow.Author.Rules.{rules}
 use Rattle.codec.proofs.BitFields.{bits-lt}
 use Rattle.notefile.proofs.header.read_average.Goals as goal
 

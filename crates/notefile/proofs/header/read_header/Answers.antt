@@ -1,7 +1,6 @@
 -- `header::read_header` meets its contract: each field is cut out of the number in the first five bytes.
 use mathlib.Core.Path.{refl}
 use native.Mathlib.Nat.{div-one}
-use borrow.Author.Rules.{rules}
 use Rattle.notefile.specs.Inner.Structs.{header_of}
 use Rattle.notefile.proofs.Headers.{field}
 use Rattle.notefile.proofs.header.read_header.Goals as goal

@@ -3,7 +3,6 @@ use mathlib.Core.Path.{refl}
 use Prim.Native.Nat.{◌+◌, ◌*◌}
 use native.Mathlib.Omega.{arith}
 use native.Mathlib.Nat.{div-one}
-use borrow.Author.Rules.{rules}
 use Rattle.codec.proofs.BitFields.{bits-lt}
 use Rattle.notefile.specs.Parts.{skips_at, part_of}
 use Rattle.notefile.proofs.Headers.{field}

@@ -1,10 +1,6 @@
 -- `part::skips_at` meets its contract: each turn steps over one list's parts.
-use mathlib.Core.Path.{◌≡◌, ap, ◌∙◌}
-use mathlib.Core.Logic.{⊎_elim}
-use Prim.Native.Nat.{◌+◌, ◌-◌, ◌*◌, ◌≤◌}
+use mathlib.Core.Path.{ap, ◌∙◌}
 use native.Mathlib.Omega.{arith}
-use borrow.Author.Rules.{rules}
-use Rattle.notefile.specs.Parts.{skips_at}
 use Rattle.notefile.specs.declared.part.Part.{Part}
 use Rattle.notefile.proofs.Headers.{after-norms, no-norms}
 use Rattle.notefile.proofs.Entries.{next_place, part-short}
@@ -15,16 +11,8 @@ loop-l-init c =
     let s = c.args.file.now in
     elim c.if-h-eq0.branch [ goal.then-h-eq0 w ↦ (omega arith, w.at-is ∙ after-norms s c.args.h c.requires.0.same w.if-h-eq0.true, omega (arith, c.requires)) | goal.else-h-eq0 w ↦ (omega arith, w.at-is ∙ no-norms s c.args.h c.requires.0.same w.if-h-eq0.false, omega (arith, c.requires)) ]
 
-pub part_at-x-requires : goal.part_at-x-requires
-part_at-x-requires c = (omega (arith, c.requires), omega (arith, c.requires), c.loop-l.invariant.1, omega (arith, c.loop-l.invariant.2, c.requires))
-
 pub loop-l-preserved : goal.loop-l-preserved
 loop-l-preserved c =
     let s = c.args.file.now in
     let e = ap (λ (z : Part). z.end) c.part_at-x.ensures in
     (omega arith, e ∙ next_place s c.loop-l.l, omega (arith, e, part-short s c.loop-l.l, c.loop-l.invariant.1, c.loop-l.invariant.2))
-
-pub returns : goal.returns
-returns c =
-    let e : c.loop-l.l ≡ c.args.n = omega arith in
-    (c.loop-l.invariant.1 ∙ ap (skips_at c.args.file.now) e, omega (arith, c.loop-l.invariant.2))

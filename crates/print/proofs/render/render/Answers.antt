@@ -25,7 +25,7 @@ unfolding of_bits grid_f round
 put_ranking-requires c =
     let d =
     drawn c.args.file.now (λ i. (c.type_inv.file i).fits) c.lists_of-lists.result c.lists_of-lists.ensures.0 c.lists_of-lists.ensures.1 refl {old = lent} {new = left_by (goal.at.put_ranking-requires c).After-run-outcome} refl
-    c.run-outcome.ensures c.number_of-number.ensures c.count_of-count.ensures in
+    c.run-outcome.ensures c.number.ensures c.count.ensures in
     record { in_bounds = search rules; count_bound = d.fits; ready = d.ready }
 
 pub returns : goal.returns
@@ -33,5 +33,5 @@ unfolding of_bits grid_f round
 returns c =
     let d =
     drawn c.args.file.now (λ i. (c.type_inv.file i).fits) c.lists_of-lists.result c.lists_of-lists.ensures.0 c.lists_of-lists.ensures.1 refl {old = lent} {new = left_by (goal.at.returns c).After-run-outcome} refl
-    c.run-outcome.ensures c.number_of-number.ensures c.count_of-count.ensures in
+    c.run-outcome.ensures c.number.ensures c.count.ensures in
     whole c.args.file.now d.text-is c.put_ranking.ensures

@@ -8,10 +8,7 @@ use Rattle.print_text.proofs.lists.lists_of.Goals as goal
 pub returns-then-file-lt9 : goal.returns-then-file-lt9
 returns-then-file-lt9 c = let f = c.args.file.now in (search rules, λ e. absurd (omega (arith, long-enough f (header-right f e))))
 
-pub returns-then-h-lt16 : goal.returns-then-h-lt16
-returns-then-h-lt16 c = (search rules, λ e. lists-are _ c.read_header-h.ensures)
-
-pub returns-else-h-lt16 : goal.returns-else-h-lt16
-returns-else-h-lt16 c =
+pub returns : goal.returns
+returns c =
     let f = c.args.file.now in
-    (search rules, λ e. omega (arith, lists-are _ c.read_header-h.ensures, few-lists f (header-right f e)))
+    (omega arith, λ e. omega (arith, lists-are _ c.read_header.ensures, few-lists f (header-right f e)))

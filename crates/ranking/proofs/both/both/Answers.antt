@@ -1,5 +1,4 @@
 -- `both::both` meets its contract: each run has its own, and demand 3 follows from the two.
-use borrow.Author.Rules.{rules}
 use Rattle.reports.specs.Rows.{rows}
 use Rattle.request.specs.Request.{asked}
 use Rattle.ranking.proofs.Demand.{both_hold}

@@ -1,5 +1,4 @@
 -- `both::restart` meets its contract: by the rule's case.
-use borrow.Author.Rules.{rules}
 use Rattle.ranking.proofs.both.restart.Goals as goal
 
 pub returns-in-Script : goal.returns-in-Script

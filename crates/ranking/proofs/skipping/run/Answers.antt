@@ -1,8 +1,9 @@
 -- `skipping::run` meets its contract: refused with the first refusal's number, or the route's run of a request that is not.
-use borrow.Author.Rules.{rules}
+use mathlib.Core.Path.{sym, ap, ◌∙◌}
+use Rattle.outcome.specs.Refusals.{refusal_number}
 use Rattle.reports.specs.Rows.{rows}
 use Rattle.request.specs.Request.{Request, asked}
-use Rattle.ranking.proofs.Answering.{refused-run, let-in, let-run}
+use Rattle.ranking.proofs.Answering.{refused-run, let-run}
 use Rattle.ranking.proofs.skipping.run.Goals as goal
 use Rattle.ranking.proofs.skipping.run.Goals.{Start}
 
@@ -10,14 +11,13 @@ use Rattle.ranking.proofs.skipping.run.Goals.{Start}
 abbrev request : Start → Request
 request a = asked a.args.file.now a.args.query.now a.args.mode a.args.scoring a.args.rule a.args.script.now
 
-pub returns-then-number-ne0 : goal.returns-then-number-ne0
-returns-then-number-ne0 c =
-    refused-run (request (goal.at.returns-then-number-ne0 c).Start) (rows c.args.documents.now c.args.scores.now) c.refusal-number.ensures c.if-number-ne0.true
+pub returns-in-Err : goal.returns-in-Err
+returns-in-Err c =
+    refused-run (request (goal.at.returns-in-Err c).Start) (rows c.args.documents.now c.args.scores.now) c.in-Err.refusal c.in-Err.ensures
 
 pub answer-requires : goal.answer-requires
-answer-requires c =
-    let-in (request (goal.at.answer-requires c).Start) c.refusal-number.ensures c.if-number-ne0.false
+answer-requires c = sym c.check_request.ensures ∙ ap refusal_number c.in_default.is
 
 pub returns : goal.returns
 returns c =
-    let-run (request (goal.at.returns c).Start) (let-in (request (goal.at.returns c).Start) c.refusal-number.ensures c.if-number-ne0.false) {old = rows c.args.documents.now c.args.scores.now} {new = rows c.answer.new.documents c.answer.new.scores} c.answer.ensures
+    let-run (request (goal.at.returns c).Start) (sym c.check_request.ensures ∙ ap refusal_number c.in_default.is) {old = rows c.args.documents.now c.args.scores.now} {new = rows c.answer.new.documents c.answer.new.scores} c.answer.ensures

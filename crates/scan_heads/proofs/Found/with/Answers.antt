@@ -1,5 +1,4 @@
 -- `Found::with` meets its contract: the first score is the sum, and a later one is added.
-use borrow.Author.Rules.{rules}
 use borrow.Author.Tests.{eq-eqb, ne_eqb}
 use Rattle.scan_heads.proofs.Found.with.Goals as goal
 

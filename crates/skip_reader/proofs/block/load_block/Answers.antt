@@ -2,7 +2,6 @@
 use mathlib.Core.Path.{sym, ◌∙◌}
 use native.Mathlib.Nat.{le_refl}
 use native.Mathlib.Omega.{arith}
-use borrow.Author.Rules.{rules}
 use Rattle.skip_reader.proofs.Readers.{packed-info, tail-info, entry_here}
 use Rattle.skip_reader.proofs.Blocks.{right-here, tail-here, full-here, on-tail, loaded-is, empty-is}
 use Rattle.skip_reader.proofs.block.load_block.Goals as goal

@@ -6,9 +6,6 @@ use Rattle.skip_reader.proofs.skip.read_block_info.Goals as goal
 pub returns-then-remaining_docs-lt128 : goal.returns-then-remaining_docs-lt128
 returns-then-remaining_docs-lt128 c = tail-reader c.args.file.now c.args.x c.args.b c.requires.1 c.requires.2 c.requires.3 c.if-remaining_docs-lt128.true
 
-pub read_skip_entry-e-requires : goal.read_skip_entry-e-requires
-read_skip_entry-e-requires c = (c.requires.0.skipped, still_full c.args.x c.args.b (omega (arith, c.requires.3)))
-
 pub returns : goal.returns
 returns c =
     full-reader c.args.file.now c.args.x c.args.b c.requires.1 c.requires.2 c.requires.3 (still_full c.args.x c.args.b (omega (arith, c.requires.3))) c.read_skip_entry-e.result c.read_skip_entry-e.ensures

@@ -8,6 +8,3 @@ use Rattle.slot_pivot.proofs.pivot.scorer_to_seek.Given as goal
 abbrev pub invariant-loop-i : goal.invariant-loop-i
 invariant-loop-i l =
     (l.i < l.len) × ((places : List (List ℕ)) (blocks : List (List (List ℕ))) → Seeking (map (term_in l.lists places blocks) l.order) l.len l.at l.highest l.i)
-
-abbrev pub decreases-loop-i : goal.decreases-loop-i
-decreases-loop-i l = l.i

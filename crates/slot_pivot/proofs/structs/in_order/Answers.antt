@@ -1,11 +1,8 @@
 -- `structs::in_order` meets its contract: each turn reads the next slot's scorer off the tables.
-use mathlib.Core.List.{map}
 use mathlib.Core.Path.{refl, ◌∙◌, ◌≡◌}
-use Prim.Native.Nat.{◌-◌, ◌≤◌}
 use native.Mathlib.Omega.{arith}
-use lib.ListN.{get_or, length-set, take}
+use lib.ListN.{get_or, length-set}
 use borrow.Author.Rules.{rules}
-use Rattle.term_scorer.specs.Inner.Slots.{Sixteen}
 use Rattle.term_scorer.specs.Inner.Weights.{TopRead}
 use Rattle.ordering.proofs.Places.{all_first}
 use Rattle.ordering.specs.Inner.Rows.{Readable}
@@ -16,7 +13,7 @@ use Rattle.slot_pivot.proofs.structs.in_order.Goals as goal
 use Rattle.slot_pivot.proofs.structs.in_order.Goals.{In-loop-i}
 
 read : (c : In-loop-i) → Readable c.args.places.now (get_or c.args.order.now c.loop-i.i 0)
-read c = read_at c.requires.0 (reading c.requires.3 c.requires.1) c.loop-i.i (omega arith)
+read c = read_at c.requires.0 (reading c.requires.2 c.told-order) c.loop-i.i (omega arith)
 
 pub loop-i-init : goal.loop-i-init
 loop-i-init c = (omega arith, search rules, refl)
@@ -26,14 +23,14 @@ doc-doc-requires c = let R = read (goal.at.doc-doc-requires c).In-loop-i in (R.s
 
 pub max_score-requires : goal.max_score-requires
 max_score-requires c =
-    all_first (TopRead c.args.lists.now) c.args.order.now c.args.n c.loop-i.i 0 (omega arith) (omega (arith, c.requires.1)) c.requires.2
+    all_first (TopRead c.args.lists.now) c.args.order.now c.args.n c.loop-i.i 0 (omega arith) (omega (arith, c.told-order)) c.requires.1
 
 pub loop-i-preserved : goal.loop-i-preserved
 loop-i-preserved c =
     let q = get_or c.args.order.now c.loop-i.i 0 in (
       omega arith,
       length-set c.loop-i.out c.loop-i.i _ ∙ c.loop-i.invariant.1,
-      fills (term_in c.args.lists.now c.args.places.now c.args.blocks.now) c.args.order.now c.loop-i.out c.loop-i.i 0 (omega (arith, c.requires.1)) (omega (arith, c.loop-i.invariant.1)) c.loop-i.invariant.2
+      fills (term_in c.args.lists.now c.args.places.now c.args.blocks.now) c.args.order.now c.loop-i.out c.loop-i.i 0 (omega (arith, c.told-order)) (omega (arith, c.loop-i.invariant.1)) c.loop-i.invariant.2
           (scorer-is c.args.lists.now c.args.places.now c.args.blocks.now q c.doc-doc.ensures c.max_score.ensures),
     )
 

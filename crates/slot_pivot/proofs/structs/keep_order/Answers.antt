@@ -1,13 +1,8 @@
 -- `structs::keep_order` meets its contract: each turn writes the next scorer's slot.
-use mathlib.Core.List.{map}
-use mathlib.Core.Path.{refl, sym, ◌∙◌, ◌≡◌}
-use Prim.Native.Nat.{◌-◌, ◌≤◌}
+use mathlib.Core.Path.{refl, ◌≡◌}
 use native.Mathlib.Omega.{arith}
-use lib.ListN.{length-map, take}
-use borrow.Author.Rules.{rules}
 use Rattle.ordering.specs.Inner.Scorers.{no_scorer, slot_of}
 use Rattle.term_scorer.specs.Inner.Slots.{Sixteen}
-use Rattle.ordering.specs.Inner.Rows.{SameBehind}
 use Rattle.ordering.proofs.Rows.{fills, put-behind, untouched, row-long}
 use Rattle.slot_pivot.proofs.structs.keep_order.Goals as goal
 use Rattle.slot_pivot.proofs.structs.keep_order.Goals.{Start}
@@ -17,7 +12,7 @@ sixteen : (a : Start) → Sixteen a.args.scorers.scorers
 sixteen a = a.well_formed.0.1.1.0.1.0.1
 
 pub loop-i-init : goal.loop-i-init
-loop-i-init c = (omega arith, c.requires.1, refl, untouched)
+loop-i-init c = (omega arith, c.told-order, refl, untouched)
 
 pub loop-i-preserved : goal.loop-i-preserved
 loop-i-preserved c =

@@ -3,14 +3,10 @@ use mathlib.Core.Path.{ap}
 use native.Mathlib.Omega.{arith}
 use lib.Dec.{eqb}
 use lib.ListN.{get_or}
-use borrow.Author.Rules.{rules}
 use Rattle.skip_reader.specs.declared.skip.SkipReader.{SkipReader}
 use Rattle.slot_rows.specs.Inner.Rows.{postings_in}
-use Rattle.slot_rows.proofs.Rows.{previous-small, offset-is, previous-is}
+use Rattle.slot_rows.proofs.Rows.{offset-is, previous-is}
 use Rattle.slot_rows.proofs.place.postings_of.Goals as goal
-
-pub overflow_cast-previous : goal.overflow_cast-previous
-overflow_cast-previous c = omega (arith, previous-small c.args.file.now c.args.x c.args.place.now c.requires.1)
 
 pub on-skip_reader-requires : goal.on-skip_reader-requires
 on-skip_reader-requires c =

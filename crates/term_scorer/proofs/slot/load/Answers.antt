@@ -1,5 +1,4 @@
 -- `slot::load` meets its contract: the row of its slot moves, and the other slots stay.
-use borrow.Author.Rules.{rules}
 use Rattle.term_scorer.proofs.Slots.{moved-slot}
 use Rattle.term_scorer.proofs.slot.load.Goals as goal
 

@@ -1,5 +1,4 @@
 -- `slot::open` meets its contract: the part is kept, then the place opened.
-use borrow.Author.Rules.{rules}
 use Rattle.term_scorer.proofs.Slots.{opened}
 use Rattle.term_scorer.proofs.slot.open.Goals as goal
 

@@ -1,5 +1,4 @@
 -- `slot::seek_block` meets its contract: the row of its slot moves, and the other slots stay.
-use borrow.Author.Rules.{rules}
 use Rattle.route.specs.Cursor.{seek_block_in}
 use Rattle.term_scorer.specs.Inner.Slots.{cursor_at, list_at}
 use Rattle.term_scorer.proofs.Slots.{shallowed}

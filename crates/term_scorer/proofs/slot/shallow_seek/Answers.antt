@@ -1,5 +1,4 @@
 -- `slot::shallow_seek` meets its contract: within its block nothing moves, else it is `seek_block`.
-use borrow.Author.Rules.{rules}
 use Rattle.term_scorer.proofs.Slots.{stayed}
 use Rattle.term_scorer.proofs.slot.shallow_seek.Goals as goal
 

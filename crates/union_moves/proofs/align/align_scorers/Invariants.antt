@@ -10,6 +10,3 @@ use Rattle.union_moves.proofs.align.align_scorers.Given as goal
 abbrev pub invariant-loop-i : goal.invariant-loop-i
 invariant-loop-i l =
     (l.i ≤ l.before_pivot_len) × (l.order ≡ l.initial.order) × ((s : Scoring) → Seeking l.file l.lists l.pivot_doc s (held l.initial.places l.initial.blocks) (take l.n l.order) l.before_pivot_len l.i (held l.places l.blocks))
-
-abbrev pub decreases-loop-i : goal.decreases-loop-i
-decreases-loop-i l = l.i

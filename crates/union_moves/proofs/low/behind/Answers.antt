@@ -1,6 +1,5 @@
 -- `low::behind` meets its contract: its two branches are the definition's.
 use native.Mathlib.Omega.{arith}
-use borrow.Author.Rules.{rules}
 use borrow.Author.Tests.{eq-eqb, ne_eqb}
 use Rattle.union_moves.proofs.low.behind.Goals as goal
 

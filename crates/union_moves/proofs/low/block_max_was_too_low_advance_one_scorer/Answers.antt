@@ -6,7 +6,6 @@ use native.Mathlib.Omega.{arith}
 use lib.ListN.{drop, get_or, length, length-map, length-take, take}
 use lib.Seq.{get_or-take}
 use Rattle.arrays.specs.Every.{All}
-use Rattle.route.specs.Union.{behind}
 use Rattle.route.proofs.Union.Pivot.{behind-is}
 use Rattle.bm25.specs.declared.Scoring.TheVariants.{Unstepped}
 use Rattle.ordering.specs.Inner.Scorers.{slot_of}
@@ -37,16 +36,16 @@ abbrev terms-in : Start → List TermScorer
 terms-in a = map (term_in a.args.lists.now a.args.places.now a.args.blocks.now) a.args.order.now
 
 whole : (a : Start) → length (slots a) ≡ a.args.n
-whole a = omega (arith, length-take a.args.n a.args.order.now, a.requires.3)
+whole a = omega (arith, length-take a.args.n a.args.order.now, a.told-order)
 
 read : (a : Start) → All (Readable a.args.places.now) (slots a)
-read a = readables a.args.file.now a.args.lists.now Unstepped (now a) (slots a) (a.requires.4.stands Unstepped)
+read a = readables a.args.file.now a.args.lists.now Unstepped (now a) (slots a) (a.requires.3.stands Unstepped)
 
 -- the scorer to seek is one of the first
 at_in : (f : After-scorer_to_seek-at) → f.scorer_to_seek-at.result < f.args.pivot_len
 at_in f =
     seeks-inside (terms-in f.before.before.before.before.before.before) f.args.pivot_len f.scorer_to_seek-at.result (f.scorer_to_seek-at.ensures f.args.places.now f.args.blocks.now) f.requires.0
-    (omega (arith, length-map f.args.order.now (term_in f.args.lists.now f.args.places.now f.args.blocks.now), f.requires.3))
+    (omega (arith, length-map f.args.order.now (term_in f.args.lists.now f.args.places.now f.args.blocks.now), f.told-order))
 
 in-slots : (f : After-scorer_to_seek-at) → f.scorer_to_seek-at.result < length (slots f.before.before.before.before.before.before)
 in-slots f = omega (arith, at_in f, whole f.before.before.before.before.before.before)
@@ -57,8 +56,8 @@ here f = get_or-take f.args.n f.args.order.now f.scorer_to_seek-at.result 0 (ome
 stand-in : (f : After-scorer_to_seek-at) → (Stand f.args.file.now f.args.lists.now (now f.before.before.before.before.before.before) (term_at f.args.file.now f.args.lists.now Unstepped f.args.places.now (get_or f.args.order.now f.scorer_to_seek-at.result 0)))
 stand-in f =
     let term = term_at f.args.file.now f.args.lists.now Unstepped f.args.places.now in
-    all_first (λ q. Stand f.args.file.now f.args.lists.now (now f.before.before.before.before.before.before) (term q)) f.args.order.now f.args.n f.scorer_to_seek-at.result 0 (omega (arith, at_in f)) (omega (arith, f.requires.3))
-    (all-unmap (Stand f.args.file.now f.args.lists.now (now f.before.before.before.before.before.before)) term (slots f.before.before.before.before.before.before) (f.requires.4.stands Unstepped))
+    all_first (λ q. Stand f.args.file.now f.args.lists.now (now f.before.before.before.before.before.before) (term q)) f.args.order.now f.args.n f.scorer_to_seek-at.result 0 (omega (arith, at_in f)) (omega (arith, f.told-order))
+    (all-unmap (Stand f.args.file.now f.args.lists.now (now f.before.before.before.before.before.before)) term (slots f.before.before.before.before.before.before) (f.requires.3.stands Unstepped))
 
 target-low : (e : After-least_doc-target) → e.least_doc-target.result ≤ 2147483647
 target-low e =
@@ -68,7 +67,7 @@ target-low e =
 
 pub least_last_doc-doc_to_seek_after-requires : goal.least_last_doc-doc_to_seek_after-requires
 least_last_doc-doc_to_seek_after-requires c =
-    (omega arith, c.requires.3, first-of (LastRead c.args.places.now) c.args.n c.args.pivot_len c.args.order.now c.requires.1 (last-reads _ _ (now (goal.at.least_last_doc-doc_to_seek_after-requires c).Start) _ c.requires.4))
+    (omega arith, first-of (LastRead c.args.places.now) c.args.n c.args.pivot_len c.args.order.now c.requires.1 (last-reads _ _ (now (goal.at.least_last_doc-doc_to_seek_after-requires c).Start) _ c.requires.3))
 
 pub behind-requires : goal.behind-requires
 behind-requires c =
@@ -76,21 +75,21 @@ behind-requires c =
 
 pub least_doc-target-requires : goal.least_doc-target-requires
 least_doc-target-requires c =
-    (c.requires.1, c.requires.2, c.requires.3, read (goal.at.least_doc-target-requires c).Start)
+    (c.requires.1, c.requires.2, read (goal.at.least_doc-target-requires c).Start)
 
 pub scorer_to_seek-at-requires : goal.scorer_to_seek-at-requires
 scorer_to_seek-at-requires c =
-    (c.requires.0, omega arith, c.requires.3, first-of (TopRead c.args.lists.now) c.args.n c.args.pivot_len c.args.order.now c.requires.1 c.requires.5)
+    (c.requires.0, omega arith, first-of (TopRead c.args.lists.now) c.args.n c.args.pivot_len c.args.order.now c.requires.1 c.requires.4)
 
 pub offset_bounds-order-at : goal.offset_bounds-order-at
 offset_bounds-order-at c = omega (arith, at_in c)
 
 pub bounds-order-at : goal.bounds-order-at
-bounds-order-at c = omega (arith, at_in (goal.at.bounds-order-at c).After-scorer_to_seek-at, c.requires.3)
+bounds-order-at c = omega (arith, at_in (goal.at.bounds-order-at c).After-scorer_to_seek-at, c.told-order)
 
 pub doc-doc-requires : goal.doc-doc-requires
 doc-doc-requires c =
-    let R = all_first (Readable c.args.places.now) c.args.order.now c.args.n c.scorer_to_seek-at.result 0 (omega (arith, at_in (goal.at.doc-doc-requires c).After-scorer_to_seek-at)) (omega (arith, c.requires.3)) (read (goal.at.doc-doc-requires c).Start) in
+    let R = all_first (Readable c.args.places.now) c.args.order.now c.args.n c.scorer_to_seek-at.result 0 (omega (arith, at_in (goal.at.doc-doc-requires c).After-scorer_to_seek-at)) (omega (arith, c.told-order)) (read (goal.at.doc-doc-requires c).Start) in
     (R.slot-in, R.inside)
 
 pub seek-requires : goal.seek-requires
@@ -100,7 +99,7 @@ seek-requires c =
 
 pub in_order-scorers-requires : goal.in_order-scorers-requires
 in_order-scorers-requires c =
-    (c.requires.2, c.requires.3, c.requires.5, moved-readable _ _ Unstepped (slots (goal.at.in_order-scorers-requires c).Start) c.scorer_to_seek-at.result _ _ {h' = sought c} c.requires.4 (in-slots (goal.at.in_order-scorers-requires c).After-scorer_to_seek-at) _ (here (goal.at.in_order-scorers-requires c).After-scorer_to_seek-at) c.seek.ensures.moved)
+    (c.requires.2, c.requires.4, moved-readable _ _ Unstepped (slots (goal.at.in_order-scorers-requires c).Start) c.scorer_to_seek-at.result _ _ {h' = sought c} c.requires.3 (in-slots (goal.at.in_order-scorers-requires c).After-scorer_to_seek-at) _ (here (goal.at.in_order-scorers-requires c).After-scorer_to_seek-at) c.seek.ensures.moved)
 
 pub restored-moved-requires : goal.restored-moved-requires
 restored-moved-requires c =
@@ -109,7 +108,7 @@ restored-moved-requires c =
 
 pub keep_order-requires : goal.keep_order-requires
 keep_order-requires c =
-    (omega (arith, c.restored-moved.ensures.0, c.in_order-scorers.ensures.0), c.requires.3)
+    omega (arith, c.restored-moved.ensures.0, c.in_order-scorers.ensures.0)
 
 pub returns : goal.returns
 returns c =
@@ -118,8 +117,8 @@ returns c =
     let m : c.in_order-scorers.result.len ≡ c.args.n = c.in_order-scorers.ensures.0 in
     record {
       one = λ s T.
-          let L = c.requires.4.stands s in
-          one_on _ _ s (slots (goal.at.returns c).Start) c.scorer_to_seek-at.result _ _ {h' = sought (goal.at.returns c).After-seek} c.requires.4 (in-slots (goal.at.returns c).After-scorer_to_seek-at) _ (here (goal.at.returns c).After-scorer_to_seek-at) c.seek.ensures.moved c.args.pivot_len c.requires.0 (omega (arith, whole (goal.at.returns c).Start))
+          let L = c.requires.3.stands s in
+          one_on _ _ s (slots (goal.at.returns c).Start) c.scorer_to_seek-at.result _ _ {h' = sought (goal.at.returns c).After-seek} c.requires.3 (in-slots (goal.at.returns c).After-scorer_to_seek-at) _ (here (goal.at.returns c).After-scorer_to_seek-at) c.seek.ensures.moved c.args.pivot_len c.requires.0 (omega (arith, whole (goal.at.returns c).Start))
           (place_read c.args.file.now c.args.lists.now s (now (goal.at.returns c).Start) c.args.order.now c.requires.1 L T (c.scorer_to_seek-at.ensures c.args.places.now c.args.blocks.now))
           (least-read c.args.file.now c.args.lists.now s (now (goal.at.returns c).Start) c.args.order.now c.requires.1 L T (c.least_doc-target.ensures c.args.lists.now) c.behind.ensures c.least_last_doc-doc_to_seek_after.ensures)
           T c.in_order-scorers.ensures.1 (rw n at c.keep_order.ensures.are ∙ ap (map slot_of) (rw m at R.1.first.are));

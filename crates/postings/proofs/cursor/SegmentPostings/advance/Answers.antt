@@ -1,6 +1,5 @@
 -- `SegmentPostings::advance` meets its contract: the next place, or the first of the next block.
 use native.Mathlib.Omega.{arith}
-use borrow.Author.Rules.{rules}
 use Rattle.skip_reader.proofs.Readers.{stands_on}
 use Rattle.postings.proofs.Moves.{advanced-in, advanced-on}
 use Rattle.postings.proofs.cursor.SegmentPostings.advance.Goals as goal

@@ -1,5 +1,4 @@
 -- `SegmentPostings::doc` meets its contract: the decoded block has the route's document at the place.
-use borrow.Author.Rules.{rules}
 use Rattle.postings.proofs.Moves.{doc-here}
 use Rattle.postings.proofs.cursor.SegmentPostings.doc.Goals as goal
 

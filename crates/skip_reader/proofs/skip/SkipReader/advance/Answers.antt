@@ -1,7 +1,6 @@
 -- `SkipReader::advance` meets its contract: a full block's widths give the next one's place, and behind the tail nothing is left.
 use native.Mathlib.Omega.{arith}
 use native.Mathlib.Numerals.{add-one}
-use borrow.Author.Rules.{rules}
 use Rattle.skip_reader.proofs.Readers.{packed-info, tail-info, narrow, ends-inside, next_place, next-previous, next-left, left-full, behind-place, behind-previous, behind-left}
 use Rattle.skip_reader.proofs.skip.SkipReader.advance.Goals as goal
 
@@ -31,9 +30,3 @@ read_block_info-requires-in-VInt c =
     let s = c.args.file.now in let x = c.args.x in let r = c.args.self in
     let h = (tail-info s x r c.requires.1 c.in-VInt.is).0 in
     rw add-one (c.requires.0, behind-place s x r c.requires.1 h, behind-previous s x r c.requires.1 h, behind-left s x r c.requires.1 h)
-
-pub returns-in-BitPacked : goal.returns-in-BitPacked
-returns-in-BitPacked c = rw add-one at c.read_block_info.ensures
-
-pub returns-in-VInt : goal.returns-in-VInt
-returns-in-VInt c = rw add-one at c.read_block_info-in-VInt.ensures

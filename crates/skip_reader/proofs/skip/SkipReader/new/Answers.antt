@@ -4,6 +4,3 @@ use Rattle.skip_reader.proofs.skip.SkipReader.new.Goals as goal
 
 pub read_block_info-requires : goal.read_block_info-requires
 read_block_info-requires c = (c.requires, first-place c.args.file.now c.args.x, first-previous c.args.file.now c.args.x, first-left c.args.x)
-
-pub returns : goal.returns
-returns c = c.read_block_info.ensures

@@ -1,7 +1,6 @@
 -- `SkipReader::seek` meets its contract: each turn leaves one block that ends before the target.
-use Prim.Native.Nat.{◌-◌, ◌<◌}
 use native.Mathlib.Omega.{arith}
-use Rattle.skip_reader.proofs.Readers.{Seeking, begun, at_tail, found, goes_on, block-is}
+use Rattle.skip_reader.proofs.Readers.{Seeking, found, goes_on, block-is}
 use Rattle.skip_reader.proofs.skip.SkipReader.seek.Goals as goal
 use Rattle.skip_reader.proofs.skip.SkipReader.seek.Goals.{After-advance-reader}
 
@@ -11,13 +10,6 @@ gone-on : (c : After-advance-reader)
     c.args.self.block c.advance-reader.result
 gone-on c =
     goes_on c.args.file.now c.args.x c.args.target c.loop-reader.reader c.loop-reader.invariant.0 c.requires.0 c.loop-reader-test.true c.loop-reader.invariant.1 c.advance-reader.result c.advance-reader.ensures
-
-pub loop-reader-init : goal.loop-reader-init
-loop-reader-init c = (begun c.args.file.now c.args.x c.args.target c.args.self c.requires.1 c.requires.2, c.requires.3)
-
-pub advance-reader-requires : goal.advance-reader-requires
-advance-reader-requires c =
-    (c.requires.0.blocks, c.loop-reader.invariant.0.stands, c.loop-reader.invariant.0.low)
 
 pub returns-then-target-reader : goal.returns-then-target-reader
 returns-then-target-reader c =
@@ -29,7 +21,3 @@ loop-reader-smaller c =
 
 pub loop-reader-preserved : goal.loop-reader-preserved
 loop-reader-preserved c = (gone-on (goal.at.loop-reader-preserved c).After-advance-reader, c.if-target-reader.false)
-
-pub returns : goal.returns
-returns c =
-    at_tail c.args.file.now c.args.x c.args.target c.loop-reader.reader c.loop-reader.invariant.0 c.loop-reader-test.false

@@ -1,2 +1,0 @@
--- Laws of the numbers of a call.
-pub mod Numbers

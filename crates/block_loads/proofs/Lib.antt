@@ -1,2 +1,0 @@
--- Laws of a list's blocks as they are loaded.
-pub mod Padding

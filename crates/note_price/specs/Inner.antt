@@ -1,0 +1,2 @@
+-- What pricing leaves.
+pub mod Prices

@@ -1,0 +1,2 @@
+-- What the contracts of `note_price` cite.
+pub mod Inner
