@@ -1,4 +1,5 @@
-// Replays a sample of finds that the oracle has answered, through the C interface's function, and prints how often each number was returned.
+// Replays a sample of finds that the oracle has answered, through the C interface's function, and prints how often each number was
+// returned.
 #![tactic(auto)]
 
 mod finds;

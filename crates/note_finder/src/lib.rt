@@ -1,10 +1,10 @@
 // The note finder: the k best notes of a query, by falling score, then rising document.
 //
 // It stands on what `ranking` says, and on nothing of how a run goes, as its imports show. Of `ranking` the code takes `run` alone; beside
-// it stands `check_request`, whose contract is the table. Of a run the proofs take `RunIs`, the contract of `run`, and laws that follow from it
-// (the modules Demand and Counts of `ranking`). The other modules that they name hold the definitions in that contract and laws of those:
-// requests and refusals, rows, outcomes, the plain scan's matches. No crate in which a run is made, between `request` and `ranking`, is in
-// this crate's line of crates.txt.
+// it stands `check_request`, whose contract is the table. Of a run the proofs take `RunIs`, the contract of `run`, and laws that follow
+// from it (the modules Demand and Counts of `ranking`). The other modules that they name hold the definitions in that contract and laws of
+// those: requests and refusals, rows, outcomes, the plain scan's matches. No crate in which a run is made, between `request` and `ranking`,
+// is in this crate's line of crates.txt.
 #![tactic(auto)]
 
 ghost use Rattle.std.specs.Prelude.{◌≤◌};

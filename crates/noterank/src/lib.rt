@@ -31,7 +31,8 @@ pub fn noterank_check(file: &[u8]) -> u32
     refusal_number(check(file))
 }
 
-// Whether a walk, a mode, a scoring and a rule are among their numbers. What comes before one that is not, in the table's order, refuses first.
+// Whether a walk, a mode, a scoring and a rule are among their numbers. Where one is not, what comes before it in the table's order refuses
+// first.
 fn check_numbers(
     file: &[u8],
     query: &[u32],

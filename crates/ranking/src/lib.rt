@@ -14,7 +14,8 @@ use beginning::{Settings, begin};
 use driver::drive;
 use outcome::{Outcome, finish};
 
-// The run of a request that is not refused: from its first place to its end, or to a report for which no row is left. Its tables stand here.
+// The run of a request that is not refused: from its first place to its end, or to a report for which no row is left. Its tables stand
+// here.
 fn answer(
     file: &[u8],
     query: &[u32],
