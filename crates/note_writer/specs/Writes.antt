@@ -1,6 +1,5 @@
--- What the writer answers and leaves (02, order 1): "Contents that the reader would refuse get the reader's number .. Bytes past the file's end
--- stay. Success returns 0 and the length. Errors: 13, the output is too short; it comes last .. a refusal returns count 0 and leaves lent
--- memory alone".
+-- 02, order 1: "Contents that the reader would refuse get the reader's number .. Bytes past the file's end stay. Success returns 0 and the
+-- length. Errors: 13, the output is too short; it comes last .. a refusal returns count 0 and leaves lent memory alone".
 use Rattle.std.specs.Prelude.{◌≡◌, List, [], ◌∷◌, ◌++◌, ℕ, zero, suc, leb, length, drop, Result, Ok, Err}
 use Rattle.outcome.specs.Refusals.{refusal_number}
 use Rattle.outcome.specs.declared.refusal.Refusal.{Refusal}

@@ -1,8 +1,10 @@
 // The writer of note files: contents are priced, which tells their refusal or the lengths of the file's parts, and then written.
 #![tactic(auto)]
 
+ghost use Rattle.std.specs.Prelude.{◌≡◌};
+ghost use Rattle.outcome.specs.Refusals.{refusal_number};
 ghost use Rattle.contents.specs.Contents.{handed};
-ghost use Rattle.note_writer.specs.Writes.{WriteIs};
+ghost use Rattle.note_writer.specs.Writes.{WriteIs, length_of};
 
 use contents::{Contents, Head};
 use file_writer::write_file;
@@ -38,4 +40,24 @@ pub fn write(
     }
     write_file(c, p, &tops, out);
     Ok(p.total)
+}
+
+// The table's number of an answer: 0 where the file is written.
+pub fn number_of(answer: Result<usize, Refusal>) -> u32
+    ensures { result ≡ refusal_number answer }
+{
+    match answer {
+        Ok(_) => 0,
+        Err(refusal) => refusal.number(),
+    }
+}
+
+// The length of the file; 0 where there is none.
+pub fn length_of(answer: Result<usize, Refusal>) -> usize
+    ensures { result ≡ length_of answer }
+{
+    match answer {
+        Ok(length) => length,
+        Err(_) => 0,
+    }
 }

@@ -15,7 +15,7 @@ use arguments::{mode_at, rule_at, scoring_at, short};
 use bm25::Scoring;
 use contents::Head;
 use note_finder::find;
-use note_writer::write;
+use note_writer::{length_of, number_of, write};
 use notecheck::check::check;
 use outcome::Outcome;
 use outcome::refusal::{Refusal, refusal_number};
@@ -148,16 +148,9 @@ pub fn noterank_write(
         code,
         average,
     };
-    match write(h, norms, weights, counts, docs, freqs, out) {
-        Ok(size) => {
-            *length = short(size);
-            0
-        }
-        Err(refusal) => {
-            *length = 0;
-            refusal.number()
-        }
-    }
+    let answer = write(h, norms, weights, counts, docs, freqs, out);
+    *length = short(length_of(answer));
+    number_of(answer)
 }
 
 // The k best notes of a query; the header says what each argument is.

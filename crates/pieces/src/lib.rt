@@ -25,10 +25,12 @@ pub fn write_be(out: &mut [u8], at: usize, n: usize, v: u64)
     }
 }
 
-// All of a slice.
+// All of a slice. By a loop: for `copy_from_slice`, whose places the compiler cannot tell apart here, the archive would need `memmove`.
 pub fn copy_bytes(from: &[u8], out: &mut [u8], at: usize)
     requires { at + length from.now ≤ length out.old }
     ensures { Put out.old at from.now out.new }
 {
-    out[at..at + from.len()].copy_from_slice(from);
+    for i in 0..from.len() {
+        out[at + i] = from[i];
+    }
 }

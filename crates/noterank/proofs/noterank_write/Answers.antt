@@ -1,5 +1,6 @@
 -- `noterank_write` meets its contract: the writer's answer as a number and a length.
-use mathlib.Core.Path.{refl}
+use mathlib.Core.Path.{◌∙◌}
+use native.Mathlib.Omega.{arith}
 use Rattle.contents.specs.Contents.{Contents, handed}
 use Rattle.noterank.proofs.Writing.{file-short, wrote}
 use Rattle.noterank.proofs.noterank_write.Goals as goal
@@ -12,12 +13,9 @@ contents a =
 
 pub short-requires : goal.short-requires
 short-requires c =
-    file-short (contents (goal.at.short-requires c).Start) c.args.out.now c.in-Ok.ensures
+    let few = file-short (contents (goal.at.short-requires c).Start) c.args.out.now c.write-answer.ensures in
+    omega (arith, c.length_of.ensures, few)
 
-pub returns-in-Ok : goal.returns-in-Ok
-returns-in-Ok c =
-    wrote (contents (goal.at.returns-in-Ok c).Start) c.args.out.now c.in-Ok.ensures refl c.short.ensures
-
-pub returns-in-Err : goal.returns-in-Err
-returns-in-Err c =
-    wrote (contents (goal.at.returns-in-Err c).Start) c.args.out.now c.in-Err.ensures c.number.ensures refl
+pub returns : goal.returns
+returns c =
+    wrote (contents (goal.at.returns c).Start) c.args.out.now c.write-answer.ensures c.number_of.ensures (c.short.ensures ∙ c.length_of.ensures)
